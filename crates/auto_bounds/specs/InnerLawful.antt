@@ -3,8 +3,8 @@ use Rattle.std.proofs.Common.{◌≡◌, List, if◌then◌else◌, refl, ap, in
 use Rattle.std.specs.Prelude.{IsTrue}
 use Rattle.svc_values.specs.declared.answer.Answer.{Answer}
 use Rattle.request_bounds.specs.declared.rule.After.TheVariants as after
-use Rattle.request_bounds.specs.Replies.{ends_decided}
-use Rattle.request_bounds.specs.Rules.{auto_rules}
+use Rattle.request_bounds.specs.meaning.Replies.{ends_decided}
+use Rattle.request_bounds.specs.meaning.Rules.{auto_rules}
 use Rattle.request_bounds.specs.Law.{IsLawful}
 use Rattle.request_bounds.specs.InnerLawful.{static_lawful}
 

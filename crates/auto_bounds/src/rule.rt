@@ -1,5 +1,5 @@
 //! The rule.
-ghost use Rattle.request_bounds.specs.Rules.{auto_rules};
+ghost use Rattle.request_bounds.specs.meaning.Rules.{auto_rules};
 ghost use Rattle.auto_bounds.specs.InnerLawful.{auto_lawful};
 
 use request_bounds::{After, BoundRule, DynamicRule, StaticRule, Why};

@@ -1,13 +1,13 @@
 -- Going through the items of a call.
 use Rattle.std.proofs.Common.{◌≡◌, List, [], ◌∷◌, Bool, true, false, Result, Ok, Err, refl}
 use Rattle.json_form.specs.declared.fault.DocCode.TheVariants.{Rule}
-use Rattle.json_form.specs.Faults.{Fault, here}
+use Rattle.json_form.specs.meaning.Faults.{Fault, here}
 use Rattle.svc_values.specs.declared.statement.Statement.{Statement}
 use Rattle.svc_values.specs.declared.call.Call.{Call}
 use Rattle.svc_values.specs.declared.call.Call.TheVariants as call
 use Rattle.call_forms.specs.declared.item.Item.{Item}
 use Rattle.call_forms.specs.declared.item.Item.TheVariants as item
-use Rattle.call_forms.specs.Calls.{work_of}
+use Rattle.call_forms.specs.meaning.Calls.{work_of}
 
 -- what the items left make after these statements, and after a commit or not
 abbrev pub work_after : Bool → List Statement → List Item → Result Call Fault

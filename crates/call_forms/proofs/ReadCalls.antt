@@ -3,16 +3,16 @@ use Rattle.std.proofs.Common.{◌≡◌, ◌≤◌, ◌+◌, List, [], ◌∷◌
 use Rattle.std.proofs.lemmas.Bool.{le-leb}
 use Rattle.std.proofs.lemmas.List.{length_push}
 use Rattle.serde_json.specs.Data.{Data}
-use Rattle.json_form.specs.Arrays.{each_of, array_of}
+use Rattle.json_form.specs.meaning.Arrays.{each_of, array_of}
 use Rattle.json_form.specs.declared.hexadecimal.Digits.{Digits}
 use Rattle.svc_values.specs.declared.statement.Statement.{Statement}
 use Rattle.svc_values.specs.declared.call.Call.{Call}
 use Rattle.svc_values.specs.declared.call.Call.TheVariants as call
-use Rattle.svc_values.specs.Calls.{is_made, work_length}
+use Rattle.svc_values.specs.meaning.Calls.{is_made, work_length}
 use Rattle.call_forms.specs.declared.item.Item.{Item}
 use Rattle.call_forms.specs.declared.item.Item.TheVariants as item
-use Rattle.call_forms.specs.Items.{item_read}
-use Rattle.call_forms.specs.Calls.{work_of, call_of_items, call_of}
+use Rattle.call_forms.specs.meaning.Items.{item_read}
+use Rattle.call_forms.specs.meaning.Calls.{work_of, call_of_items, call_of}
 use Rattle.json_form.proofs.Offered.{after, ok_is, given, each_long, read_array, both_true}
 
 made_work : (statements : List Statement) (commit : Bool) → 1 ≤ work_length statements commit → work_length statements commit ≤ 8 → is_made (call.Work statements commit) ≡ true

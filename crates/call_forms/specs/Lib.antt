@@ -1,3 +1,1 @@
-pub mod Values
-pub mod Items
-pub mod Calls
+pub mod meaning

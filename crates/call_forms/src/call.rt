@@ -1,7 +1,7 @@
 //! Reader of calls: items, and the rule on which items make a call.
 ghost use Rattle.std.specs.Prelude.{◌≤◌, length, [], ◌∷◌};
 ghost use Rattle.json_form.specs.Faults.{Gives};
-ghost use Rattle.call_forms.specs.Calls.{call_of, call_of_items as call_of_items_def, work_of};
+ghost use Rattle.call_forms.specs.meaning.Calls.{call_of, call_of_items as call_of_items_def, work_of};
 
 use crate::item::Item;
 use crate::statement::ItemReader;
@@ -81,7 +81,7 @@ pub struct CallReader {
 impl Reader<Call> for CallReader {
     ghost reads = { λ s. call_of s.digits };
 
-    #[tactic(auto, unfolding(crate::specs::Calls::call_of))]
+    #[tactic(auto, unfolding(crate::specs::meaning::Calls::call_of))]
     fn read(&self, alloc: Global, value: Json) -> Result<Call, DocFault> {
         let limit = Count::Items.limit();
         let reader = ItemReader {

@@ -2,8 +2,8 @@
 ghost use Rattle.std.specs.Prelude.{◌≡◌};
 ghost use Rattle.serde_json.specs.View.{view};
 ghost use Rattle.json_form.specs.Faults.{Gives};
-ghost use Rattle.json_form.specs.Texts.{word_of};
-ghost use Rattle.call_forms.specs.Items.{insert_of, update_of, delete_of, get_of, select_of, count_of, sum_of, show_of, set_of, alter_of, alone_of, item_by as item_by_def, item_read, test_words, change_words, changed_by};
+ghost use Rattle.json_form.specs.meaning.Texts.{word_of};
+ghost use Rattle.call_forms.specs.meaning.Items.{insert_of, update_of, delete_of, get_of, select_of, count_of, sum_of, show_of, set_of, alter_of, alone_of, item_by as item_by_def, item_read, test_words, change_words, changed_by};
 
 use crate::item::{ChangeWord, Item, ItemWord};
 use crate::value::{LineReader, NameReader, OperandReader, ValueReader};
@@ -50,8 +50,8 @@ struct OperandsReader {
 }
 
 impl Reader<Operands> for OperandsReader {
-    ghost use Rattle.json_form.specs.Arrays.{array_of, each_of};
-    ghost use Rattle.call_forms.specs.Values.{operand_of};
+    ghost use Rattle.json_form.specs.meaning.Arrays.{array_of, each_of};
+    ghost use Rattle.call_forms.specs.meaning.Values.{operand_of};
 
     ghost reads = { λ s. array_of 1 8 (each_of (operand_of s.digits)) };
 
@@ -65,7 +65,7 @@ impl Reader<Operands> for OperandsReader {
     }
 }
 
-#[tactic(auto, unfolding(crate::specs::Items::insert_of), using(json_form::proofs::Offered::others_stay))]
+#[tactic(auto, unfolding(crate::specs::meaning::Items::insert_of), using(json_form::proofs::Offered::others_stay))]
 fn insert_from(alloc: Global, value: Json, digits: Digits) -> Result<Item, DocFault>
     ensures { Gives result (insert_of digits (view value)) }
 {
@@ -84,7 +84,7 @@ fn change_of(word: ChangeWord, operand: Operand) -> Change
     }
 }
 
-#[tactic(auto, unfolding(crate::specs::Items::update_of), using(json_form::proofs::Offered::others_stay))]
+#[tactic(auto, unfolding(crate::specs::meaning::Items::update_of), using(json_form::proofs::Offered::others_stay))]
 fn update_from(alloc: Global, value: Json, digits: Digits) -> Result<Item, DocFault>
     ensures { Gives result (update_of digits (view value)) }
 {
@@ -102,7 +102,7 @@ fn update_from(alloc: Global, value: Json, digits: Digits) -> Result<Item, DocFa
     }))
 }
 
-#[tactic(auto, unfolding(crate::specs::Items::delete_of), using(json_form::proofs::Offered::others_stay))]
+#[tactic(auto, unfolding(crate::specs::meaning::Items::delete_of), using(json_form::proofs::Offered::others_stay))]
 fn delete_from(alloc: Global, value: Json, digits: Digits) -> Result<Item, DocFault>
     ensures { Gives result (delete_of digits (view value)) }
 {
@@ -112,7 +112,7 @@ fn delete_from(alloc: Global, value: Json, digits: Digits) -> Result<Item, DocFa
     Ok(Item::Statement(Statement::Delete { table, key }))
 }
 
-#[tactic(auto, unfolding(crate::specs::Items::get_of), using(json_form::proofs::Offered::others_stay))]
+#[tactic(auto, unfolding(crate::specs::meaning::Items::get_of), using(json_form::proofs::Offered::others_stay))]
 fn get_from(alloc: Global, value: Json, digits: Digits) -> Result<Item, DocFault>
     ensures { Gives result (get_of digits (view value)) }
 {
@@ -122,7 +122,7 @@ fn get_from(alloc: Global, value: Json, digits: Digits) -> Result<Item, DocFault
     Ok(Item::Statement(Statement::Get { table, key }))
 }
 
-#[tactic(auto, unfolding(crate::specs::Items::select_of), using(json_form::proofs::Offered::others_stay))]
+#[tactic(auto, unfolding(crate::specs::meaning::Items::select_of), using(json_form::proofs::Offered::others_stay))]
 fn select_from(alloc: Global, value: Json, digits: Digits) -> Result<Item, DocFault>
     ensures { Gives result (select_of digits (view value)) }
 {
@@ -139,7 +139,7 @@ fn select_from(alloc: Global, value: Json, digits: Digits) -> Result<Item, DocFa
     }))
 }
 
-#[tactic(auto, unfolding(crate::specs::Items::count_of), using(json_form::proofs::Offered::others_stay))]
+#[tactic(auto, unfolding(crate::specs::meaning::Items::count_of), using(json_form::proofs::Offered::others_stay))]
 fn count_from(alloc: Global, value: Json) -> Result<Item, DocFault>
     ensures { Gives result (count_of (view value)) }
 {
@@ -148,7 +148,7 @@ fn count_from(alloc: Global, value: Json) -> Result<Item, DocFault>
     Ok(Item::Statement(Statement::Count { table }))
 }
 
-#[tactic(auto, unfolding(crate::specs::Items::sum_of), using(json_form::proofs::Offered::others_stay))]
+#[tactic(auto, unfolding(crate::specs::meaning::Items::sum_of), using(json_form::proofs::Offered::others_stay))]
 fn sum_from(alloc: Global, value: Json) -> Result<Item, DocFault>
     ensures { Gives result (sum_of (view value)) }
 {
@@ -158,7 +158,7 @@ fn sum_from(alloc: Global, value: Json) -> Result<Item, DocFault>
     Ok(Item::Statement(Statement::Sum { table, column }))
 }
 
-#[tactic(auto, unfolding(crate::specs::Items::show_of), using(json_form::proofs::Offered::others_stay))]
+#[tactic(auto, unfolding(crate::specs::meaning::Items::show_of), using(json_form::proofs::Offered::others_stay))]
 fn show_from(alloc: Global, value: Json, digits: Digits) -> Result<Item, DocFault>
     ensures { Gives result (show_of digits (view value)) }
 {
@@ -167,7 +167,7 @@ fn show_from(alloc: Global, value: Json, digits: Digits) -> Result<Item, DocFaul
     Ok(Item::Statement(Statement::Show { operand }))
 }
 
-#[tactic(auto, unfolding(crate::specs::Items::set_of), using(json_form::proofs::Offered::others_stay))]
+#[tactic(auto, unfolding(crate::specs::meaning::Items::set_of), using(json_form::proofs::Offered::others_stay))]
 fn set_from(alloc: Global, value: Json, digits: Digits) -> Result<Item, DocFault>
     ensures { Gives result (set_of digits (view value)) }
 {
@@ -177,7 +177,7 @@ fn set_from(alloc: Global, value: Json, digits: Digits) -> Result<Item, DocFault
     Ok(Item::Set { name, value })
 }
 
-#[tactic(auto, unfolding(crate::specs::Items::alter_of), using(json_form::proofs::Offered::others_stay))]
+#[tactic(auto, unfolding(crate::specs::meaning::Items::alter_of), using(json_form::proofs::Offered::others_stay))]
 fn alter_from(alloc: Global, value: Json) -> Result<Item, DocFault>
     ensures { Gives result (alter_of (view value)) }
 {
@@ -238,7 +238,7 @@ pub struct ItemReader {
 impl Reader<Item> for ItemReader {
     ghost reads = { λ s. item_read s.digits };
 
-    #[tactic(auto, unfolding(crate::specs::Items::item_read))]
+    #[tactic(auto, unfolding(crate::specs::meaning::Items::item_read))]
     fn read(&self, alloc: Global, value: Json) -> Result<Item, DocFault> {
         let word = head_from(alloc, &value, &WORDS)?;
         item_by(alloc, value, word, self.digits)

@@ -3,9 +3,9 @@ ghost use Rattle.std.specs.Prelude.{◌≡◌, string_bytes, IfOk, IfErr};
 ghost use Rattle.std.specs.Str.{bytes_eq};
 ghost use Rattle.serde_json.specs.View.{view, members_view};
 ghost use Rattle.json_form.specs.Faults.{Gives, GivesBy};
-ghost use Rattle.json_form.specs.Arrays.{is_key};
+ghost use Rattle.json_form.specs.meaning.Arrays.{is_key};
 ghost use Rattle.json_form.specs.declared.fault.DocFault.TheVariants.{NoMemory};
-ghost use Rattle.call_forms.specs.Values.{name_of, new_name, value_of, bytes_value, bytes_object, line_of, only_member as only_member_def, operand_named as operand_named_def, operand_of, draw_words};
+ghost use Rattle.call_forms.specs.meaning.Values.{name_of, new_name, value_of, bytes_value, bytes_object, line_of, only_member as only_member_def, operand_named as operand_named_def, operand_of, draw_words};
 
 use json_form::{
     Digits, DocCode, DocFault, Integer, Reader, Taken, object_with, octets_from, text_from, within,
@@ -20,7 +20,7 @@ pub struct NameReader;
 impl Reader<Name> for NameReader {
     ghost reads = { λ s. name_of };
 
-    #[tactic(auto, unfolding(crate::specs::Values::name_of))]
+    #[tactic(auto, unfolding(crate::specs::meaning::Values::name_of))]
     fn read(&self, alloc: Global, value: Json) -> Result<Name, DocFault> {
         let text = text_from(alloc, value)?;
         match Name::from_string(text) {
@@ -83,7 +83,7 @@ fn bytes_from(alloc: Global, value: Json, digits: Digits) -> Result<Value, DocFa
     }
 }
 
-#[tactic(auto, unfolding(crate::specs::Values::bytes_object))]
+#[tactic(auto, unfolding(crate::specs::meaning::Values::bytes_object))]
 fn bytes_member(alloc: Global, value: Json, digits: Digits) -> Result<Value, DocFault>
     ensures { Gives result (bytes_object digits (view value)) }
 {
@@ -101,7 +101,7 @@ pub struct ValueReader {
 impl Reader<Value> for ValueReader {
     ghost reads = { λ s. value_of s.digits };
 
-    #[tactic(auto, unfolding(crate::specs::Values::value_of))]
+    #[tactic(auto, unfolding(crate::specs::meaning::Values::value_of))]
     fn read(&self, alloc: Global, value: Json) -> Result<Value, DocFault> {
         if value.is_string() {
             return Ok(Value::Text(LineReader.read(alloc, value)?));
@@ -160,7 +160,7 @@ fn operand_named(
 struct DrawReader;
 
 impl Reader<DrawKind> for DrawReader {
-    ghost use Rattle.json_form.specs.Texts.{word_of};
+    ghost use Rattle.json_form.specs.meaning.Texts.{word_of};
 
     ghost reads = { λ s. word_of draw_words };
 
@@ -187,7 +187,7 @@ pub struct OperandReader {
 impl Reader<Operand> for OperandReader {
     ghost reads = { λ s. operand_of s.digits };
 
-    #[tactic(auto, unfolding(crate::specs::Values::operand_of))]
+    #[tactic(auto, unfolding(crate::specs::meaning::Values::operand_of))]
     fn read(&self, alloc: Global, value: Json) -> Result<Operand, DocFault> {
         let digits = self.digits;
         match value {

@@ -3,7 +3,7 @@ use Rattle.std.proofs.Common.{◌≡◌, Bool, true, false, List, [], ◌∷◌,
 use Rattle.std.specs.Prelude.{fold}
 use Rattle.std.specs.List.{list_any}
 use Rattle.call_recorder.specs.declared.recorded.Recorded.{Recorded}
-use Rattle.call_recorder.specs.Recording.{Recording}
+use Rattle.call_recorder.specs.meaning.Recording.{Recording}
 use Rattle.call_recorder.specs.History.{Did, Noted, Purged, after_one, is_purge, noted_since_purge, HoldsNotedCalls}
 
 -- what is left of the calls that stood there before

@@ -2,7 +2,7 @@
 use Rattle.std.specs.Prelude.{◌≡◌, ℕ, Bool, true, false, List, [], ◌∷◌, if◌then◌else◌, fold}
 use Rattle.std.specs.List.{list_any}
 use Rattle.call_recorder.specs.declared.recorded.Recorded.{Recorded}
-use Rattle.call_recorder.specs.Recording.{Recording, noted, purged}
+use Rattle.call_recorder.specs.meaning.Recording.{Recording, noted, purged}
 
 -- what is done to a recorder; a note that was refused changes nothing and is left out
 pub data Did : Type 0 where

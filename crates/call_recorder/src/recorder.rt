@@ -2,7 +2,7 @@
 ghost use Rattle.std.specs.Prelude.{◌≡◌, ◌≤◌, ◌↔◌, [], length, OnOk, OnErr, IsErrOf, slice_get, ◌==◌};
 ghost use Rattle.std.specs.Option.{option_copied};
 ghost use Rattle.svc_values.specs.Calls.{IsMade};
-ghost use Rattle.call_recorder.specs.Recording.{noted, purged};
+ghost use Rattle.call_recorder.specs.meaning.Recording.{noted, purged};
 ghost use Rattle.call_recorder.specs.History.{HoldsNotedCalls};
 
 use crate::recorded::{NoteFault, Recorded, Seen};
@@ -19,7 +19,7 @@ pub struct Recorder {
 
 impl Model for Recorder {
     ghost use Rattle.std.specs.Prelude.{length, ◌≤◌};
-    ghost use Rattle.call_recorder.specs.Recording.{Recording};
+    ghost use Rattle.call_recorder.specs.meaning.Recording.{Recording};
 
     ghost Value = { Recording };
 

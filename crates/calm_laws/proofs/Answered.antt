@@ -3,22 +3,22 @@ use Rattle.std.proofs.Common.{◌≡◌, refl, sym, ap, ◌∙◌, Bool, true, f
 use Rattle.std.specs.Prelude.{◌==◌, nat_le, is_none}
 use Rattle.std.specs.List.{list_all}
 use Rattle.std.proofs.lemmas.Bool.{and_parts, and_from, or_left, or_right}
-use Rattle.svc_values.specs.Same.{same_bool}
+use Rattle.svc_values.specs.meaning.Same.{same_bool}
 use Rattle.outage_schedule.specs.declared.document.Client.{Client as Given}
 use Rattle.outage_schedule.specs.declared.document.Request.{Request}
 use Rattle.outage_schedule.specs.declared.failure.Failure.{Failure}
 use Rattle.outage_schedule.specs.declared.request.RequestReport.{RequestReport}
-use Rattle.run_clauses.specs.Copies.{is_repeated, with_copy, further_copies, copies_of, copies_by_client, shows_script, show_script, are_in_script_order, each_copies, has_its_reports}
+use Rattle.run_clauses.specs.meaning.Copies.{is_repeated, with_copy, further_copies, copies_of, copies_by_client, shows_script, show_script, are_in_script_order, each_copies, has_its_reports}
 use Rattle.server_model.specs.Laws.{RunsLast}
-use Rattle.shown_clauses.specs.Submissions.{submissions_by_client}
-use Rattle.shown_clauses.specs.Whole.{told_by, is_told_whole}
+use Rattle.shown_clauses.specs.meaning.Submissions.{submissions_by_client}
+use Rattle.shown_clauses.specs.meaning.Whole.{told_by, is_told_whole}
 use Rattle.invariant_laws.specs.KeptLaws.{RunsKeepInvariant}
 use Rattle.shown_laws.specs.Closing.{RunsLeaveUnclosed}
 use Rattle.shown_laws.specs.WholeRuns.{RunsAreWhole}
-use Rattle.world_model.specs.Clients.{Past, Client, reports_of}
+use Rattle.world_model.specs.meaning.Clients.{Past, Client, reports_of}
 use Rattle.world_model.proofs.Offered.{map_all}
-use Rattle.run_clauses.specs.Before.{journal_before}
-use Rattle.calm_laws.specs.Calm.{is_calm_event, blocks_past, has_waited, is_answered, answered_or_waited, copies_answered}
+use Rattle.run_clauses.specs.meaning.Before.{journal_before}
+use Rattle.calm_laws.specs.meaning.Calm.{is_calm_event, blocks_past, has_waited, is_answered, answered_or_waited, copies_answered}
 use Rattle.calm_laws.specs.CalmRuns.{CalmRunsAnswer}
 use Rattle.calm_laws.proofs.CalmClients.{may_end, is_calm_past, is_calm_client}
 use Rattle.calm_laws.proofs.CalmReached.{CalmState, finishing_calm}

@@ -11,12 +11,12 @@ use Rattle.svc_values.specs.declared.entry.SessionId.{SessionId}
 use Rattle.svc_values.specs.declared.frame.Up.{Up}
 use Rattle.svc_values.specs.declared.frame.Down.{Down}
 use Rattle.svc_values.specs.declared.frame.Down.TheVariants as down
-use Rattle.svc_values.specs.Identifiers.{session_of}
-use Rattle.ltxid_book.specs.Journal.{is_blocked}
-use Rattle.server_model.specs.Base.{Base}
+use Rattle.svc_values.specs.meaning.Identifiers.{session_of}
+use Rattle.ltxid_book.specs.meaning.Journal.{is_blocked}
+use Rattle.server_model.specs.meaning.Base.{Base}
 use Rattle.server_model.specs.Core.{Core, committed, all_blocked}
 use Rattle.server_model.specs.Laws.{RunsLast}
-use Rattle.server_model.specs.Outcomes.{Telling, Says}
+use Rattle.server_model.specs.meaning.Outcomes.{Telling, Says}
 use Rattle.server_model.specs.Runs.{Happened, Served, Asked, Server, Moves, Makes, Answers, Halts, Loses, AnswersAsk, HaltsInAsk, Reaps, Falls, Opens, StopsOpening, Runs, Start, Then}
 use Rattle.server_model.specs.Serve.{with_opening, Commits, InReplay, Blocks, Conflicts, Stores, StopsBefore, StopsAfter, Works, Answers as AnswersCall, Reaches, HaltsInDraw, Calls, IsWork, IsSet, IsAlter, AlterStops, AlterMarked, IsDisable, IsRollback, Serve, Connects, Begins, Ends, Closes, Asks, Runs as Serves, Refuses}
 use Rattle.server_model.specs.Sessions.{Sess, with_work}

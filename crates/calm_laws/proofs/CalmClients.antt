@@ -9,15 +9,15 @@ use Rattle.client_model.specs.declared.act.Failed.{Failed}
 use Rattle.client_model.specs.declared.act.Failed.TheVariants as failed
 use Rattle.client_model.specs.declared.act.Hold.{Hold}
 use Rattle.client_model.specs.declared.act.Hold.TheVariants as hold
-use Rattle.client_model.specs.Conversation.{Done}
-use Rattle.client_model.specs.Terms.{Terms}
+use Rattle.client_model.specs.meaning.Conversation.{Done}
+use Rattle.client_model.specs.meaning.Terms.{Terms}
 use Rattle.outage_schedule.specs.declared.document.Request.{Request}
 use Rattle.outage_schedule.specs.declared.failure.Failure.{Failure}
-use Rattle.run_clauses.specs.Reports.{failure_of, failed_in}
-use Rattle.world_model.specs.Clients.{Step, Doing, Past, Client, client_at, with_client, begun, doing_of, after_hold, after_step, past_of, resting, script_at}
-use Rattle.world_model.specs.Settings.{Setting}
+use Rattle.run_clauses.specs.meaning.Reports.{failure_of, failed_in}
+use Rattle.world_model.specs.meaning.Clients.{Step, Doing, Past, Client, client_at, with_client, begun, doing_of, after_hold, after_step, past_of, resting, script_at}
+use Rattle.world_model.specs.meaning.Settings.{Setting}
 use Rattle.world_model.proofs.Offered.{at_all, append_all, one_all}
-use Rattle.calm_laws.specs.Calm.{has_waited}
+use Rattle.calm_laws.specs.meaning.Calm.{has_waited}
 use Rattle.calm_laws.proofs.CalmLinks.{set_all}
 use Rattle.calm_laws.proofs.Talks.{is_plain, is_fair}
 

@@ -10,10 +10,10 @@ use Rattle.svc_values.specs.declared.entry.SessionId.{SessionId}
 use Rattle.svc_values.specs.declared.frame.Down.TheVariants as down
 use Rattle.svc_values.specs.declared.frame.Up.{Up}
 use Rattle.svc_values.specs.declared.frame.Up.TheVariants as up
-use Rattle.svc_values.specs.Identifiers.{same_ltxid, same_session}
+use Rattle.svc_values.specs.meaning.Identifiers.{same_ltxid, same_session}
 use Rattle.pool_core.specs.declared.answers.Back.{Back}
 use Rattle.pool_core.specs.declared.answers.Back.TheVariants as back
-use Rattle.pool_core.specs.Slots.{after_take, give_back_answer}
+use Rattle.pool_core.specs.meaning.Slots.{after_take, give_back_answer}
 use Rattle.client_model.specs.declared.act.Act.{Act}
 use Rattle.client_model.specs.declared.act.Hold.{Hold}
 use Rattle.client_model.specs.declared.act.Hold.TheVariants as hold
@@ -28,37 +28,38 @@ use Rattle.outage_schedule.specs.declared.item.Item.TheVariants as item
 use Rattle.outage_schedule.specs.declared.item.Served.{Served}
 use Rattle.outage_schedule.specs.declared.note.FrameName.{FrameName}
 use Rattle.outage_schedule.specs.declared.note.Note.{Note}
-use Rattle.ltxid_book.specs.Journal.{is_blocked as stands_blocked}
-use Rattle.run_clauses.specs.Before.{journal_before}
-use Rattle.run_clauses.specs.Outcomes.{is_uncommitted}
-use Rattle.run_clauses.specs.ServiceBase.{service_base}
-use Rattle.server_model.specs.Base.{Base}
+use Rattle.ltxid_book.specs.meaning.Journal.{is_blocked as stands_blocked}
+use Rattle.run_clauses.specs.meaning.Before.{journal_before}
+use Rattle.run_clauses.specs.meaning.Outcomes.{is_uncommitted}
+use Rattle.run_clauses.specs.meaning.ServiceBase.{service_base}
+use Rattle.server_model.specs.meaning.Base.{Base}
 use Rattle.server_model.specs.Laws.{RunsLast}
-use Rattle.server_model.specs.Outcomes.{Says}
+use Rattle.server_model.specs.meaning.Outcomes.{Says}
 use Rattle.server_model.specs.Runs.{Happened, Served as ServedFrame, Runs}
 use Rattle.server_model.specs.Seen.{Seen}
 use Rattle.invariant_laws.specs.Invariant.{Invariant}
 use Rattle.shown_laws.specs.Closing.{AllUnclosed}
-use Rattle.world_model.specs.Acting.{act_at, closing, connection_of, frames_of, owner_at, call_in, sent_by, steps}
-use Rattle.world_model.specs.Clients.{Doing, doing_at, heard, step_at}
-use Rattle.world_model.specs.Cutting.{reaped_link}
-use Rattle.world_model.specs.Frames.{Sent}
-use Rattle.world_model.specs.Going.{lost_at_once, unless_open}
-use Rattle.world_model.specs.Links.{Link, new_link, link_at, takes, sends}
-use Rattle.world_model.specs.Machines.{Server, Machine}
-use Rattle.world_model.specs.Matching.{Noted, matched, ServedOn}
+use Rattle.world_model.specs.meaning.Acting.{act_at, closing, connection_of, frames_of, owner_at, call_in, sent_by, steps}
+use Rattle.world_model.specs.meaning.Clients.{Doing, doing_at, heard, step_at}
+use Rattle.world_model.specs.meaning.Cutting.{reaped_link}
+use Rattle.world_model.specs.meaning.Frames.{Sent}
+use Rattle.world_model.specs.meaning.Going.{lost_at_once, unless_open}
+use Rattle.world_model.specs.meaning.Links.{Link, new_link, link_at, takes, sends}
+use Rattle.world_model.specs.meaning.Machines.{Server, Machine}
+use Rattle.world_model.specs.meaning.Matching.{Noted, matched, ServedOn}
 use Rattle.world_model.specs.OneEvent.{OneEvent}
-use Rattle.world_model.specs.Outside.{closed_by_drain}
+use Rattle.world_model.specs.meaning.Outside.{closed_by_drain}
 use Rattle.world_model.specs.Parts.{implies, is_closed}
-use Rattle.world_model.specs.ServiceDid.{ServiceDid, front_served, item_telling}
-use Rattle.world_model.specs.Serving.{Front, front_at, is_of_front, is_ordinary, is_item_of, is_served_by, is_blocked, handled, commits_after, server_after}
-use Rattle.world_model.specs.Settings.{Setting}
+use Rattle.world_model.specs.meaning.ServiceDid.{item_telling}
+use Rattle.world_model.specs.ServiceDid.{ServiceDid, front_served}
+use Rattle.world_model.specs.meaning.Serving.{Front, front_at, is_of_front, is_ordinary, is_item_of, is_served_by, is_blocked, handled, commits_after, server_after}
+use Rattle.world_model.specs.meaning.Settings.{Setting}
 use Rattle.world_model.specs.Traced.{Traced}
 use Rattle.world_model.specs.records.Conversing.{Talks, IsTalking}
 use Rattle.world_model.specs.Words.{held_in}
 use Rattle.world_model.proofs.Offered.{IsFront, front_is, at_link, at_event, Followed, follow_happens, append_all, one_all, map_all, weaker_all, eq_from, le_from, same_session_is, talks_at, left_held, Goes, Rests, Waits, Lends, Opens, MovesFails as Fails, Takes, Loses, Happens, Nothing, IsStep, Serves, Cuts, Reaps, Crashes, OpensUp, StopsOpening, Ticks, RunsOutside, MovesAsks as Asks, Drains, IsDoing, moves_next_number as next_number, takes_one, with_pool}
 use Rattle.shown_laws.proofs.Offered.{was_there}
-use Rattle.calm_laws.specs.Calm.{is_calm_event, blocks_past}
+use Rattle.calm_laws.specs.meaning.Calm.{is_calm_event, blocks_past}
 use Rattle.calm_laws.proofs.Blocks.{is_quiet, MeetsBlock, met_before}
 use Rattle.calm_laws.proofs.CalmClients.{is_calm_client, is_calm_doing, client_calm, doing_calm, step_calm}
 use Rattle.calm_laws.proofs.CalmLinks.{is_kept_link, is_calm_link, with_calm, changed_calm, each_calm, sends_calm, takes_calm, handled_calm}

@@ -8,10 +8,10 @@ use Rattle.std.proofs.lemmas.Bool.{and_parts, and_from, or_left, or_right}
 use Rattle.std.proofs.lemmas.List.Folds.{list_all-append, list_any-append}
 use Rattle.outage_schedule.specs.declared.item.Served.{Served}
 use Rattle.client_model.specs.declared.input.Input.{Input}
-use Rattle.world_model.specs.Frames.{Sent, Reply}
-use Rattle.world_model.specs.Links.{Link, link_at, with_link, changed, ends, sends, takes, is_close}
+use Rattle.world_model.specs.meaning.Frames.{Sent, Reply}
+use Rattle.world_model.specs.meaning.Links.{Link, link_at, with_link, changed, ends, sends, takes, is_close}
 use Rattle.world_model.specs.Parts.{is_closed}
-use Rattle.world_model.specs.Serving.{Front, after_front, handled, is_blocked, reply_of, commits_after}
+use Rattle.world_model.specs.meaning.Serving.{Front, after_front, handled, is_blocked, reply_of, commits_after}
 use Rattle.world_model.proofs.Offered.{at_link}
 use Rattle.calm_laws.proofs.Quiet.{sends_quietly, is_quiet_link}
 

@@ -11,21 +11,21 @@ use Rattle.outage_schedule.specs.declared.event.Event.{Event}
 use Rattle.outage_schedule.specs.declared.event.Event.TheVariants as event
 use Rattle.outage_schedule.specs.declared.item.Served.{Served}
 use Rattle.outage_schedule.specs.declared.note.Note.{Note}
-use Rattle.run_clauses.specs.Before.{journal_before}
+use Rattle.run_clauses.specs.meaning.Before.{journal_before}
 use Rattle.server_model.specs.Laws.{RunsLast}
 use Rattle.server_model.specs.Seen.{Seen}
 use Rattle.invariant_laws.specs.KeptLaws.{RunsKeepInvariant}
 use Rattle.shown_laws.specs.Closing.{RunsLeaveUnclosed}
-use Rattle.world_model.specs.Clients.{is_unfinished, resting}
-use Rattle.world_model.specs.Finishing.{Place, AtServer, AtOrphans, AtRound, AtClients, AtLinks, Next, first_behind, serves_or_ticks, goes_or_serves, next_round, reaps_or_goes, opens_or_reaps, next_finish}
-use Rattle.world_model.specs.Links.{is_orphan}
-use Rattle.world_model.specs.Machines.{Machine}
+use Rattle.world_model.specs.meaning.Clients.{is_unfinished, resting}
+use Rattle.world_model.specs.meaning.Finishing.{Place, AtServer, AtOrphans, AtRound, AtClients, AtLinks, Next, first_behind, serves_or_ticks, goes_or_serves, next_round, reaps_or_goes, opens_or_reaps, next_finish}
+use Rattle.world_model.specs.meaning.Links.{is_orphan}
+use Rattle.world_model.specs.meaning.Machines.{Machine}
 use Rattle.world_model.specs.Reached.{Reached, Begins, GoesOn, IsFinishing, Scheduled, Finishes}
-use Rattle.world_model.specs.Serving.{front_of}
+use Rattle.world_model.specs.meaning.Serving.{front_of}
 use Rattle.world_model.specs.Traced.{Traced}
 use Rattle.world_model.specs.records.Ready.{all_requests_right}
 use Rattle.world_model.proofs.Offered.{reached_start, finishing_reached}
-use Rattle.calm_laws.specs.Calm.{is_calm_event, blocks_past}
+use Rattle.calm_laws.specs.meaning.Calm.{is_calm_event, blocks_past}
 use Rattle.calm_laws.proofs.Blocks.{is_quiet}
 use Rattle.calm_laws.proofs.CalmClients.{is_calm_client}
 use Rattle.calm_laws.proofs.CalmEvents.{IsCalm, event_calm}

@@ -13,17 +13,18 @@ use Rattle.outage_schedule.specs.declared.note.FrameName.{FrameName}
 use Rattle.outage_schedule.specs.declared.note.Note.{Note}
 use Rattle.outage_schedule.specs.declared.note.Note.TheVariants as note
 use Rattle.server_model.specs.Runs.{Happened}
-use Rattle.server_model.specs.ServiceCalls.{RunsAre, is_failover}
+use Rattle.server_model.specs.meaning.ServiceCalls.{is_failover}
+use Rattle.server_model.specs.ServiceCalls.{RunsAre}
 use Rattle.service_calls.specs.Answers.{runs_of}
-use Rattle.world_model.specs.Frames.{Sent}
-use Rattle.world_model.specs.Links.{Link}
-use Rattle.world_model.specs.Machines.{Machine, next_session}
-use Rattle.world_model.specs.Matching.{Noted, Went, ServedOn, CutOff, Reaped, Crashed, Opened, OpeningStopped, Ticked, RanOutside, Asked, Drained, matched}
-use Rattle.world_model.specs.Noting.{only_if}
+use Rattle.world_model.specs.meaning.Frames.{Sent}
+use Rattle.world_model.specs.meaning.Links.{Link}
+use Rattle.world_model.specs.meaning.Machines.{Machine, next_session}
+use Rattle.world_model.specs.meaning.Matching.{Noted, Went, ServedOn, CutOff, Reaped, Crashed, Opened, OpeningStopped, Ticked, RanOutside, Asked, Drained, matched}
+use Rattle.world_model.specs.meaning.Noting.{only_if}
 use Rattle.world_model.specs.ServiceDid.{ServiceDid, front_served}
-use Rattle.world_model.specs.Serving.{Front, front_at}
+use Rattle.world_model.specs.meaning.Serving.{Front, front_at}
 use Rattle.world_model.proofs.Offered.{IsFront, front_is, at_link, only_is}
-use Rattle.calm_laws.specs.Calm.{is_calm_event}
+use Rattle.calm_laws.specs.meaning.Calm.{is_calm_event}
 use Rattle.calm_laws.proofs.Blocks.{is_quiet}
 use Rattle.calm_laws.proofs.Talks.{asks_none}
 

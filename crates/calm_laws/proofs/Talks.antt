@@ -17,9 +17,9 @@ use Rattle.client_model.specs.declared.act.Failed.TheVariants.{PoolWait, BadPeer
 use Rattle.client_model.specs.declared.act.Shown.{Shown}
 use Rattle.client_model.specs.declared.input.Input.{Input}
 use Rattle.client_model.specs.declared.input.Input.TheVariants.{Start, Waiting, Lent, Opened, TryFailed, Took, Gone}
-use Rattle.client_model.specs.States.{Living}
-use Rattle.client_model.specs.Talk.{Step, fails, sends_or_ends, next_call, begin_of, on_hello, on_reply, tag_of, takes, lost_of, waits_from, talk_step, talk_shown, with_shown, stands, quiet}
-use Rattle.client_model.specs.Terms.{Terms, Talk, Phase, Queued, Seeking, Greeting, Asked, Running, Replaying, unsubmitted}
+use Rattle.client_model.specs.meaning.States.{Living}
+use Rattle.client_model.specs.meaning.Talk.{Step, fails, sends_or_ends, next_call, begin_of, on_hello, on_reply, tag_of, takes, lost_of, waits_from, talk_step, talk_shown, with_shown, stands, quiet}
+use Rattle.client_model.specs.meaning.Terms.{Terms, Talk, Phase, Queued, Seeking, Greeting, Asked, Running, Replaying, unsubmitted}
 
 -- the request lost no session after its first Begin
 abbrev pub is_plain : Phase → Bool

@@ -7,7 +7,7 @@ use Rattle.server_model.specs.Seen.{Seen}
 use Rattle.world_model.specs.records.Ready.{all_requests_right}
 use Rattle.world_model.specs.Reported.{IsReported}
 use Rattle.world_model.specs.Traced.{Traced}
-use Rattle.calm_laws.specs.Calm.{is_calm, all_answered_or_waited}
+use Rattle.calm_laws.specs.meaning.Calm.{is_calm, all_answered_or_waited}
 
 abbrev pub CalmRunsAnswer : Type 0
 CalmRunsAnswer =

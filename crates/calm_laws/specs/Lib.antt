@@ -1,2 +1,2 @@
-pub mod Calm
 pub mod CalmRuns
+pub mod meaning

@@ -5,8 +5,9 @@ use Rattle.std.proofs.lemmas.List.{append-nil, flat_map_more}
 use Rattle.canon_bytes.specs.declared.fault.Fault.{Fault}
 use Rattle.canon_bytes.specs.declared.fault.ReadFault.{ReadFault}
 use Rattle.canon_bytes.specs.declared.fault.ReadFault.TheVariants as errors
-use Rattle.canon_bytes.specs.Reading.{◌>>=◌, IsReading}
-use Rattle.canon_bytes.specs.Lists.{items_at}
+use Rattle.canon_bytes.specs.meaning.Reading.{◌>>=◌}
+use Rattle.canon_bytes.specs.Reading.{IsReading}
+use Rattle.canon_bytes.specs.meaning.Lists.{items_at}
 
 -- what is read, behind these items
 abbrev pub behind : {X : Type 0} → List X → Result (List X × List ℕ) Fault → Result (List X × List ℕ) Fault

@@ -8,11 +8,14 @@ use Rattle.std.proofs.lemmas.Nat.{from_be_bytes-to_be_bytes_8}
 use Rattle.std.proofs.lemmas.Int.{ints, to_z-of_z}
 use Rattle.std.proofs.lemmas.Str.{is_utf8-from_IsUtf8}
 use mir.Val.{of_z}
-use Rattle.svc_values.specs.Texts.{is_name}
+use Rattle.svc_values.specs.meaning.Texts.{is_name}
 use Rattle.canon_bytes.specs.declared.fault.Fault.{Fault}
-use Rattle.canon_bytes.specs.Numbers.{spell_u64, spell_i64, spell_bool, FitsU64, FitsI64, FitsBool, wide_at, u64_at, i64_at, bool_at}
-use Rattle.canon_bytes.specs.TextBytes.{spell_bytes, FitsName, FitsText, FitsOctets, bytes_at, name_at, text_at, octets_at}
-use Rattle.canon_bytes.specs.Lists.{spell_list, FitsList, FitsListed, items_at, list_at, listed_at}
+use Rattle.canon_bytes.specs.meaning.Numbers.{spell_u64, spell_i64, spell_bool, wide_at, u64_at, i64_at, bool_at}
+use Rattle.canon_bytes.specs.Numbers.{FitsU64, FitsI64, FitsBool}
+use Rattle.canon_bytes.specs.meaning.TextBytes.{spell_bytes, bytes_at, name_at, text_at, octets_at}
+use Rattle.canon_bytes.specs.TextBytes.{FitsName, FitsText, FitsOctets}
+use Rattle.canon_bytes.specs.meaning.Lists.{spell_list, items_at, list_at, listed_at}
+use Rattle.canon_bytes.specs.Lists.{FitsList, FitsListed}
 
 wide_again : (w : Width) (n : ℕ) (rest : List ℕ) → length (to_be_bytes w n) ≡ byte_len w → from_be_bytes w (to_be_bytes w n) ≡ n → wide_at w (to_be_bytes w n ++ rest) ≡ Ok (n, rest)
 wide_again w n rest len back =

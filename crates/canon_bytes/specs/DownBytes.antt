@@ -1,31 +1,22 @@
 -- Frames to the client: a payload is a tag and the fields, and a frame is the number of its bytes and the payload.
-use Rattle.std.specs.Prelude.{ℕ, suc, ◌==◌, ◌||◌, IsTrue, List, [], ◌∷◌, ◌++◌, length, Result, Ok, Err, if◌then◌else◌}
+-- Here is what contracts and proofs say of it besides.
+use Rattle.std.specs.Prelude.{ℕ, suc, ◌==◌, ◌||◌, IsTrue, List, [], ◌∷◌, length, Result, Ok, Err, if◌then◌else◌}
 use Rattle.svc_values.specs.Identifiers.{IsLtxid}
 use Rattle.svc_values.specs.declared.frame.Ahead.{Ahead}
 use Rattle.svc_values.specs.declared.frame.Ahead.TheVariants as ahead
 use Rattle.svc_values.specs.declared.frame.Down.{Down}
 use Rattle.svc_values.specs.declared.frame.Down.TheVariants as down
-use Rattle.canon_bytes.specs.Numbers.{spell_u64, spell_bool, FitsU64, u64_at, bool_at}
-use Rattle.canon_bytes.specs.TextBytes.{spell_bytes}
-use Rattle.canon_bytes.specs.Draws.{spell_draws, FitsDraws, draws_at}
-use Rattle.canon_bytes.specs.AnswerBytes.{spell_answers, FitsAnswers, answers_at}
-use Rattle.canon_bytes.specs.Entries.{spell_ltxid, FitsLtxid, ltxid_at}
-use Rattle.canon_bytes.specs.Reading.{◌>>=◌}
+use Rattle.canon_bytes.specs.meaning.Numbers.{u64_at, bool_at}
+use Rattle.canon_bytes.specs.Numbers.{FitsU64}
+use Rattle.canon_bytes.specs.meaning.Draws.{draws_at}
+use Rattle.canon_bytes.specs.Draws.{FitsDraws}
+use Rattle.canon_bytes.specs.meaning.AnswerBytes.{answers_at}
+use Rattle.canon_bytes.specs.AnswerBytes.{FitsAnswers}
+use Rattle.canon_bytes.specs.meaning.Entries.{ltxid_at}
+use Rattle.canon_bytes.specs.Entries.{FitsLtxid}
+use Rattle.canon_bytes.specs.meaning.Reading.{◌>>=◌}
 use Rattle.canon_bytes.specs.declared.fault.Fault.{Fault}
 use Rattle.canon_bytes.specs.declared.fault.Fault.TheVariants.{Short, BadTag}
-
-abbrev pub spell_ahead : Ahead → List ℕ
-spell_ahead ahead.Server = 1 ∷ []
-spell_ahead ahead.Client = 2 ∷ []
-spell_ahead ahead.Forgotten = 3 ∷ []
-
-abbrev pub spell_down : Down → List ℕ
-spell_down (down.Hello ltxid) = 17 ∷ spell_ltxid ltxid
-spell_down (down.Reply answers draws ltxid) = 18 ∷ (spell_answers answers ++ spell_draws draws ++ spell_ltxid ltxid)
-spell_down (down.OutcomeIs committed completed) = 19 ∷ (spell_bool committed ++ spell_bool completed)
-spell_down (down.OutcomeRefused who next) = 20 ∷ (spell_ahead who ++ spell_u64 next)
-spell_down down.Blocked = 21 ∷ []
-spell_down (down.Refused cause) = 22 ∷ cause ∷ []
 
 -- a frame is refused for one of two causes
 abbrev pub IsCause : ℕ → Type 0
@@ -80,10 +71,6 @@ down_at (tag ∷ rest) =
     else (if tag == 21 then Ok (down.Blocked, rest)
     else (if tag == 22 then (cause_at rest >>= λ cause. Ok (down.Refused cause.0, cause.1))
     else Err (BadTag (suc (length rest))))))))
-
--- the frame: the number of the payload's bytes, and the payload
-abbrev pub down_frame : Down → List ℕ
-down_frame frame = spell_bytes (spell_down frame)
 
 -- the rules that a writer's caller sees to
 abbrev pub IsMadeDown : Down → Type 0

@@ -1,5 +1,6 @@
 -- Identifiers of transactions, and what the journal keeps of a transaction: pieces, writes, entries.
-use Rattle.std.specs.Prelude.{ℕ, ◌^◌, List, ◌++◌, length, Result, Ok, Err, nat_le, if◌then◌else◌}
+-- Here is what contracts and proofs say of it besides.
+use Rattle.std.specs.Prelude.{ℕ, List, ◌++◌}
 use Rattle.std.specs.List.{AllByRecursion}
 use Rattle.svc_values.specs.Calls.{IsMade}
 use Rattle.svc_values.specs.Identifiers.{IsLtxid}
@@ -7,51 +8,32 @@ use Rattle.svc_values.specs.declared.entry.Ltxid.{Ltxid}
 use Rattle.svc_values.specs.declared.entry.Piece.{Piece}
 use Rattle.svc_values.specs.declared.entry.Write.{Write}
 use Rattle.svc_values.specs.declared.entry.Entry.{Entry}
-use Rattle.canon_bytes.specs.Numbers.{spell_u64, spell_bool, u64_at, bool_at}
-use Rattle.canon_bytes.specs.TextBytes.{spell_bytes, FitsName, name_at}
-use Rattle.canon_bytes.specs.Lists.{spell_list, FitsListed, listed_at}
-use Rattle.canon_bytes.specs.Options.{spell_option, FitsOption, option_at}
-use Rattle.canon_bytes.specs.Values.{spell_value, spell_row, FitsValue, FitsRow, value_at, row_at}
-use Rattle.canon_bytes.specs.Draws.{spell_draws, FitsDraws, draws_at}
-use Rattle.canon_bytes.specs.AnswerBytes.{spell_answers, FitsAnswers, answers_at}
-use Rattle.canon_bytes.specs.CallBytes.{spell_call, FitsCall, call_at}
-use Rattle.canon_bytes.specs.SettingsBytes.{spell_settings, FitsSettings, settings_at}
-use Rattle.canon_bytes.specs.Reading.{◌>>=◌}
-use Rattle.canon_bytes.specs.declared.fault.Fault.{Fault}
-use Rattle.canon_bytes.specs.declared.fault.Fault.TheVariants.{BadPart}
-
--- three numbers, 24 bytes
-unfoldable pub spell_ltxid : Ltxid → List ℕ
-spell_ltxid x = spell_u64 x.incarnation ++ spell_u64 x.session ++ spell_u64 x.number
+use Rattle.canon_bytes.specs.meaning.Numbers.{spell_bool}
+use Rattle.canon_bytes.specs.meaning.TextBytes.{spell_bytes}
+use Rattle.canon_bytes.specs.TextBytes.{FitsName}
+use Rattle.canon_bytes.specs.meaning.Lists.{spell_list}
+use Rattle.canon_bytes.specs.Lists.{FitsListed}
+use Rattle.canon_bytes.specs.Options.{spell_option, FitsOption}
+use Rattle.canon_bytes.specs.meaning.Values.{spell_value, spell_row}
+use Rattle.canon_bytes.specs.Values.{FitsValue, FitsRow}
+use Rattle.canon_bytes.specs.meaning.Draws.{spell_draws}
+use Rattle.canon_bytes.specs.Draws.{FitsDraws}
+use Rattle.canon_bytes.specs.meaning.AnswerBytes.{spell_answers}
+use Rattle.canon_bytes.specs.AnswerBytes.{FitsAnswers}
+use Rattle.canon_bytes.specs.meaning.CallBytes.{spell_call}
+use Rattle.canon_bytes.specs.CallBytes.{FitsCall}
+use Rattle.canon_bytes.specs.meaning.SettingsBytes.{spell_settings}
+use Rattle.canon_bytes.specs.SettingsBytes.{FitsSettings}
+use Rattle.canon_bytes.specs.meaning.Entries.{spell_ltxid}
 
 abbrev pub FitsLtxid : Ltxid → Type 0
 FitsLtxid x = IsLtxid x
-
--- a part of an identifier, at most 2^63
-unfoldable pub part_at : List ℕ → Result (ℕ × List ℕ) Fault
-part_at bytes = do
-  n ← u64_at bytes
-  if nat_le n.0 (2 ^ 63) then Ok n else Err (BadPart (length bytes))
-
-unfoldable pub ltxid_at : List ℕ → Result (Ltxid × List ℕ) Fault
-ltxid_at bytes = do
-  incarnation ← part_at bytes
-  session ← part_at incarnation.1
-  number ← part_at session.1
-  Ok (record { incarnation = incarnation.0; session = session.0; number = number.0 }, number.1)
 
 unfoldable pub spell_piece : Piece → List ℕ
 spell_piece piece = spell_call piece.call ++ spell_answers piece.answers ++ spell_draws piece.draws
 
 abbrev pub FitsPiece : Piece → Type 0
 FitsPiece piece = FitsCall piece.call × FitsAnswers piece.answers × FitsDraws piece.draws
-
-unfoldable pub piece_at : List ℕ → Result (Piece × List ℕ) Fault
-piece_at bytes = do
-  call ← call_at bytes
-  answers ← answers_at call.1
-  draws ← draws_at answers.1
-  Ok (record { call = call.0; answers = answers.0; draws = draws.0 }, draws.1)
 
 -- the row is absent where it is deleted
 unfoldable pub spell_write : Write → List ℕ
@@ -60,13 +42,6 @@ spell_write write = spell_bytes write.table ++ spell_value write.key ++ spell_op
 abbrev pub FitsWrite : Write → Type 0
 FitsWrite write = FitsName write.table × FitsValue write.key × FitsOption FitsRow write.row
 
-unfoldable pub write_at : List ℕ → Result (Write × List ℕ) Fault
-write_at bytes = do
-  table ← name_at bytes
-  key ← value_at table.1
-  row ← option_at row_at key.1
-  Ok (record { table = table.0; key = key.0; row = row.0 }, row.1)
-
 unfoldable pub spell_entry : Entry → List ℕ
 spell_entry entry =
     spell_ltxid entry.ltxid ++ spell_bool entry.completed ++ spell_settings entry.settings
@@ -74,15 +49,6 @@ spell_entry entry =
 
 abbrev pub FitsEntry : Entry → Type 0
 FitsEntry entry = FitsLtxid entry.ltxid × FitsSettings entry.settings × FitsListed FitsPiece entry.pieces × FitsListed FitsWrite entry.writes
-
-unfoldable pub entry_at : List ℕ → Result (Entry × List ℕ) Fault
-entry_at bytes = do
-  ltxid ← ltxid_at bytes
-  completed ← bool_at ltxid.1
-  settings ← settings_at completed.1
-  pieces ← listed_at piece_at settings.1
-  writes ← listed_at write_at pieces.1
-  Ok (record { ltxid = ltxid.0; completed = completed.0; settings = settings.0; pieces = pieces.0; writes = writes.0 }, writes.1)
 
 -- ---- the rules that a writer's caller sees to
 

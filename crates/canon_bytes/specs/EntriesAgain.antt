@@ -8,14 +8,21 @@ use Rattle.svc_values.specs.declared.entry.Piece.{Piece}
 use Rattle.svc_values.specs.declared.entry.Write.{Write}
 use Rattle.svc_values.specs.declared.entry.Entry.{Entry}
 use Rattle.canon_bytes.specs.declared.fault.Fault.{Fault}
-use Rattle.canon_bytes.specs.Numbers.{spell_u64}
-use Rattle.canon_bytes.specs.Options.{spell_option, FitsOption, option_at}
-use Rattle.canon_bytes.specs.Values.{spell_row, FitsRow, row_at}
-use Rattle.canon_bytes.specs.Draws.{spell_draw, FitsDraw, draw_at}
-use Rattle.canon_bytes.specs.AnswerBytes.{spell_answer, FitsAnswer, answer_at}
-use Rattle.canon_bytes.specs.StatementBytes.{spell_statement, FitsStatement, statement_at}
-use Rattle.canon_bytes.specs.CallBytes.{spell_call, FitsCall, work_at, set_at, call_at}
-use Rattle.canon_bytes.specs.Entries.{spell_ltxid, spell_piece, spell_write, spell_entry, FitsLtxid, FitsPiece, FitsWrite, FitsEntry, part_at, ltxid_at, piece_at, write_at, entry_at}
+use Rattle.canon_bytes.specs.meaning.Numbers.{spell_u64}
+use Rattle.canon_bytes.specs.meaning.Options.{option_at}
+use Rattle.canon_bytes.specs.Options.{spell_option, FitsOption}
+use Rattle.canon_bytes.specs.meaning.Values.{spell_row, row_at}
+use Rattle.canon_bytes.specs.Values.{FitsRow}
+use Rattle.canon_bytes.specs.meaning.Draws.{spell_draw, draw_at}
+use Rattle.canon_bytes.specs.Draws.{FitsDraw}
+use Rattle.canon_bytes.specs.meaning.AnswerBytes.{spell_answer, answer_at}
+use Rattle.canon_bytes.specs.AnswerBytes.{FitsAnswer}
+use Rattle.canon_bytes.specs.meaning.StatementBytes.{spell_statement, statement_at}
+use Rattle.canon_bytes.specs.StatementBytes.{FitsStatement}
+use Rattle.canon_bytes.specs.meaning.CallBytes.{spell_call, work_at, set_at, call_at}
+use Rattle.canon_bytes.specs.CallBytes.{FitsCall}
+use Rattle.canon_bytes.specs.meaning.Entries.{spell_ltxid, part_at, ltxid_at, piece_at, write_at, entry_at}
+use Rattle.canon_bytes.specs.Entries.{spell_piece, spell_write, spell_entry, FitsLtxid, FitsPiece, FitsWrite, FitsEntry}
 use Rattle.canon_bytes.specs.Again.{u64_again, bool_again, name_again, text_again, list_again, listed_again}
 use Rattle.canon_bytes.specs.ValuesAgain.{value_again, row_again, draw_again, answer_again}
 use Rattle.canon_bytes.specs.StatementsAgain.{statement_again}

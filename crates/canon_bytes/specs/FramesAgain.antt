@@ -6,14 +6,18 @@ use Rattle.svc_values.specs.declared.frame.Up.{Up}
 use Rattle.svc_values.specs.declared.frame.Up.TheVariants as up
 use Rattle.svc_values.specs.declared.frame.Down.{Down}
 use Rattle.svc_values.specs.declared.frame.Down.TheVariants as down
-use Rattle.canon_bytes.specs.Draws.{spell_draw, FitsDraw, draw_at}
-use Rattle.canon_bytes.specs.AnswerBytes.{spell_answer, FitsAnswer, answer_at}
+use Rattle.canon_bytes.specs.meaning.Draws.{spell_draw, draw_at}
+use Rattle.canon_bytes.specs.Draws.{FitsDraw}
+use Rattle.canon_bytes.specs.meaning.AnswerBytes.{spell_answer, answer_at}
+use Rattle.canon_bytes.specs.AnswerBytes.{FitsAnswer}
 use Rattle.canon_bytes.specs.Again.{u64_again, bool_again, listed_again}
 use Rattle.canon_bytes.specs.ValuesAgain.{draw_again, answer_again}
 use Rattle.canon_bytes.specs.SettingsAgain.{settings_again}
 use Rattle.canon_bytes.specs.EntriesAgain.{call_again, ltxid_again}
-use Rattle.canon_bytes.specs.UpBytes.{spell_up, FitsUp, up_call_at, up_at}
-use Rattle.canon_bytes.specs.DownBytes.{spell_ahead, spell_down, FitsDown, ahead_at, cause_at, reply_at, outcome_is_at, outcome_refused_at, down_at}
+use Rattle.canon_bytes.specs.meaning.UpBytes.{spell_up}
+use Rattle.canon_bytes.specs.UpBytes.{FitsUp, up_call_at, up_at}
+use Rattle.canon_bytes.specs.meaning.DownBytes.{spell_ahead, spell_down}
+use Rattle.canon_bytes.specs.DownBytes.{FitsDown, ahead_at, cause_at, reply_at, outcome_is_at, outcome_refused_at, down_at}
 
 pub up_again : (frame : Up) (rest : List ℕ) → FitsUp frame → up_at (spell_up frame ++ rest) ≡ Ok (frame, rest)
 unfolding up_at up_call_at

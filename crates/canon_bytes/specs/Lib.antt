@@ -21,3 +21,4 @@ pub mod TextBytes
 pub mod UpBytes
 pub mod Values
 pub mod ValuesAgain
+pub mod meaning

@@ -8,10 +8,12 @@ use Rattle.std.specs.List.{flat_map, AllByRecursion}
 use Rattle.std.specs.List.Sorted.{IsStrictlySortedBy}
 use Rattle.std.specs.Map.{keys_of}
 use Rattle.svc_values.specs.declared.value.Value.{Value}
-use Rattle.svc_values.specs.SettingsList.{NamedValues, AreSettings, rises}
-use Rattle.canon_bytes.specs.Numbers.{spell_u64}
-use Rattle.canon_bytes.specs.Lists.{spell_list}
-use Rattle.canon_bytes.specs.SettingsBytes.{spell_setting, spell_settings, FitsSetting, FitsSettings, setting_at, settings_behind, settings_at}
+use Rattle.svc_values.specs.meaning.SettingsList.{NamedValues, rises}
+use Rattle.svc_values.specs.SettingsList.{AreSettings}
+use Rattle.canon_bytes.specs.meaning.Numbers.{spell_u64}
+use Rattle.canon_bytes.specs.meaning.Lists.{spell_list}
+use Rattle.canon_bytes.specs.meaning.SettingsBytes.{spell_setting, spell_settings, setting_at, settings_behind, settings_at}
+use Rattle.canon_bytes.specs.SettingsBytes.{FitsSetting, FitsSettings}
 use Rattle.canon_bytes.specs.Again.{u64_again, name_again}
 use Rattle.canon_bytes.specs.ValuesAgain.{value_again}
 

@@ -8,8 +8,10 @@ use Rattle.svc_values.specs.declared.statement.Test.{Test}
 use Rattle.svc_values.specs.declared.statement.Test.TheVariants as test
 use Rattle.svc_values.specs.declared.statement.Statement.{Statement}
 use Rattle.svc_values.specs.declared.statement.Statement.TheVariants as statement
-use Rattle.canon_bytes.specs.Operands.{spell_operand, spell_operands, spell_change, spell_test, FitsOperand, FitsOperands, FitsChange, FitsTest, operand_at, operands_at, change_at, test_at}
-use Rattle.canon_bytes.specs.StatementBytes.{spell_statement, FitsStatement, insert_at, update_at, delete_at, get_at, select_at, sum_at, statement_at}
+use Rattle.canon_bytes.specs.meaning.Operands.{spell_operand, spell_operands, spell_change, spell_test, operand_at, operands_at, change_at, test_at}
+use Rattle.canon_bytes.specs.Operands.{FitsOperand, FitsOperands, FitsChange, FitsTest}
+use Rattle.canon_bytes.specs.meaning.StatementBytes.{spell_statement, insert_at, update_at, delete_at, get_at, select_at, sum_at, statement_at}
+use Rattle.canon_bytes.specs.StatementBytes.{FitsStatement}
 use Rattle.canon_bytes.specs.Again.{name_again, list_again}
 use Rattle.canon_bytes.specs.ValuesAgain.{value_again, draw_kind_again}
 

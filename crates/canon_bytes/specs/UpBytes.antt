@@ -1,26 +1,22 @@
 -- Frames to the server: a payload is a tag and the fields, and a frame is the number of its bytes and the payload.
-use Rattle.std.specs.Prelude.{ℕ, suc, ◌==◌, List, [], ◌∷◌, ◌++◌, length, Result, Ok, Err, if◌then◌else◌}
+-- Here is what contracts and proofs say of it besides.
+use Rattle.std.specs.Prelude.{ℕ, suc, ◌==◌, List, [], ◌∷◌, length, Result, Ok, Err, if◌then◌else◌}
 use Rattle.svc_values.specs.Calls.{IsMade}
 use Rattle.svc_values.specs.Identifiers.{IsLtxid}
 use Rattle.svc_values.specs.declared.frame.Up.{Up}
 use Rattle.svc_values.specs.declared.frame.Up.TheVariants as up
-use Rattle.canon_bytes.specs.Numbers.{spell_bool, bool_at}
-use Rattle.canon_bytes.specs.TextBytes.{spell_bytes}
-use Rattle.canon_bytes.specs.Draws.{spell_draws, FitsDraws, draws_at}
-use Rattle.canon_bytes.specs.CallBytes.{spell_call, FitsCall, call_at}
-use Rattle.canon_bytes.specs.SettingsBytes.{spell_settings, FitsSettings, settings_at}
-use Rattle.canon_bytes.specs.Entries.{spell_ltxid, FitsLtxid, ltxid_at}
-use Rattle.canon_bytes.specs.Reading.{◌>>=◌}
+use Rattle.canon_bytes.specs.meaning.Numbers.{bool_at}
+use Rattle.canon_bytes.specs.meaning.Draws.{draws_at}
+use Rattle.canon_bytes.specs.Draws.{FitsDraws}
+use Rattle.canon_bytes.specs.meaning.CallBytes.{call_at}
+use Rattle.canon_bytes.specs.CallBytes.{FitsCall}
+use Rattle.canon_bytes.specs.meaning.SettingsBytes.{settings_at}
+use Rattle.canon_bytes.specs.SettingsBytes.{FitsSettings}
+use Rattle.canon_bytes.specs.meaning.Entries.{ltxid_at}
+use Rattle.canon_bytes.specs.Entries.{FitsLtxid}
+use Rattle.canon_bytes.specs.meaning.Reading.{◌>>=◌}
 use Rattle.canon_bytes.specs.declared.fault.Fault.{Fault}
 use Rattle.canon_bytes.specs.declared.fault.Fault.TheVariants.{Short, BadTag}
-
-abbrev pub spell_up : Up → List ℕ
-spell_up up.Connect = 1 ∷ []
-spell_up (up.Begin settings) = 2 ∷ spell_settings settings
-spell_up (up.Call replay kept call) = 3 ∷ (spell_bool replay ++ spell_draws kept ++ spell_call call)
-spell_up (up.Outcome ltxid) = 4 ∷ spell_ltxid ltxid
-spell_up up.End = 5 ∷ []
-spell_up up.Close = 6 ∷ []
 
 abbrev pub FitsUp : Up → Type 0
 FitsUp (up.Begin settings) = FitsSettings settings
@@ -46,10 +42,6 @@ up_at (tag ∷ rest) =
     else (if tag == 5 then Ok (up.End, rest)
     else (if tag == 6 then Ok (up.Close, rest)
     else Err (BadTag (suc (length rest))))))))
-
--- the frame: the number of the payload's bytes, and the payload
-abbrev pub up_frame : Up → List ℕ
-up_frame frame = spell_bytes (spell_up frame)
 
 -- the rules that a writer's caller sees to
 abbrev pub IsMadeUp : Up → Type 0

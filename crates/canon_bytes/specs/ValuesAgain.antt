@@ -14,9 +14,12 @@ use Rattle.svc_values.specs.declared.draw.DrawKind.{DrawKind}
 use Rattle.svc_values.specs.declared.draw.DrawKind.TheVariants as draw_kind
 use Rattle.svc_values.specs.declared.draw.Draw.{Draw}
 use Rattle.svc_values.specs.declared.draw.Draw.TheVariants as draw
-use Rattle.canon_bytes.specs.Values.{spell_kind, spell_value, spell_row, FitsKind, FitsValue, FitsRow, kind_at, value_at, row_at}
-use Rattle.canon_bytes.specs.Draws.{spell_draw_kind, spell_draw, FitsDrawKind, FitsDraw, draw_kind_at, seq_draw_at, id_draw_at, draw_at}
-use Rattle.canon_bytes.specs.AnswerBytes.{spell_fault, spell_answer, FitsFault, FitsAnswer, fault_at, answer_at}
+use Rattle.canon_bytes.specs.meaning.Values.{spell_value, spell_row, kind_at, value_at, row_at}
+use Rattle.canon_bytes.specs.Values.{spell_kind, FitsKind, FitsValue, FitsRow}
+use Rattle.canon_bytes.specs.meaning.Draws.{spell_draw_kind, spell_draw, draw_kind_at, seq_draw_at, id_draw_at, draw_at}
+use Rattle.canon_bytes.specs.Draws.{FitsDrawKind, FitsDraw}
+use Rattle.canon_bytes.specs.meaning.AnswerBytes.{spell_fault, spell_answer, fault_at, answer_at}
+use Rattle.canon_bytes.specs.AnswerBytes.{FitsFault, FitsAnswer}
 use Rattle.canon_bytes.specs.Again.{u64_again, i64_again, name_again, text_again, octets_again, list_again}
 
 pub kind_again : (x : Kind) (rest : List ℕ) → FitsKind x → kind_at (spell_kind x ++ rest) ≡ Ok (x, rest)

@@ -1,5 +1,6 @@
 //! Answers, and why a statement was refused.
-ghost use Rattle.canon_bytes.specs.AnswerBytes.{spell_fault, spell_answer, FitsFault, FitsAnswer, fault_at, answer_at};
+ghost use Rattle.canon_bytes.specs.meaning.AnswerBytes.{spell_fault, spell_answer, fault_at, answer_at};
+ghost use Rattle.canon_bytes.specs.AnswerBytes.{FitsFault, FitsAnswer};
 ghost use Rattle.canon_bytes.specs.ValuesAgain.{fault_again, answer_again};
 
 use crate::canon::{Put, Take};
@@ -7,7 +8,7 @@ use crate::fault::{Fault, ReadFault};
 use std::alloc::Global;
 use svc_values::{Answer, NoMemory, Rows, StatementFault};
 
-#[tactic(auto, unfolding(crate::specs::AnswerBytes::fault_at))]
+#[tactic(auto, unfolding(crate::specs::meaning::AnswerBytes::fault_at))]
 impl Take for StatementFault {
     ghost spelling = { spell_fault };
 
@@ -41,7 +42,7 @@ impl Put for StatementFault {
     }
 }
 
-#[tactic(auto, unfolding(crate::specs::AnswerBytes::answer_at))]
+#[tactic(auto, unfolding(crate::specs::meaning::AnswerBytes::answer_at))]
 impl Take for Answer {
     ghost spelling = { spell_answer };
 

@@ -1,7 +1,8 @@
 //! Calls.
 ghost use Rattle.std.specs.Prelude.{◌≡◌, ◌∷◌, ◌++◌, IfOk};
 ghost use Rattle.svc_values.specs.Calls.{IsMade};
-ghost use Rattle.canon_bytes.specs.CallBytes.{spell_call, FitsCall, work_at, set_at, call_at};
+ghost use Rattle.canon_bytes.specs.meaning.CallBytes.{spell_call, work_at, set_at, call_at};
+ghost use Rattle.canon_bytes.specs.CallBytes.{FitsCall};
 ghost use Rattle.canon_bytes.specs.Reading.{IsReading};
 ghost use Rattle.canon_bytes.specs.EntriesAgain.{call_again};
 
@@ -11,7 +12,7 @@ use std::alloc::Global;
 use svc_values::{Call, Name, NoMemory, Statements, Text, Value};
 
 /// A work call, behind its tag.
-#[tactic(auto, unfolding(crate::specs::CallBytes::work_at))]
+#[tactic(auto, unfolding(crate::specs::meaning::CallBytes::work_at))]
 fn take_work(alloc: Global, bytes: &[u8]) -> Result<(Call, &[u8]), ReadFault>
     ensures exact { IsReading (λ x. (x.0, x.1.now)) result (work_at bytes.now) }
     ensures found { IfOk result (λ x. 1 ∷ bytes.now ≡ spell_call x.0 ++ x.1.now) }
@@ -26,7 +27,7 @@ fn take_work(alloc: Global, bytes: &[u8]) -> Result<(Call, &[u8]), ReadFault>
 }
 
 /// A call that changes a setting, behind its tag.
-#[tactic(auto, unfolding(crate::specs::CallBytes::set_at))]
+#[tactic(auto, unfolding(crate::specs::meaning::CallBytes::set_at))]
 fn take_set(alloc: Global, bytes: &[u8]) -> Result<(Call, &[u8]), ReadFault>
     ensures exact { IsReading (λ x. (x.0, x.1.now)) result (set_at bytes.now) }
     ensures found { IfOk result (λ x. 2 ∷ bytes.now ≡ spell_call x.0 ++ x.1.now) }
@@ -37,7 +38,7 @@ fn take_set(alloc: Global, bytes: &[u8]) -> Result<(Call, &[u8]), ReadFault>
     Ok((Call::Set { name, value }, rest))
 }
 
-#[tactic(auto, unfolding(crate::specs::CallBytes::call_at))]
+#[tactic(auto, unfolding(crate::specs::meaning::CallBytes::call_at))]
 impl Take for Call {
     ghost spelling = { spell_call };
 

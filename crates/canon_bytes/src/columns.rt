@@ -1,12 +1,13 @@
 //! Columns of tables.
-ghost use Rattle.canon_bytes.specs.ColumnBytes.{spell_column, FitsColumn, column_at, column_again};
+ghost use Rattle.canon_bytes.specs.meaning.ColumnBytes.{column_at};
+ghost use Rattle.canon_bytes.specs.ColumnBytes.{spell_column, FitsColumn, column_again};
 
 use crate::canon::{Put, Take};
 use crate::fault::ReadFault;
 use std::alloc::Global;
 use svc_values::{Column, Kind, Name, NoMemory};
 
-#[tactic(auto, unfolding(crate::specs::ColumnBytes::column_at, crate::specs::ColumnBytes::spell_column))]
+#[tactic(auto, unfolding(crate::specs::meaning::ColumnBytes::column_at, crate::specs::ColumnBytes::spell_column))]
 impl Take for Column {
     ghost spelling = { spell_column };
 

@@ -1,6 +1,7 @@
 //! The payloads of frames to the client.
 ghost use Rattle.std.specs.Prelude.{◌≡◌, ◌∷◌, ◌++◌, IfOk};
-ghost use Rattle.canon_bytes.specs.DownBytes.{spell_ahead, spell_down, FitsDown, IsCause, ahead_at, cause_at, reply_at, outcome_is_at, outcome_refused_at, down_at, IsMadeDown};
+ghost use Rattle.canon_bytes.specs.meaning.DownBytes.{spell_ahead, spell_down};
+ghost use Rattle.canon_bytes.specs.DownBytes.{FitsDown, IsCause, ahead_at, cause_at, reply_at, outcome_is_at, outcome_refused_at, down_at, IsMadeDown};
 ghost use Rattle.canon_bytes.specs.Reading.{IsReading};
 ghost use Rattle.canon_bytes.specs.FramesAgain.{down_again};
 

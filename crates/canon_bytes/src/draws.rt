@@ -1,6 +1,7 @@
 //! What is drawn, and what was drawn.
 ghost use Rattle.std.specs.Prelude.{◌≡◌, ◌∷◌, ◌++◌, IfOk};
-ghost use Rattle.canon_bytes.specs.Draws.{spell_draw_kind, spell_draw, FitsDrawKind, FitsDraw, draw_kind_at, seq_draw_at, id_draw_at, draw_at};
+ghost use Rattle.canon_bytes.specs.meaning.Draws.{spell_draw_kind, spell_draw, draw_kind_at, seq_draw_at, id_draw_at, draw_at};
+ghost use Rattle.canon_bytes.specs.Draws.{FitsDrawKind, FitsDraw};
 ghost use Rattle.canon_bytes.specs.Reading.{IsReading};
 ghost use Rattle.canon_bytes.specs.ValuesAgain.{draw_kind_again, draw_again};
 
@@ -9,7 +10,7 @@ use crate::fault::{Fault, ReadFault};
 use std::alloc::Global;
 use svc_values::{Draw, DrawKind, Name, NoMemory};
 
-#[tactic(auto, unfolding(crate::specs::Draws::draw_kind_at))]
+#[tactic(auto, unfolding(crate::specs::meaning::Draws::draw_kind_at))]
 impl Take for DrawKind {
     ghost spelling = { spell_draw_kind };
 
@@ -47,7 +48,7 @@ impl Put for DrawKind {
 }
 
 /// A sequence's draw, behind its tag.
-#[tactic(auto, unfolding(crate::specs::Draws::seq_draw_at))]
+#[tactic(auto, unfolding(crate::specs::meaning::Draws::seq_draw_at))]
 fn take_seq(alloc: Global, bytes: &[u8]) -> Result<(Draw, &[u8]), ReadFault>
     ensures exact { IsReading (λ x. (x.0, x.1.now)) result (seq_draw_at bytes.now) }
     ensures found { IfOk result (λ x. 1 ∷ bytes.now ≡ spell_draw x.0 ++ x.1.now) }
@@ -59,7 +60,7 @@ fn take_seq(alloc: Global, bytes: &[u8]) -> Result<(Draw, &[u8]), ReadFault>
 }
 
 /// An identifier's draw, behind its tag.
-#[tactic(auto, unfolding(crate::specs::Draws::id_draw_at))]
+#[tactic(auto, unfolding(crate::specs::meaning::Draws::id_draw_at))]
 fn take_id(bytes: &[u8]) -> Result<(Draw, &[u8]), ReadFault>
     ensures exact { IsReading (λ x. (x.0, x.1.now)) result (id_draw_at bytes.now) }
     ensures found { IfOk result (λ x. 3 ∷ bytes.now ≡ spell_draw x.0 ++ x.1.now) }
@@ -71,7 +72,7 @@ fn take_id(bytes: &[u8]) -> Result<(Draw, &[u8]), ReadFault>
     }
 }
 
-#[tactic(auto, unfolding(crate::specs::Draws::draw_at))]
+#[tactic(auto, unfolding(crate::specs::meaning::Draws::draw_at))]
 impl Take for Draw {
     ghost spelling = { spell_draw };
 

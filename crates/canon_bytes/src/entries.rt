@@ -1,8 +1,9 @@
 //! Identifiers of transactions, and what the journal keeps of a transaction.
 ghost use Rattle.std.specs.Prelude.{◌≡◌, ◌≤◌, ◌^◌, ◌++◌, IfOk};
 ghost use Rattle.svc_values.specs.Identifiers.{IsLtxid};
-ghost use Rattle.canon_bytes.specs.Numbers.{spell_u64};
-ghost use Rattle.canon_bytes.specs.Entries.{spell_ltxid, spell_piece, spell_write, spell_entry, FitsLtxid, FitsPiece, FitsWrite, FitsEntry, part_at, ltxid_at, piece_at, write_at, entry_at, IsMadePiece, IsMadeEntry};
+ghost use Rattle.canon_bytes.specs.meaning.Numbers.{spell_u64};
+ghost use Rattle.canon_bytes.specs.meaning.Entries.{spell_ltxid, part_at, ltxid_at, piece_at, write_at, entry_at};
+ghost use Rattle.canon_bytes.specs.Entries.{spell_piece, spell_write, spell_entry, FitsLtxid, FitsPiece, FitsWrite, FitsEntry, IsMadePiece, IsMadeEntry};
 ghost use Rattle.canon_bytes.specs.Reading.{IsReading};
 ghost use Rattle.canon_bytes.specs.EntriesAgain.{ltxid_again, piece_again, write_again, entry_again};
 
@@ -15,7 +16,7 @@ use svc_values::{
 };
 
 /// A part of an identifier.
-#[tactic(auto, unfolding(crate::specs::Entries::part_at))]
+#[tactic(auto, unfolding(crate::specs::meaning::Entries::part_at))]
 fn take_part(alloc: Global, bytes: &[u8]) -> Result<(u64, &[u8]), ReadFault>
     ensures exact { IsReading (λ x. (x.0, x.1.now)) result (part_at bytes.now) }
     ensures found { IfOk result (λ x. bytes.now ≡ spell_u64 x.0 ++ x.1.now) }
@@ -28,7 +29,7 @@ fn take_part(alloc: Global, bytes: &[u8]) -> Result<(u64, &[u8]), ReadFault>
     Ok((part, rest))
 }
 
-#[tactic(auto, unfolding(crate::specs::Entries::ltxid_at, crate::specs::Entries::spell_ltxid))]
+#[tactic(auto, unfolding(crate::specs::meaning::Entries::ltxid_at, crate::specs::meaning::Entries::spell_ltxid))]
 impl Take for Ltxid {
     ghost spelling = { spell_ltxid };
 
@@ -51,7 +52,7 @@ impl Take for Ltxid {
     }
 }
 
-#[tactic(auto, unfolding(crate::specs::Entries::spell_ltxid))]
+#[tactic(auto, unfolding(crate::specs::meaning::Entries::spell_ltxid))]
 impl PutMade for Ltxid {
     ghost made = { IsLtxid };
 
@@ -62,7 +63,7 @@ impl PutMade for Ltxid {
     }
 }
 
-#[tactic(auto, unfolding(crate::specs::Entries::piece_at, crate::specs::Entries::spell_piece))]
+#[tactic(auto, unfolding(crate::specs::meaning::Entries::piece_at, crate::specs::Entries::spell_piece))]
 impl Take for Piece {
     ghost spelling = { spell_piece };
 
@@ -96,7 +97,7 @@ impl PutMade for Piece {
     }
 }
 
-#[tactic(auto, unfolding(crate::specs::Entries::write_at, crate::specs::Entries::spell_write))]
+#[tactic(auto, unfolding(crate::specs::meaning::Entries::write_at, crate::specs::Entries::spell_write))]
 impl Take for Write {
     ghost spelling = { spell_write };
 
@@ -123,7 +124,7 @@ impl Put for Write {
     }
 }
 
-#[tactic(auto, unfolding(crate::specs::Entries::entry_at, crate::specs::Entries::spell_entry))]
+#[tactic(auto, unfolding(crate::specs::meaning::Entries::entry_at, crate::specs::Entries::spell_entry))]
 impl Take for Entry {
     ghost spelling = { spell_entry };
 

@@ -1,7 +1,8 @@
 //! Lists: written and read once for all types of items.
 ghost use Rattle.std.specs.Prelude.{◌≡◌, ◌*◌, ◌≤◌, ◌++◌, length, IfOk, OnOk};
 ghost use Rattle.std.specs.List.{flat_map, AllByRecursion};
-ghost use Rattle.canon_bytes.specs.Lists.{spell_list, FitsList, FitsListed, items_at, list_at, listed_at};
+ghost use Rattle.canon_bytes.specs.meaning.Lists.{spell_list, items_at, list_at, listed_at};
+ghost use Rattle.canon_bytes.specs.Lists.{FitsList, FitsListed};
 ghost use Rattle.canon_bytes.specs.Reading.{IsReading};
 ghost use Rattle.canon_bytes.specs.Again.{list_again, listed_again};
 
@@ -70,7 +71,7 @@ fn take_items<T: Take + Drop>(
     Ok((items, rest))
 }
 
-#[tactic(auto, unfolding(crate::specs::Lists::list_at, crate::specs::Lists::spell_list))]
+#[tactic(auto, unfolding(crate::specs::meaning::Lists::list_at, crate::specs::meaning::Lists::spell_list))]
 impl<T: Take + Drop, const LIMIT: usize> Take for Limited<T, LIMIT> {
     ghost spelling = { spell_list T.spelling };
 
@@ -90,7 +91,7 @@ impl<T: Take + Drop, const LIMIT: usize> Take for Limited<T, LIMIT> {
     }
 }
 
-#[tactic(auto, unfolding(crate::specs::Lists::spell_list))]
+#[tactic(auto, unfolding(crate::specs::meaning::Lists::spell_list))]
 impl<T: Put + Drop, const LIMIT: usize> Put for Limited<T, LIMIT> {
     fn put(&self, out: &mut Vec<u8>) -> Result<(), NoMemory> {
         (self.len() as u64).put(out)?;
@@ -98,7 +99,7 @@ impl<T: Put + Drop, const LIMIT: usize> Put for Limited<T, LIMIT> {
     }
 }
 
-#[tactic(auto, unfolding(crate::specs::Lists::listed_at, crate::specs::Lists::spell_list))]
+#[tactic(auto, unfolding(crate::specs::meaning::Lists::listed_at, crate::specs::meaning::Lists::spell_list))]
 impl<T: Take + Drop> Take for Listed<T> {
     ghost spelling = { spell_list T.spelling };
 
@@ -115,7 +116,7 @@ impl<T: Take + Drop> Take for Listed<T> {
     }
 }
 
-#[tactic(auto, unfolding(crate::specs::Lists::spell_list))]
+#[tactic(auto, unfolding(crate::specs::meaning::Lists::spell_list))]
 impl<T: Put + Drop> Put for Listed<T> {
     fn put(&self, out: &mut Vec<u8>) -> Result<(), NoMemory> {
         (self.len() as u64).put(out)?;
@@ -123,7 +124,7 @@ impl<T: Put + Drop> Put for Listed<T> {
     }
 }
 
-#[tactic(auto, unfolding(crate::specs::Lists::spell_list))]
+#[tactic(auto, unfolding(crate::specs::meaning::Lists::spell_list))]
 impl<T: PutMade + Drop> PutMade for Listed<T> {
     ghost made = { AllByRecursion T.made };
 

@@ -1,5 +1,6 @@
 //! Numbers and flags.
-ghost use Rattle.canon_bytes.specs.Numbers.{spell_u64, spell_i64, spell_bool, FitsU64, FitsI64, FitsBool, u64_at, i64_at, bool_at};
+ghost use Rattle.canon_bytes.specs.meaning.Numbers.{spell_u64, spell_i64, spell_bool, u64_at, i64_at, bool_at};
+ghost use Rattle.canon_bytes.specs.Numbers.{FitsU64, FitsI64, FitsBool};
 ghost use Rattle.canon_bytes.specs.Again.{u64_again, i64_again, bool_again};
 
 use crate::canon::{Put, Take};
@@ -7,7 +8,7 @@ use crate::fault::{Fault, ReadFault};
 use std::alloc::Global;
 use svc_values::NoMemory;
 
-#[tactic(auto, unfolding(crate::specs::Numbers::u64_at, crate::specs::Numbers::spell_u64))]
+#[tactic(auto, unfolding(crate::specs::meaning::Numbers::u64_at, crate::specs::meaning::Numbers::spell_u64))]
 impl Take for u64 {
     ghost spelling = { spell_u64 };
 
@@ -29,7 +30,7 @@ impl Take for u64 {
     }
 }
 
-#[tactic(auto, unfolding(crate::specs::Numbers::u64_at, crate::specs::Numbers::spell_u64))]
+#[tactic(auto, unfolding(crate::specs::meaning::Numbers::u64_at, crate::specs::meaning::Numbers::spell_u64))]
 impl Put for u64 {
     fn put(&self, out: &mut Vec<u8>) -> Result<(), NoMemory> {
         out.extend_from_slice(&self.to_be_bytes())?;
@@ -37,7 +38,7 @@ impl Put for u64 {
     }
 }
 
-#[tactic(auto, unfolding(crate::specs::Numbers::i64_at, crate::specs::Numbers::spell_i64, crate::specs::Numbers::spell_u64))]
+#[tactic(auto, unfolding(crate::specs::meaning::Numbers::i64_at, crate::specs::meaning::Numbers::spell_i64, crate::specs::meaning::Numbers::spell_u64))]
 impl Take for i64 {
     ghost spelling = { spell_i64 };
 
@@ -53,14 +54,14 @@ impl Take for i64 {
     }
 }
 
-#[tactic(auto, unfolding(crate::specs::Numbers::i64_at, crate::specs::Numbers::spell_i64, crate::specs::Numbers::spell_u64))]
+#[tactic(auto, unfolding(crate::specs::meaning::Numbers::i64_at, crate::specs::meaning::Numbers::spell_i64, crate::specs::meaning::Numbers::spell_u64))]
 impl Put for i64 {
     fn put(&self, out: &mut Vec<u8>) -> Result<(), NoMemory> {
         self.cast_unsigned().put(out)
     }
 }
 
-#[tactic(auto, unfolding(crate::specs::Numbers::bool_at))]
+#[tactic(auto, unfolding(crate::specs::meaning::Numbers::bool_at))]
 impl Take for bool {
     ghost spelling = { spell_bool };
 

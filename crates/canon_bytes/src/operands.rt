@@ -1,5 +1,6 @@
 //! Operands, changes and tests.
-ghost use Rattle.canon_bytes.specs.Operands.{spell_operand, spell_change, spell_test, FitsOperand, FitsChange, FitsTest, operand_at, change_at, test_at};
+ghost use Rattle.canon_bytes.specs.meaning.Operands.{spell_operand, spell_change, spell_test, operand_at, change_at, test_at};
+ghost use Rattle.canon_bytes.specs.Operands.{FitsOperand, FitsChange, FitsTest};
 ghost use Rattle.canon_bytes.specs.StatementsAgain.{operand_again, change_again, test_again};
 
 use crate::canon::{Put, Take};
@@ -7,7 +8,7 @@ use crate::fault::{Fault, ReadFault};
 use std::alloc::Global;
 use svc_values::{Change, DrawKind, Name, NoMemory, Operand, Test, Value};
 
-#[tactic(auto, unfolding(crate::specs::Operands::operand_at))]
+#[tactic(auto, unfolding(crate::specs::meaning::Operands::operand_at))]
 impl Take for Operand {
     ghost spelling = { spell_operand };
 
@@ -56,7 +57,7 @@ impl Put for Operand {
     }
 }
 
-#[tactic(auto, unfolding(crate::specs::Operands::change_at))]
+#[tactic(auto, unfolding(crate::specs::meaning::Operands::change_at))]
 impl Take for Change {
     ghost spelling = { spell_change };
 
@@ -97,7 +98,7 @@ impl Put for Change {
     }
 }
 
-#[tactic(auto, unfolding(crate::specs::Operands::test_at))]
+#[tactic(auto, unfolding(crate::specs::meaning::Operands::test_at))]
 impl Take for Test {
     ghost spelling = { spell_test };
 

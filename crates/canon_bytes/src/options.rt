@@ -1,5 +1,6 @@
 //! What may be absent.
-ghost use Rattle.canon_bytes.specs.Options.{spell_option, FitsOption, option_at};
+ghost use Rattle.canon_bytes.specs.meaning.Options.{option_at};
+ghost use Rattle.canon_bytes.specs.Options.{spell_option, FitsOption};
 ghost use Rattle.canon_bytes.specs.EntriesAgain.{option_again};
 
 use crate::canon::{Put, Take};
@@ -7,7 +8,7 @@ use crate::fault::{Fault, ReadFault};
 use std::alloc::Global;
 use svc_values::NoMemory;
 
-#[tactic(auto, unfolding(crate::specs::Options::option_at))]
+#[tactic(auto, unfolding(crate::specs::meaning::Options::option_at))]
 impl<T: Take + Drop> Take for Option<T> {
     ghost spelling = { spell_option T.spelling };
 

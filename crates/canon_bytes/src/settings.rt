@@ -2,7 +2,8 @@
 ghost use Rattle.std.specs.Prelude.{◌≡◌, ◌++◌, None, length, IfOk, OnOk};
 ghost use Rattle.std.specs.List.{flat_map, AllByRecursion};
 ghost use Rattle.svc_values.specs.SettingsList.{AreSettings, AllBelow, last_name};
-ghost use Rattle.canon_bytes.specs.SettingsBytes.{spell_setting, spell_settings, FitsSetting, FitsSettings, setting_at, settings_behind, settings_at};
+ghost use Rattle.canon_bytes.specs.meaning.SettingsBytes.{spell_setting, spell_settings, setting_at, settings_behind, settings_at};
+ghost use Rattle.canon_bytes.specs.SettingsBytes.{FitsSetting, FitsSettings};
 ghost use Rattle.canon_bytes.specs.Reading.{IsReading};
 ghost use Rattle.canon_bytes.specs.SettingsAgain.{settings_again};
 
@@ -12,7 +13,7 @@ use std::alloc::Global;
 use svc_values::{Name, NoMemory, Settings, Value};
 
 /// A setting with a name above those so far.
-#[tactic(auto, unfolding(crate::specs::SettingsBytes::setting_at))]
+#[tactic(auto, unfolding(crate::specs::meaning::SettingsBytes::setting_at))]
 fn take_setting<'a>(
     alloc: Global,
     settings: &Settings,
@@ -62,7 +63,7 @@ fn put_each(settings: &Settings, out: &mut Vec<u8>) -> Result<(), NoMemory>
     Ok(())
 }
 
-#[tactic(auto, unfolding(crate::specs::SettingsBytes::settings_at, crate::specs::Lists::spell_list))]
+#[tactic(auto, unfolding(crate::specs::meaning::SettingsBytes::settings_at, crate::specs::meaning::Lists::spell_list))]
 impl Take for Settings {
     ghost spelling = { spell_settings };
 
@@ -78,7 +79,7 @@ impl Take for Settings {
     }
 }
 
-#[tactic(auto, unfolding(crate::specs::Lists::spell_list))]
+#[tactic(auto, unfolding(crate::specs::meaning::Lists::spell_list))]
 impl Put for Settings {
     fn put(&self, out: &mut Vec<u8>) -> Result<(), NoMemory> {
         (self.len() as u64).put(out)?;

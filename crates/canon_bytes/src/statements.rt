@@ -1,6 +1,7 @@
 //! Statements.
 ghost use Rattle.std.specs.Prelude.{◌≡◌, ◌∷◌, ◌++◌, IfOk};
-ghost use Rattle.canon_bytes.specs.StatementBytes.{spell_statement, FitsStatement, insert_at, update_at, delete_at, get_at, select_at, sum_at, statement_at};
+ghost use Rattle.canon_bytes.specs.meaning.StatementBytes.{spell_statement, insert_at, update_at, delete_at, get_at, select_at, sum_at, statement_at};
+ghost use Rattle.canon_bytes.specs.StatementBytes.{FitsStatement};
 ghost use Rattle.canon_bytes.specs.Reading.{IsReading};
 ghost use Rattle.canon_bytes.specs.StatementsAgain.{statement_again};
 
@@ -9,7 +10,7 @@ use crate::fault::{Fault, ReadFault};
 use std::alloc::Global;
 use svc_values::{Change, Name, NoMemory, Operand, Operands, Statement, Test};
 
-#[tactic(auto, unfolding(crate::specs::StatementBytes::statement_at, crate::specs::StatementBytes::insert_at, crate::specs::StatementBytes::update_at, crate::specs::StatementBytes::delete_at, crate::specs::StatementBytes::get_at, crate::specs::StatementBytes::select_at, crate::specs::StatementBytes::sum_at))]
+#[tactic(auto, unfolding(crate::specs::meaning::StatementBytes::statement_at, crate::specs::meaning::StatementBytes::insert_at, crate::specs::meaning::StatementBytes::update_at, crate::specs::meaning::StatementBytes::delete_at, crate::specs::meaning::StatementBytes::get_at, crate::specs::meaning::StatementBytes::select_at, crate::specs::meaning::StatementBytes::sum_at))]
 impl Take for Statement {
     ghost spelling = { spell_statement };
 
@@ -100,7 +101,7 @@ impl Put for Statement {
     }
 }
 
-#[tactic(auto, unfolding(crate::specs::StatementBytes::insert_at))]
+#[tactic(auto, unfolding(crate::specs::meaning::StatementBytes::insert_at))]
 fn take_insert(alloc: Global, bytes: &[u8]) -> Result<(Statement, &[u8]), ReadFault>
     ensures exact { IsReading (λ x. (x.0, x.1.now)) result (insert_at bytes.now) }
     ensures found { IfOk result (λ x. 1 ∷ bytes.now ≡ spell_statement x.0 ++ x.1.now) }
@@ -111,7 +112,7 @@ fn take_insert(alloc: Global, bytes: &[u8]) -> Result<(Statement, &[u8]), ReadFa
     Ok((Statement::Insert { table, values }, rest))
 }
 
-#[tactic(auto, unfolding(crate::specs::StatementBytes::update_at))]
+#[tactic(auto, unfolding(crate::specs::meaning::StatementBytes::update_at))]
 fn take_update(alloc: Global, bytes: &[u8]) -> Result<(Statement, &[u8]), ReadFault>
     ensures exact { IsReading (λ x. (x.0, x.1.now)) result (update_at bytes.now) }
     ensures found { IfOk result (λ x. 2 ∷ bytes.now ≡ spell_statement x.0 ++ x.1.now) }
@@ -130,7 +131,7 @@ fn take_update(alloc: Global, bytes: &[u8]) -> Result<(Statement, &[u8]), ReadFa
     Ok((statement, rest))
 }
 
-#[tactic(auto, unfolding(crate::specs::StatementBytes::delete_at))]
+#[tactic(auto, unfolding(crate::specs::meaning::StatementBytes::delete_at))]
 fn take_delete(alloc: Global, bytes: &[u8]) -> Result<(Statement, &[u8]), ReadFault>
     ensures exact { IsReading (λ x. (x.0, x.1.now)) result (delete_at bytes.now) }
     ensures found { IfOk result (λ x. 3 ∷ bytes.now ≡ spell_statement x.0 ++ x.1.now) }
@@ -141,7 +142,7 @@ fn take_delete(alloc: Global, bytes: &[u8]) -> Result<(Statement, &[u8]), ReadFa
     Ok((Statement::Delete { table, key }, rest))
 }
 
-#[tactic(auto, unfolding(crate::specs::StatementBytes::get_at))]
+#[tactic(auto, unfolding(crate::specs::meaning::StatementBytes::get_at))]
 fn take_get(alloc: Global, bytes: &[u8]) -> Result<(Statement, &[u8]), ReadFault>
     ensures exact { IsReading (λ x. (x.0, x.1.now)) result (get_at bytes.now) }
     ensures found { IfOk result (λ x. 4 ∷ bytes.now ≡ spell_statement x.0 ++ x.1.now) }
@@ -152,7 +153,7 @@ fn take_get(alloc: Global, bytes: &[u8]) -> Result<(Statement, &[u8]), ReadFault
     Ok((Statement::Get { table, key }, rest))
 }
 
-#[tactic(auto, unfolding(crate::specs::StatementBytes::select_at))]
+#[tactic(auto, unfolding(crate::specs::meaning::StatementBytes::select_at))]
 fn take_select(alloc: Global, bytes: &[u8]) -> Result<(Statement, &[u8]), ReadFault>
     ensures exact { IsReading (λ x. (x.0, x.1.now)) result (select_at bytes.now) }
     ensures found { IfOk result (λ x. 5 ∷ bytes.now ≡ spell_statement x.0 ++ x.1.now) }
@@ -171,7 +172,7 @@ fn take_select(alloc: Global, bytes: &[u8]) -> Result<(Statement, &[u8]), ReadFa
     Ok((statement, rest))
 }
 
-#[tactic(auto, unfolding(crate::specs::StatementBytes::sum_at))]
+#[tactic(auto, unfolding(crate::specs::meaning::StatementBytes::sum_at))]
 fn take_sum(alloc: Global, bytes: &[u8]) -> Result<(Statement, &[u8]), ReadFault>
     ensures exact { IsReading (λ x. (x.0, x.1.now)) result (sum_at bytes.now) }
     ensures found { IfOk result (λ x. 7 ∷ bytes.now ≡ spell_statement x.0 ++ x.1.now) }

@@ -1,6 +1,7 @@
 //! Names, texts and octets.
 ghost use Rattle.std.specs.Prelude.{◌≡◌, ◌≤◌, ◌++◌, IfOk, OnOk, length};
-ghost use Rattle.canon_bytes.specs.TextBytes.{spell_bytes, FitsName, FitsText, FitsOctets, bytes_at, name_at, text_at, octets_at};
+ghost use Rattle.canon_bytes.specs.meaning.TextBytes.{spell_bytes, bytes_at, name_at, text_at, octets_at};
+ghost use Rattle.canon_bytes.specs.TextBytes.{FitsName, FitsText, FitsOctets};
 ghost use Rattle.canon_bytes.specs.Reading.{IsReading};
 ghost use Rattle.canon_bytes.specs.Again.{name_again, text_again, octets_again};
 
@@ -11,7 +12,7 @@ use std::str;
 use svc_values::{Name, NameFault, NoMemory, Octets, Text, TextFault};
 
 /// Writes how many bytes there are, and the bytes.
-#[tactic(auto, unfolding(crate::specs::TextBytes::spell_bytes))]
+#[tactic(auto, unfolding(crate::specs::meaning::TextBytes::spell_bytes))]
 fn put_bytes(bytes: &[u8], out: &mut Vec<u8>) -> Result<(), NoMemory>
     ensures { OnOk result (out.new.items ≡ out.old.items ++ spell_bytes bytes.now) }
 {
@@ -21,7 +22,7 @@ fn put_bytes(bytes: &[u8], out: &mut Vec<u8>) -> Result<(), NoMemory>
 }
 
 /// At most `limit` bytes behind their number.
-#[tactic(auto, unfolding(crate::specs::TextBytes::bytes_at, crate::specs::TextBytes::spell_bytes))]
+#[tactic(auto, unfolding(crate::specs::meaning::TextBytes::bytes_at, crate::specs::meaning::TextBytes::spell_bytes))]
 fn take_bytes(alloc: Global, limit: u64, bytes: &[u8]) -> Result<(&[u8], &[u8]), ReadFault>
     ensures exact { IsReading (λ x. (x.0.now, x.1.now)) result (bytes_at limit bytes.now) }
     ensures found { IfOk result (λ x. bytes.now ≡ spell_bytes x.0.now ++ x.1.now) }
@@ -38,7 +39,7 @@ fn take_bytes(alloc: Global, limit: u64, bytes: &[u8]) -> Result<(&[u8], &[u8]),
     Ok(rest.split_at(count))
 }
 
-#[tactic(auto, unfolding(crate::specs::TextBytes::octets_at))]
+#[tactic(auto, unfolding(crate::specs::meaning::TextBytes::octets_at))]
 impl Take for Octets {
     ghost spelling = { spell_bytes };
 
@@ -64,7 +65,7 @@ impl Put for Octets {
     }
 }
 
-#[tactic(auto, unfolding(crate::specs::TextBytes::text_at))]
+#[tactic(auto, unfolding(crate::specs::meaning::TextBytes::text_at))]
 impl Take for Text {
     ghost spelling = { spell_bytes };
 
@@ -95,7 +96,7 @@ impl Put for Text {
     }
 }
 
-#[tactic(auto, unfolding(crate::specs::TextBytes::name_at))]
+#[tactic(auto, unfolding(crate::specs::meaning::TextBytes::name_at))]
 impl Take for Name {
     ghost spelling = { spell_bytes };
 

@@ -1,6 +1,7 @@
 //! The payloads of frames to the server.
 ghost use Rattle.std.specs.Prelude.{◌≡◌, ◌∷◌, ◌++◌, IfOk};
-ghost use Rattle.canon_bytes.specs.UpBytes.{spell_up, FitsUp, up_call_at, up_at, IsMadeUp};
+ghost use Rattle.canon_bytes.specs.meaning.UpBytes.{spell_up};
+ghost use Rattle.canon_bytes.specs.UpBytes.{FitsUp, up_call_at, up_at, IsMadeUp};
 ghost use Rattle.canon_bytes.specs.Reading.{IsReading};
 ghost use Rattle.canon_bytes.specs.FramesAgain.{up_again};
 

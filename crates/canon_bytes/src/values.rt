@@ -1,5 +1,6 @@
 //! Kinds and values.
-ghost use Rattle.canon_bytes.specs.Values.{spell_kind, spell_value, FitsKind, FitsValue, kind_at, value_at};
+ghost use Rattle.canon_bytes.specs.meaning.Values.{spell_value, kind_at, value_at};
+ghost use Rattle.canon_bytes.specs.Values.{spell_kind, FitsKind, FitsValue};
 ghost use Rattle.canon_bytes.specs.ValuesAgain.{kind_again, value_again};
 
 use crate::canon::{Put, Take};
@@ -7,7 +8,7 @@ use crate::fault::{Fault, ReadFault};
 use std::alloc::Global;
 use svc_values::{Kind, NoMemory, Octets, Text, Value};
 
-#[tactic(auto, unfolding(crate::specs::Values::kind_at))]
+#[tactic(auto, unfolding(crate::specs::meaning::Values::kind_at))]
 impl Take for Kind {
     ghost spelling = { spell_kind };
 
@@ -38,7 +39,7 @@ impl Put for Kind {
     }
 }
 
-#[tactic(auto, unfolding(crate::specs::Values::value_at))]
+#[tactic(auto, unfolding(crate::specs::meaning::Values::value_at))]
 impl Take for Value {
     ghost spelling = { spell_value };
 

@@ -1,15 +1,25 @@
 //! The public writers.
 ghost use Rattle.std.specs.Prelude.{◌≡◌, ◌++◌, OnOk, OnErr};
-ghost use Rattle.canon_bytes.specs.AnswerBytes.{spell_rows, FitsRows, spell_answer, FitsAnswer, spell_answers, FitsAnswers};
-ghost use Rattle.canon_bytes.specs.CallBytes.{spell_call, FitsCall};
-ghost use Rattle.canon_bytes.specs.Draws.{spell_draw_kind, FitsDrawKind, spell_draw, FitsDraw, spell_draws, FitsDraws};
-ghost use Rattle.canon_bytes.specs.Entries.{spell_ltxid, FitsLtxid, spell_piece, FitsPiece, IsMadePiece, spell_write, FitsWrite, spell_entry, FitsEntry, IsMadeEntry};
-ghost use Rattle.canon_bytes.specs.Numbers.{spell_u64, FitsU64, spell_i64, FitsI64, spell_bool, FitsBool};
-ghost use Rattle.canon_bytes.specs.Operands.{spell_operand, FitsOperand, spell_operands, FitsOperands, spell_change, FitsChange, spell_test, FitsTest};
-ghost use Rattle.canon_bytes.specs.SettingsBytes.{spell_settings, FitsSettings};
-ghost use Rattle.canon_bytes.specs.StatementBytes.{spell_statement, FitsStatement, spell_statements, FitsStatements};
-ghost use Rattle.canon_bytes.specs.TextBytes.{spell_bytes, FitsName, FitsText, FitsOctets};
-ghost use Rattle.canon_bytes.specs.Values.{spell_kind, FitsKind, spell_value, FitsValue, spell_row, FitsRow};
+ghost use Rattle.canon_bytes.specs.meaning.AnswerBytes.{spell_rows, spell_answer, spell_answers};
+ghost use Rattle.canon_bytes.specs.AnswerBytes.{FitsRows, FitsAnswer, FitsAnswers};
+ghost use Rattle.canon_bytes.specs.meaning.CallBytes.{spell_call};
+ghost use Rattle.canon_bytes.specs.CallBytes.{FitsCall};
+ghost use Rattle.canon_bytes.specs.meaning.Draws.{spell_draw_kind, spell_draw, spell_draws};
+ghost use Rattle.canon_bytes.specs.Draws.{FitsDrawKind, FitsDraw, FitsDraws};
+ghost use Rattle.canon_bytes.specs.meaning.Entries.{spell_ltxid};
+ghost use Rattle.canon_bytes.specs.Entries.{FitsLtxid, spell_piece, FitsPiece, IsMadePiece, spell_write, FitsWrite, spell_entry, FitsEntry, IsMadeEntry};
+ghost use Rattle.canon_bytes.specs.meaning.Numbers.{spell_u64, spell_i64, spell_bool};
+ghost use Rattle.canon_bytes.specs.Numbers.{FitsU64, FitsI64, FitsBool};
+ghost use Rattle.canon_bytes.specs.meaning.Operands.{spell_operand, spell_operands, spell_change, spell_test};
+ghost use Rattle.canon_bytes.specs.Operands.{FitsOperand, FitsOperands, FitsChange, FitsTest};
+ghost use Rattle.canon_bytes.specs.meaning.SettingsBytes.{spell_settings};
+ghost use Rattle.canon_bytes.specs.SettingsBytes.{FitsSettings};
+ghost use Rattle.canon_bytes.specs.meaning.StatementBytes.{spell_statement, spell_statements};
+ghost use Rattle.canon_bytes.specs.StatementBytes.{FitsStatement, FitsStatements};
+ghost use Rattle.canon_bytes.specs.meaning.TextBytes.{spell_bytes};
+ghost use Rattle.canon_bytes.specs.TextBytes.{FitsName, FitsText, FitsOctets};
+ghost use Rattle.canon_bytes.specs.meaning.Values.{spell_value, spell_row};
+ghost use Rattle.canon_bytes.specs.Values.{spell_kind, FitsKind, FitsValue, FitsRow};
 ghost use Rattle.svc_values.specs.Calls.{IsMade};
 ghost use Rattle.svc_values.specs.Identifiers.{IsLtxid};
 

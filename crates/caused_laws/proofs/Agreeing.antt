@@ -9,23 +9,23 @@ use Rattle.svc_values.specs.declared.answer.Answer.{Answer}
 use Rattle.svc_values.specs.declared.call.Call.{Call}
 use Rattle.svc_values.specs.declared.call.Call.TheVariants as call
 use Rattle.request_bounds.specs.declared.rule.Why.{Why}
-use Rattle.request_bounds.specs.Rules.{Rules}
+use Rattle.request_bounds.specs.meaning.Rules.{Rules}
 use Rattle.call_recorder.specs.declared.recorded.Recorded.{Recorded}
 use Rattle.outage_schedule.specs.declared.document.ServiceOf.{ServiceOf}
 use Rattle.outage_schedule.specs.declared.request.ShownCall.{ShownCall}
 use Rattle.client_model.specs.declared.act.Shown.{Shown}
-use Rattle.client_model.specs.Terms.{Terms}
-use Rattle.client_model.specs.Talk.{recorded_as}
-use Rattle.client_model.specs.Talk as talk
-use Rattle.client_model.specs.Account.{reply_reason, since_after}
+use Rattle.client_model.specs.meaning.Terms.{Terms}
+use Rattle.client_model.specs.meaning.Talk.{recorded_as}
+use Rattle.client_model.specs.meaning.Talk as talk
+use Rattle.client_model.specs.meaning.Account.{reply_reason, since_after}
 use Rattle.client_model.specs.Reasons.{rules_of}
-use Rattle.run_clauses.specs.Reports.{shown_call}
-use Rattle.run_clauses.specs.Reports as report
-use Rattle.shown_clauses.specs.Fronts.{first_item, rest_items}
-use Rattle.shown_clauses.specs.Turns.{ends_decided}
-use Rattle.shown_clauses.specs.Facts.{Fact, Submitted, Showed, Course, after_showing, submitted_fact}
-use Rattle.shown_clauses.specs.Reasons.{after_commit_at, full_at, submission_reason, showing_reason, since_now, reason_of}
-use Rattle.shown_clauses.specs.Causes.{first_tick, is_set, is_set_shown}
+use Rattle.run_clauses.specs.meaning.Reports.{shown_call}
+use Rattle.run_clauses.specs.meaning.Reports as report
+use Rattle.shown_clauses.specs.meaning.Fronts.{first_item, rest_items}
+use Rattle.shown_clauses.specs.meaning.Turns.{ends_decided}
+use Rattle.shown_clauses.specs.meaning.Facts.{Fact, Submitted, Showed, Course, after_showing, submitted_fact}
+use Rattle.shown_clauses.specs.meaning.Reasons.{after_commit_at, full_at, submission_reason, showing_reason, since_now, reason_of}
+use Rattle.shown_clauses.specs.meaning.Causes.{first_tick, is_set, is_set_shown}
 use Rattle.caused_laws.specs.ServiceTerms.{kind_of}
 use Rattle.caused_laws.proofs.FactsKnown.{reverse-first, counted, counted-submitted, counted-showed, reason-submitted, reason-showed, tick-submitted, tick-showed, is_off, submit_same, ShowsSame, terms_by, shows_same}
 

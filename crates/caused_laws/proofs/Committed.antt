@@ -13,9 +13,9 @@ use Rattle.request_bounds.specs.declared.rule.After.{After}
 use Rattle.request_bounds.specs.declared.rule.After.TheVariants as after
 use Rattle.request_bounds.specs.declared.rule.Why.{Why}
 use Rattle.request_bounds.specs.declared.rule.Why.TheVariants as why
-use Rattle.request_bounds.specs.Rules.{Rules}
+use Rattle.request_bounds.specs.meaning.Rules.{Rules}
 use Rattle.call_recorder.specs.declared.recorded.Recorded.{Recorded}
-use Rattle.call_recorder.specs.Recording.{noted}
+use Rattle.call_recorder.specs.meaning.Recording.{noted}
 use Rattle.outage_schedule.specs.declared.document.Consistency.{Consistency}
 use Rattle.outage_schedule.specs.declared.document.Consistency.TheVariants as consistency
 use Rattle.outage_schedule.specs.declared.document.Failover.{Failover}
@@ -30,22 +30,23 @@ use Rattle.outage_schedule.specs.declared.item.Served.{Served}
 use Rattle.outage_schedule.specs.declared.note.AskResult.TheVariants as result
 use Rattle.outage_schedule.specs.declared.request.RequestReport.{RequestReport}
 use Rattle.client_model.specs.declared.track.Track.{Track}
-use Rattle.client_model.specs.States.{Living, Asking}
+use Rattle.client_model.specs.meaning.States.{Living, Asking}
 use Rattle.client_model.specs.declared.act.Failed.TheVariants as failed
 use Rattle.client_model.specs.declared.act.Shown.{Shown}
 use Rattle.client_model.specs.declared.input.Input.TheVariants.{Took}
-use Rattle.client_model.specs.Terms.{Terms, Talk}
-use Rattle.client_model.specs.Talk.{is_set, fails, next_call, recorded_as, talk_shown, with_recorded, with_reply, with_shown, after_completed, on_completed, begin_of, sends_call as sends_left}
-use Rattle.client_model.specs.Account.{Account, Outcome as Heard, is_uncommitted, count_uncommitted as heard_uncommitted, hears, hears_outcome, shows, shows_found}
+use Rattle.client_model.specs.meaning.Terms.{Terms, Talk}
+use Rattle.client_model.specs.meaning.Talk.{is_set, fails, next_call, recorded_as, talk_shown, with_recorded, with_reply, with_shown, after_completed, on_completed, begin_of, sends_call as sends_left}
+use Rattle.client_model.specs.meaning.Account.{Account, Outcome as Heard, hears, hears_outcome, shows, shows_found}
+use Rattle.client_model.specs.Account.{is_uncommitted, count_uncommitted as heard_uncommitted}
 use Rattle.client_model.specs.Reasons.{rules_of}
 use Rattle.client_model.proofs.Offered.{Tracked}
-use Rattle.run_clauses.specs.Reports.{told_outcome}
-use Rattle.shown_clauses.specs.Fronts.{first_item, rest_items}
-use Rattle.shown_clauses.specs.Steps.{Step}
-use Rattle.shown_clauses.specs.Reasons.{keeps_settings}
-use Rattle.shown_clauses.specs.Facts.{Course, after_showing, answers_shown, facts_at, shown_fact, submits, submitted_fact}
-use Rattle.shown_clauses.specs.Causes.{AtOutcome, at_outcome, ended_of, is_set_shown, line_at, outcomes_of, says_uncommitted, state_lost_line}
-use Rattle.shown_clauses.specs.Causes as causes
+use Rattle.run_clauses.specs.meaning.Reports.{told_outcome}
+use Rattle.shown_clauses.specs.meaning.Fronts.{first_item, rest_items}
+use Rattle.shown_clauses.specs.meaning.Steps.{Step}
+use Rattle.shown_clauses.specs.meaning.Reasons.{keeps_settings}
+use Rattle.shown_clauses.specs.meaning.Facts.{Course, after_showing, answers_shown, facts_at, shown_fact, submits, submitted_fact}
+use Rattle.shown_clauses.specs.meaning.Causes.{AtOutcome, at_outcome, ended_of, is_set_shown, line_at, outcomes_of, says_uncommitted, state_lost_line}
+use Rattle.shown_clauses.specs.meaning.Causes as causes
 use Rattle.caused_laws.specs.ServiceTerms.{kind_of}
 use Rattle.caused_laws.proofs.Agreeing.{first-drop, or_false, same_set}
 use Rattle.caused_laws.proofs.FactsKnown.{or-none, terms_by}

@@ -10,9 +10,9 @@ use Rattle.svc_values.specs.declared.call.Call.{Call}
 use Rattle.svc_values.specs.declared.draw.Draw.{Draw}
 use Rattle.svc_values.specs.declared.entry.Ltxid.{Ltxid}
 use Rattle.svc_values.specs.declared.frame.Down.TheVariants as down
-use Rattle.svc_values.specs.Same.{same_answers}
+use Rattle.svc_values.specs.meaning.Same.{same_answers}
 use Rattle.svc_values.specs.SameLaws.{same_answers_decide}
-use Rattle.request_bounds.specs.Rules.{Rules}
+use Rattle.request_bounds.specs.meaning.Rules.{Rules}
 use Rattle.call_recorder.specs.declared.recorded.Recorded.{Recorded}
 use Rattle.outage_schedule.specs.declared.document.Request.{Request}
 use Rattle.outage_schedule.specs.declared.document.ServiceOf.{ServiceOf}
@@ -21,20 +21,20 @@ use Rattle.outage_schedule.specs.declared.item.Item.{Item}
 use Rattle.outage_schedule.specs.declared.item.Item.TheVariants as item
 use Rattle.outage_schedule.specs.declared.item.Served.{Served}
 use Rattle.outage_schedule.specs.declared.request.RequestReport.{RequestReport}
-use Rattle.client_model.specs.States.{Repeating, next_of}
-use Rattle.client_model.specs.Verifying.{index_of, verified_more, mismatch}
+use Rattle.client_model.specs.meaning.States.{Repeating, next_of}
+use Rattle.client_model.specs.meaning.Verifying.{index_of, verified_more, mismatch}
 use Rattle.client_model.specs.declared.act.Failed.TheVariants as failed
 use Rattle.client_model.specs.declared.act.Shown.{Shown}
 use Rattle.client_model.specs.declared.input.Input.TheVariants.{Took}
-use Rattle.client_model.specs.Terms.{Terms, Talk}
-use Rattle.client_model.specs.Talk.{next_call, on_compared, on_repeated}
-use Rattle.client_model.specs.Account.{Account}
+use Rattle.client_model.specs.meaning.Terms.{Terms, Talk}
+use Rattle.client_model.specs.meaning.Talk.{next_call, on_compared, on_repeated}
+use Rattle.client_model.specs.meaning.Account.{Account}
 use Rattle.client_model.specs.Reasons.{rules_of}
 use Rattle.client_model.proofs.Offered.{Tracked, Repeats as IsRepeated}
-use Rattle.run_clauses.specs.NoClash.{digest}
-use Rattle.run_clauses.specs.Reports.{shown_call}
-use Rattle.shown_clauses.specs.Causes.{mismatch_by, mismatch_of, mismatch_at, mismatch_line, replayed_index}
-use Rattle.shown_clauses.specs.Steps.{Step}
+use Rattle.run_clauses.specs.meaning.NoClash.{digest}
+use Rattle.run_clauses.specs.meaning.Reports.{shown_call}
+use Rattle.shown_clauses.specs.meaning.Causes.{mismatch_by, mismatch_of, mismatch_at, mismatch_line, replayed_index}
+use Rattle.shown_clauses.specs.meaning.Steps.{Step}
 use Rattle.caused_laws.specs.ServiceTerms.{kind_of}
 use Rattle.caused_laws.proofs.FactsKnown.{terms_by}
 use Rattle.caused_laws.proofs.Repeating.{within, marked_comes}

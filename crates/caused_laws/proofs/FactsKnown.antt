@@ -11,7 +11,7 @@ use Rattle.svc_values.specs.declared.call.Call.TheVariants as call
 use Rattle.request_bounds.specs.declared.rule.Why.TheVariants as why
 use Rattle.request_bounds.specs.declared.rule.After.{After}
 use Rattle.request_bounds.specs.declared.rule.After.TheVariants as after
-use Rattle.request_bounds.specs.Rules.{Rules}
+use Rattle.request_bounds.specs.meaning.Rules.{Rules}
 use Rattle.call_recorder.specs.declared.recorded.Recorded.{Recorded}
 use Rattle.outage_schedule.specs.declared.document.Failover.{Failover}
 use Rattle.outage_schedule.specs.declared.document.Failover.TheVariants as failover
@@ -20,15 +20,15 @@ use Rattle.outage_schedule.specs.declared.document.Consistency.TheVariants as co
 use Rattle.outage_schedule.specs.declared.document.ServiceOf.{ServiceOf}
 use Rattle.outage_schedule.specs.declared.failure.Reason.{Reason}
 use Rattle.outage_schedule.specs.declared.failure.Reason.TheVariants as reason
-use Rattle.client_model.specs.Terms.{Terms}
-use Rattle.client_model.specs.Account.{reply_reason, since_after}
+use Rattle.client_model.specs.meaning.Terms.{Terms}
+use Rattle.client_model.specs.meaning.Account.{reply_reason, since_after}
 use Rattle.client_model.specs.Reasons.{rules_of}
-use Rattle.run_clauses.specs.Reports as report
-use Rattle.shown_clauses.specs.Fronts.{first_item}
-use Rattle.shown_clauses.specs.Turns.{ends_decided}
-use Rattle.shown_clauses.specs.Facts.{Fact, Submitted, Showed}
-use Rattle.shown_clauses.specs.Reasons.{off_at, asked_at, settings_at, after_commit_at, full_at, submission_reason, showing_reason, since_now, reason_from}
-use Rattle.shown_clauses.specs.Causes.{first_tick, submitted_at}
+use Rattle.run_clauses.specs.meaning.Reports as report
+use Rattle.shown_clauses.specs.meaning.Fronts.{first_item}
+use Rattle.shown_clauses.specs.meaning.Turns.{ends_decided}
+use Rattle.shown_clauses.specs.meaning.Facts.{Fact, Submitted, Showed}
+use Rattle.shown_clauses.specs.meaning.Reasons.{off_at, asked_at, settings_at, after_commit_at, full_at, submission_reason, showing_reason, since_now, reason_from}
+use Rattle.shown_clauses.specs.meaning.Causes.{first_tick, submitted_at}
 use Rattle.caused_laws.specs.ServiceTerms.{kind_of, limits_of}
 
 -- FACTS -------------------------------------------------------------------------------------------

@@ -9,7 +9,7 @@ use Rattle.svc_values.specs.declared.frame.Ahead.TheVariants as ahead
 use Rattle.svc_values.specs.declared.frame.Down.{Down}
 use Rattle.svc_values.specs.declared.frame.Down.TheVariants as down
 use Rattle.svc_values.specs.declared.frame.Up.TheVariants as up
-use Rattle.request_bounds.specs.Rules.{Rules}
+use Rattle.request_bounds.specs.meaning.Rules.{Rules}
 use Rattle.outage_schedule.specs.declared.document.Request.{Request}
 use Rattle.outage_schedule.specs.declared.document.ServiceOf.{ServiceOf}
 use Rattle.outage_schedule.specs.declared.item.Item.{Item}
@@ -18,18 +18,18 @@ use Rattle.outage_schedule.specs.declared.item.Served.{Served}
 use Rattle.outage_schedule.specs.declared.note.AskResult.{AskResult}
 use Rattle.outage_schedule.specs.declared.note.AskResult.TheVariants as result
 use Rattle.outage_schedule.specs.declared.request.RequestReport.{RequestReport}
-use Rattle.client_model.specs.States.{Losing, Living, Asking, Repeating, next_of}
+use Rattle.client_model.specs.meaning.States.{Losing, Living, Asking, Repeating, next_of}
 use Rattle.client_model.specs.declared.act.Hold.TheVariants.{Keep}
 use Rattle.client_model.specs.declared.input.Input.TheVariants.{Took}
-use Rattle.client_model.specs.Terms.{Terms, Talk, Phase, Greeting, Asked, Running, Replaying}
-use Rattle.client_model.specs.Talk.{next_call, takes}
+use Rattle.client_model.specs.meaning.Terms.{Terms, Talk, Phase, Greeting, Asked, Running, Replaying}
+use Rattle.client_model.specs.meaning.Talk.{next_call, takes}
 use Rattle.client_model.specs.Conversation.{is_gone_next}
-use Rattle.client_model.specs.Account.{Account}
+use Rattle.client_model.specs.meaning.Account.{Account}
 use Rattle.client_model.specs.Laws.{is_expected}
 use Rattle.client_model.specs.Reasons.{rules_of}
 use Rattle.client_model.proofs.Offered.{Fits, IsTalk}
-use Rattle.run_clauses.specs.NoClash.{digest}
-use Rattle.shown_clauses.specs.Steps.{Step}
+use Rattle.run_clauses.specs.meaning.NoClash.{digest}
+use Rattle.shown_clauses.specs.meaning.Steps.{Step}
 use Rattle.caused_laws.specs.Replies.{reply_to, Answers}
 use Rattle.caused_laws.specs.ServiceTerms.{kind_of}
 use Rattle.caused_laws.specs.Telling.{LostBy}

@@ -4,7 +4,7 @@ use Rattle.std.specs.Prelude.{fold}
 use Rattle.std.proofs.lemmas.Grind.{reverse_onto}
 use Rattle.std.proofs.lemmas.List.{append-nil, append_assoc}
 use Rattle.outage_schedule.specs.declared.document.Request.{Request}
-use Rattle.client_model.specs.Terms.{Terms}
+use Rattle.client_model.specs.meaning.Terms.{Terms}
 use Rattle.caused_laws.specs.Laws.{shown_steps}
 use Rattle.caused_laws.specs.Telling.{ToldStep, Before, Tells, AllTell, behind, inputs_of}
 

@@ -5,25 +5,25 @@ use Rattle.svc_values.specs.declared.answer.Answer.{Answer}
 use Rattle.svc_values.specs.declared.call.Call.{Call}
 use Rattle.svc_values.specs.declared.entry.Ltxid.{Ltxid}
 use Rattle.svc_values.specs.declared.frame.Up.TheVariants as up
-use Rattle.request_bounds.specs.Limits.{has_waited}
-use Rattle.request_bounds.specs.Rules.{Rules}
+use Rattle.request_bounds.specs.meaning.Limits.{has_waited}
+use Rattle.request_bounds.specs.meaning.Rules.{Rules}
 use Rattle.outage_schedule.specs.declared.document.Request.{Request}
 use Rattle.outage_schedule.specs.declared.document.ServiceOf.{ServiceOf}
 use Rattle.outage_schedule.specs.declared.note.GoNote.TheVariants as go
 use Rattle.outage_schedule.specs.declared.request.RequestReport.{RequestReport}
-use Rattle.client_model.specs.States.{Losing}
+use Rattle.client_model.specs.meaning.States.{Losing}
 use Rattle.client_model.specs.declared.act.Failed.TheVariants as failed
 use Rattle.client_model.specs.declared.input.Input.{Input}
 use Rattle.client_model.specs.declared.input.Input.TheVariants.{Start, Waiting, Lent, Opened, TryFailed, Took, Gone}
 use Rattle.client_model.specs.declared.input.Wants.{Wants}
 use Rattle.client_model.specs.declared.input.Wants.TheVariants as wants
-use Rattle.client_model.specs.Terms.{Terms, Talk, Phase, Idle, Unbegun, Queued, Seeking, Greeting, Asked, Running, Replaying}
-use Rattle.client_model.specs.Talk.{stands as with_phase, quiet, sending, fails, lost_of, on_waiting, talk_step, waits_from, wants_in, with_tried}
+use Rattle.client_model.specs.meaning.Terms.{Terms, Talk, Phase, Idle, Unbegun, Queued, Seeking, Greeting, Asked, Running, Replaying}
+use Rattle.client_model.specs.meaning.Talk.{stands as with_phase, quiet, sending, fails, lost_of, on_waiting, talk_step, waits_from, wants_in, with_tried}
 use Rattle.client_model.specs.Conversation.{is_wanted}
-use Rattle.client_model.specs.Account.{Account}
+use Rattle.client_model.specs.meaning.Account.{Account}
 use Rattle.client_model.specs.Reasons.{rules_of}
 use Rattle.client_model.proofs.Offered.{Fits, IsTalk}
-use Rattle.shown_clauses.specs.Steps.{Step}
+use Rattle.shown_clauses.specs.meaning.Steps.{Step}
 use Rattle.caused_laws.specs.ServiceTerms.{kind_of}
 use Rattle.caused_laws.proofs.FactsKnown.{terms_by}
 use Rattle.caused_laws.proofs.Frames.{first_of}

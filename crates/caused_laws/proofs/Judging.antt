@@ -4,7 +4,7 @@ use Rattle.std.specs.Prelude.{fold, flat_map}
 use Rattle.std.proofs.lemmas.List.{append-nil, append_assoc}
 use Rattle.std.proofs.lemmas.List.Sums.{fold-append}
 use Rattle.svc_values.specs.declared.answer.Answer.{Answer}
-use Rattle.request_bounds.specs.Rules.{Rules}
+use Rattle.request_bounds.specs.meaning.Rules.{Rules}
 use Rattle.outage_schedule.specs.declared.document.Request.{Request}
 use Rattle.outage_schedule.specs.declared.document.ServiceOf.{ServiceOf}
 use Rattle.outage_schedule.specs.declared.note.GoNote.{GoNote}
@@ -13,15 +13,16 @@ use Rattle.outage_schedule.specs.declared.request.RequestReport.{RequestReport}
 use Rattle.client_model.specs.declared.input.Input.{Input}
 use Rattle.client_model.specs.declared.input.Input.TheVariants.{Start, Waiting, Lent, Opened, TryFailed, Took, Gone}
 use Rattle.client_model.specs.declared.input.Wants.TheVariants as wants
-use Rattle.client_model.specs.Terms.{Terms, Talk, Phase, Idle}
-use Rattle.client_model.specs.Talk.{wants_in}
-use Rattle.client_model.specs.Conversation.{Timed, MayCome}
+use Rattle.client_model.specs.meaning.Terms.{Terms, Talk, Phase, Idle}
+use Rattle.client_model.specs.meaning.Talk.{wants_in}
+use Rattle.client_model.specs.meaning.Conversation.{Timed}
+use Rattle.client_model.specs.Conversation.{MayCome}
 use Rattle.client_model.specs.Reasons.{rules_of}
-use Rattle.run_clauses.specs.NoClash.{digest}
-use Rattle.run_clauses.specs.Reports.{report_of}
-use Rattle.shown_clauses.specs.Steps.{Step, steps, steps_of}
-use Rattle.shown_clauses.specs.Submissions.{Submission, submissions_by_client}
-use Rattle.shown_clauses.specs.Caused.{Judged, judged_from, judge_step, are_clients_caused, is_client_caused, is_judged_right}
+use Rattle.run_clauses.specs.meaning.NoClash.{digest}
+use Rattle.run_clauses.specs.meaning.Reports.{report_of}
+use Rattle.shown_clauses.specs.meaning.Steps.{Step, steps, steps_of}
+use Rattle.shown_clauses.specs.meaning.Submissions.{Submission, submissions_by_client}
+use Rattle.shown_clauses.specs.meaning.Caused.{Judged, judged_from, judge_step, are_clients_caused, is_client_caused, is_judged_right}
 use Rattle.caused_laws.specs.ServiceTerms.{AreTermsOf, kind_of, limits_of}
 use Rattle.caused_laws.specs.Telling.{ToldStep, Before, first_talk, dones_of, talk_of, begun_with, TellsBy, AllTell, behind, inputs_of, nothing_before, IsConversation}
 use Rattle.caused_laws.specs.Laws.{shown_steps, submission_of, JudgesConversation, IsHeard, AreHeard, JudgesClient, ClientsAreHeard, JudgesReport}

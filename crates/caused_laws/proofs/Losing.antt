@@ -2,21 +2,21 @@
 use Rattle.std.proofs.Common.{◌≡◌, ℕ, ◌+◌, Bool, true, false, List, length, Option, Some, None, refl, sym, subst, ◌∙◌}
 use Rattle.svc_values.specs.declared.answer.Answer.{Answer}
 use Rattle.svc_values.specs.declared.frame.Up.{Up}
-use Rattle.request_bounds.specs.Rules.{Rules}
+use Rattle.request_bounds.specs.meaning.Rules.{Rules}
 use Rattle.request_bounds.specs.declared.rule.Why.{Why}
 use Rattle.outage_schedule.specs.declared.document.Request.{Request}
 use Rattle.outage_schedule.specs.declared.document.ServiceOf.{ServiceOf}
 use Rattle.outage_schedule.specs.declared.note.GoNote.TheVariants as go
 use Rattle.outage_schedule.specs.declared.request.RequestReport.{RequestReport}
-use Rattle.client_model.specs.States.{Losing}
+use Rattle.client_model.specs.meaning.States.{Losing}
 use Rattle.client_model.specs.declared.input.Input.TheVariants.{Gone}
-use Rattle.client_model.specs.Terms.{Terms, Phase, Idle, Unbegun, Queued, Seeking, Greeting, Asked, Running, Replaying}
-use Rattle.client_model.specs.Talk.{loses, quiet}
-use Rattle.client_model.specs.Account.{Account}
-use Rattle.client_model.specs.Account as account
+use Rattle.client_model.specs.meaning.Terms.{Terms, Phase, Idle, Unbegun, Queued, Seeking, Greeting, Asked, Running, Replaying}
+use Rattle.client_model.specs.meaning.Talk.{loses, quiet}
+use Rattle.client_model.specs.meaning.Account.{Account}
+use Rattle.client_model.specs.meaning.Account as account
 use Rattle.client_model.specs.Reasons.{rules_of}
-use Rattle.shown_clauses.specs.Fronts.{is_empty}
-use Rattle.shown_clauses.specs.Steps.{Step}
+use Rattle.shown_clauses.specs.meaning.Fronts.{is_empty}
+use Rattle.shown_clauses.specs.meaning.Steps.{Step}
 use Rattle.caused_laws.specs.ServiceTerms.{kind_of}
 use Rattle.caused_laws.proofs.FactsKnown.{terms_by}
 use Rattle.caused_laws.proofs.Slots.{made, early_same, never_sends}

@@ -9,20 +9,21 @@ use Rattle.svc_values.specs.declared.answer.Answer.{Answer}
 use Rattle.svc_values.specs.declared.entry.Ltxid.{Ltxid}
 use Rattle.svc_values.specs.declared.frame.Up.{Up}
 use Rattle.svc_values.specs.declared.frame.Up.TheVariants as up
-use Rattle.svc_values.specs.Identifiers.{same_ltxid}
-use Rattle.svc_values.specs.Same.{same_bool}
+use Rattle.svc_values.specs.meaning.Identifiers.{same_ltxid}
+use Rattle.svc_values.specs.meaning.Same.{same_bool}
 use Rattle.svc_values.specs.SameLaws.{same_ltxid_decides}
-use Rattle.request_bounds.specs.Rules.{Rules}
+use Rattle.request_bounds.specs.meaning.Rules.{Rules}
 use Rattle.outage_schedule.specs.declared.document.ServiceOf.{ServiceOf}
 use Rattle.outage_schedule.specs.declared.request.Outcome.{Outcome}
 use Rattle.outage_schedule.specs.declared.request.RequestReport.{RequestReport}
-use Rattle.client_model.specs.Account.{Account, Outcome as Heard, is_uncommitted, begins, sends}
-use Rattle.run_clauses.specs.Reports.{told_outcome}
-use Rattle.shown_clauses.specs.Links.{Link}
-use Rattle.shown_clauses.specs.Steps.{Step}
-use Rattle.shown_clauses.specs.Showings.{same_outcome}
-use Rattle.shown_clauses.specs.Causes.{has_held, ended_of, says_uncommitted}
-use Rattle.shown_clauses.specs.Caused.{count_uncommitted, is_last_outcome}
+use Rattle.client_model.specs.meaning.Account.{Account, Outcome as Heard, begins, sends}
+use Rattle.client_model.specs.Account.{is_uncommitted}
+use Rattle.run_clauses.specs.meaning.Reports.{told_outcome}
+use Rattle.shown_clauses.specs.meaning.Links.{Link}
+use Rattle.shown_clauses.specs.meaning.Steps.{Step}
+use Rattle.shown_clauses.specs.meaning.Showings.{same_outcome}
+use Rattle.shown_clauses.specs.meaning.Causes.{has_held, ended_of, says_uncommitted}
+use Rattle.shown_clauses.specs.meaning.Caused.{count_uncommitted, is_last_outcome}
 use Rattle.caused_laws.specs.Telling.{WasLost}
 use Rattle.caused_laws.proofs.FactsKnown.{terms_by}
 use Rattle.caused_laws.proofs.Submitting.{and_both}

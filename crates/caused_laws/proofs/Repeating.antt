@@ -9,27 +9,27 @@ use Rattle.svc_values.specs.declared.call.Call.{Call}
 use Rattle.svc_values.specs.declared.value.Value.{Value}
 use Rattle.svc_values.specs.declared.frame.Down.{Down}
 use Rattle.svc_values.specs.declared.frame.Up.TheVariants as up
-use Rattle.request_bounds.specs.Rules.{Rules}
+use Rattle.request_bounds.specs.meaning.Rules.{Rules}
 use Rattle.call_recorder.specs.declared.recorded.Recorded.{Recorded}
 use Rattle.outage_schedule.specs.declared.document.Request.{Request}
 use Rattle.outage_schedule.specs.declared.document.ServiceOf.{ServiceOf}
 use Rattle.outage_schedule.specs.declared.item.Item.{Item}
 use Rattle.outage_schedule.specs.declared.item.Served.{Served}
 use Rattle.outage_schedule.specs.declared.request.RequestReport.{RequestReport}
-use Rattle.client_model.specs.States.{Repeating, next_of}
-use Rattle.client_model.specs.Verifying.{submitted}
+use Rattle.client_model.specs.meaning.States.{Repeating, next_of}
+use Rattle.client_model.specs.meaning.Verifying.{submitted}
 use Rattle.client_model.specs.declared.act.Hold.TheVariants.{Keep}
 use Rattle.client_model.specs.declared.input.Input.TheVariants.{Took}
-use Rattle.client_model.specs.Terms.{Terms, Talk, Replaying}
-use Rattle.client_model.specs.Talk.{sending, if_alive, sends_or_ends, sends_marked, next_call}
+use Rattle.client_model.specs.meaning.Terms.{Terms, Talk, Replaying}
+use Rattle.client_model.specs.meaning.Talk.{sending, if_alive, sends_or_ends, sends_marked, next_call}
 use Rattle.client_model.specs.Conversation.{is_gone_next}
-use Rattle.client_model.specs.Account.{Account, begins, hears, sends, after_step}
+use Rattle.client_model.specs.meaning.Account.{Account, begins, hears, sends, after_step}
 use Rattle.client_model.specs.Reasons.{rules_of}
-use Rattle.shown_clauses.specs.Fronts.{is_empty}
-use Rattle.shown_clauses.specs.Steps.{Step}
-use Rattle.shown_clauses.specs.Showings.{is_showing}
-use Rattle.shown_clauses.specs.Facts.{Course, comes_after}
-use Rattle.shown_clauses.specs.Causes.{line_at}
+use Rattle.shown_clauses.specs.meaning.Fronts.{is_empty}
+use Rattle.shown_clauses.specs.meaning.Steps.{Step}
+use Rattle.shown_clauses.specs.meaning.Showings.{is_showing}
+use Rattle.shown_clauses.specs.meaning.Facts.{Course, comes_after}
+use Rattle.shown_clauses.specs.meaning.Causes.{line_at}
 use Rattle.caused_laws.specs.ServiceTerms.{kind_of}
 use Rattle.caused_laws.proofs.FactsKnown.{terms_by}
 use Rattle.caused_laws.proofs.Standing.{SoFar, past_of, behind_it, Takes, IsAt, IsOpen, Knows, Stands, submission}

@@ -12,7 +12,7 @@ use Rattle.svc_values.specs.declared.frame.Down.{Down}
 use Rattle.svc_values.specs.declared.frame.Down.TheVariants as down
 use Rattle.svc_values.specs.declared.frame.Up.{Up}
 use Rattle.svc_values.specs.declared.frame.Up.TheVariants as up
-use Rattle.request_bounds.specs.Rules.{Rules}
+use Rattle.request_bounds.specs.meaning.Rules.{Rules}
 use Rattle.outage_schedule.specs.declared.document.Request.{Request}
 use Rattle.outage_schedule.specs.declared.document.ServiceOf.{ServiceOf}
 use Rattle.outage_schedule.specs.declared.item.Item.{Item}
@@ -20,20 +20,21 @@ use Rattle.outage_schedule.specs.declared.item.Item.TheVariants as item
 use Rattle.outage_schedule.specs.declared.item.Served.{Served}
 use Rattle.outage_schedule.specs.declared.request.RequestReport.{RequestReport}
 use Rattle.outage_schedule.specs.declared.request.ShownCall.{ShownCall}
-use Rattle.client_model.specs.States.{Living}
+use Rattle.client_model.specs.meaning.States.{Living}
 use Rattle.client_model.specs.declared.act.Shown.{Shown}
 use Rattle.client_model.specs.declared.input.Input.TheVariants.{Took}
-use Rattle.client_model.specs.Terms.{Terms, Talk}
-use Rattle.client_model.specs.Talk.{ends, sends_call as sends_left, sends_or_ends, next_call, talk_shown, with_shown, on_reply}
+use Rattle.client_model.specs.meaning.Terms.{Terms, Talk}
+use Rattle.client_model.specs.meaning.Talk.{ends, sends_call as sends_left, sends_or_ends, next_call, talk_shown, with_shown, on_reply}
 use Rattle.client_model.specs.Conversation.{is_gone_next}
-use Rattle.client_model.specs.Account.{Account, is_uncommitted, begins, hears, sends, shows, shows_call, shows_found, after_step}
+use Rattle.client_model.specs.meaning.Account.{Account, begins, hears, sends, shows, shows_call, shows_found, after_step}
+use Rattle.client_model.specs.Account.{is_uncommitted}
 use Rattle.client_model.specs.Reasons.{rules_of}
-use Rattle.run_clauses.specs.Reports.{shown_call}
-use Rattle.shown_clauses.specs.Fronts.{first_item}
-use Rattle.shown_clauses.specs.Steps.{Step}
-use Rattle.shown_clauses.specs.Showings.{is_showing, shown_answers}
-use Rattle.shown_clauses.specs.Facts.{Showed, Course, answers_shown, after_showing, after_taking, comes_after, shown_fact, showing_facts}
-use Rattle.shown_clauses.specs.Causes.{line_at, outcomes_of, says_uncommitted}
+use Rattle.run_clauses.specs.meaning.Reports.{shown_call}
+use Rattle.shown_clauses.specs.meaning.Fronts.{first_item}
+use Rattle.shown_clauses.specs.meaning.Steps.{Step}
+use Rattle.shown_clauses.specs.meaning.Showings.{is_showing, shown_answers}
+use Rattle.shown_clauses.specs.meaning.Facts.{Showed, Course, answers_shown, after_showing, after_taking, comes_after, shown_fact, showing_facts}
+use Rattle.shown_clauses.specs.meaning.Causes.{line_at, outcomes_of, says_uncommitted}
 use Rattle.caused_laws.specs.ServiceTerms.{kind_of}
 use Rattle.caused_laws.proofs.Agreeing.{Agrees, first-drop, ahead_is, shows_agree}
 use Rattle.caused_laws.proofs.FactsKnown.{is_off, terms_by}

@@ -9,7 +9,7 @@ use Rattle.svc_values.specs.declared.entry.Ltxid.{Ltxid}
 use Rattle.svc_values.specs.declared.frame.Down.TheVariants as down
 use Rattle.svc_values.specs.declared.frame.Up.{Up}
 use Rattle.svc_values.specs.declared.frame.Up.TheVariants as up
-use Rattle.request_bounds.specs.Rules.{Rules}
+use Rattle.request_bounds.specs.meaning.Rules.{Rules}
 use Rattle.outage_schedule.specs.declared.document.Request.{Request}
 use Rattle.outage_schedule.specs.declared.document.ServiceOf.{ServiceOf}
 use Rattle.outage_schedule.specs.declared.request.RequestReport.{RequestReport}
@@ -17,12 +17,13 @@ use Rattle.client_model.specs.declared.act.Shown.{Shown}
 use Rattle.client_model.specs.declared.input.Input.{Input}
 use Rattle.client_model.specs.declared.input.Input.TheVariants.{Start, Waiting, Lent, Opened, TryFailed, Took, Gone}
 use Rattle.client_model.specs.declared.input.Wants.TheVariants as wants
-use Rattle.client_model.specs.Terms.{Terms, Talk, Phase, Idle, Unbegun, Queued, Seeking, Greeting, Asked, Running, Replaying}
-use Rattle.client_model.specs.Talk.{Step as Pace, talk_step, wants_in}
-use Rattle.client_model.specs.Conversation.{Timed, Done, done_at, talk_at, steps_of, talk_after, is_gone, is_gone_next, is_wanted, may_come, MayCome}
-use Rattle.client_model.specs.Account.{Account, unheard, hears, hears_outcome, hears_reply, shows, shows_found, after_step}
+use Rattle.client_model.specs.meaning.Terms.{Terms, Talk, Phase, Idle, Unbegun, Queued, Seeking, Greeting, Asked, Running, Replaying}
+use Rattle.client_model.specs.meaning.Talk.{Step as Pace, talk_step, wants_in}
+use Rattle.client_model.specs.meaning.Conversation.{Timed, Done, done_at, talk_at}
+use Rattle.client_model.specs.Conversation.{steps_of, talk_after, is_gone, is_gone_next, is_wanted, may_come, MayCome}
+use Rattle.client_model.specs.meaning.Account.{Account, unheard, hears, hears_outcome, hears_reply, shows, shows_found, after_step}
 use Rattle.client_model.specs.Reasons.{rules_of}
-use Rattle.run_clauses.specs.Reports.{failed_in, failure_of, report_of, shown_call, told_outcome}
+use Rattle.run_clauses.specs.meaning.Reports.{failed_in, failure_of, report_of, shown_call, told_outcome}
 use Rattle.caused_laws.specs.ServiceTerms.{kind_of}
 use Rattle.caused_laws.specs.Telling.{account_at, dones_of, first_talk, talk_of}
 use Rattle.caused_laws.proofs.FactsKnown.{terms_by}

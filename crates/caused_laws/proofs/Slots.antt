@@ -6,7 +6,7 @@ use Rattle.std.proofs.lemmas.List.Sums.{sum_by-cons}
 use Rattle.svc_values.specs.declared.answer.Answer.{Answer}
 use Rattle.svc_values.specs.declared.call.Call.{Call}
 use Rattle.svc_values.specs.declared.entry.Ltxid.{Ltxid}
-use Rattle.request_bounds.specs.Rules.{Rules}
+use Rattle.request_bounds.specs.meaning.Rules.{Rules}
 use Rattle.outage_schedule.specs.declared.document.Request.{Request}
 use Rattle.outage_schedule.specs.declared.document.ServiceOf.{ServiceOf}
 use Rattle.outage_schedule.specs.declared.failure.Failure.TheVariants as failure
@@ -14,16 +14,16 @@ use Rattle.outage_schedule.specs.declared.note.GoNote.{GoNote}
 use Rattle.outage_schedule.specs.declared.note.GoNote.TheVariants as go
 use Rattle.outage_schedule.specs.declared.item.Served.{Served}
 use Rattle.outage_schedule.specs.declared.request.RequestReport.{RequestReport}
-use Rattle.client_model.specs.States.{Losing}
+use Rattle.client_model.specs.meaning.States.{Losing}
 use Rattle.client_model.specs.declared.act.Failed.TheVariants as failed
 use Rattle.client_model.specs.declared.input.Input.TheVariants.{Waiting, Lent, Opened, TryFailed}
-use Rattle.client_model.specs.Terms.{Terms, Talk, Queued, Seeking, Greeting, unsubmitted}
-use Rattle.client_model.specs.Talk.{stands, quiet, fails, sending, sends_or_ends, begin_of, next_call, with_tried, on_waiting, on_hello}
-use Rattle.client_model.specs.Account.{Account, session_of}
+use Rattle.client_model.specs.meaning.Terms.{Terms, Talk, Queued, Seeking, Greeting, unsubmitted}
+use Rattle.client_model.specs.meaning.Talk.{stands, quiet, fails, sending, sends_or_ends, begin_of, next_call, with_tried, on_waiting, on_hello}
+use Rattle.client_model.specs.meaning.Account.{Account, session_of}
 use Rattle.client_model.specs.Reasons.{rules_of}
-use Rattle.shown_clauses.specs.Fronts.{front_from, front_of, is_empty}
-use Rattle.shown_clauses.specs.Steps.{Step}
-use Rattle.shown_clauses.specs.Causes.{is_down, is_early, last_downs, all_wait, pool_wait_line, retries_line}
+use Rattle.shown_clauses.specs.meaning.Fronts.{front_from, front_of, is_empty}
+use Rattle.shown_clauses.specs.meaning.Steps.{Step}
+use Rattle.shown_clauses.specs.meaning.Causes.{is_down, is_early, last_downs, all_wait, pool_wait_line, retries_line}
 use Rattle.svc_values.specs.declared.frame.Up.TheVariants as up
 use Rattle.caused_laws.specs.ServiceTerms.{kind_of}
 use Rattle.caused_laws.proofs.FactsKnown.{terms_by}

@@ -9,7 +9,7 @@ use Rattle.svc_values.specs.declared.draw.Draw.{Draw}
 use Rattle.svc_values.specs.declared.frame.Up.{Up}
 use Rattle.svc_values.specs.declared.frame.Up.TheVariants as up
 use Rattle.request_bounds.specs.declared.rule.Why.{Why}
-use Rattle.request_bounds.specs.Rules.{Rules}
+use Rattle.request_bounds.specs.meaning.Rules.{Rules}
 use Rattle.call_recorder.specs.declared.recorded.Recorded.{Recorded}
 use Rattle.outage_schedule.specs.declared.document.Request.{Request}
 use Rattle.outage_schedule.specs.declared.document.ServiceOf.{ServiceOf}
@@ -19,19 +19,20 @@ use Rattle.outage_schedule.specs.declared.request.ShownCall.{ShownCall}
 use Rattle.client_model.specs.declared.act.Act.{Act}
 use Rattle.client_model.specs.declared.act.Shown.{Shown}
 use Rattle.client_model.specs.declared.input.Input.{Input}
-use Rattle.client_model.specs.Terms.{Talk, Phase, Idle, Unbegun, Queued, Seeking, Greeting, Asked, Running, Replaying}
+use Rattle.client_model.specs.meaning.Terms.{Talk, Phase, Idle, Unbegun, Queued, Seeking, Greeting, Asked, Running, Replaying}
 use Rattle.client_model.specs.Conversation.{is_gone_next}
-use Rattle.client_model.specs.Account.{Account, is_uncommitted}
-use Rattle.client_model.specs.Account as account
+use Rattle.client_model.specs.meaning.Account.{Account}
+use Rattle.client_model.specs.Account.{is_uncommitted}
+use Rattle.client_model.specs.meaning.Account as account
 use Rattle.client_model.specs.Reasons.{rules_of}
-use Rattle.run_clauses.specs.Reports.{shown_call, told_outcome, failure_of}
-use Rattle.shown_clauses.specs.Fronts.{first_item}
-use Rattle.shown_clauses.specs.Steps.{Step}
-use Rattle.shown_clauses.specs.Showings.{shown_answers}
-use Rattle.shown_clauses.specs.Submissions.{Submission}
-use Rattle.shown_clauses.specs.Facts.{Fact, Course, course_of, after_taking, after_step, facts_at, showing_facts, submitted_fact, submits}
-use Rattle.shown_clauses.specs.Causes.{Past, is_wait, last_downs, outcomes_of, says_uncommitted}
-use Rattle.shown_clauses.specs.Caused.{Judged, judged_from, judge_step, Goes, Ends, ending_at, after_ending, is_right}
+use Rattle.run_clauses.specs.meaning.Reports.{shown_call, told_outcome, failure_of}
+use Rattle.shown_clauses.specs.meaning.Fronts.{first_item}
+use Rattle.shown_clauses.specs.meaning.Steps.{Step}
+use Rattle.shown_clauses.specs.meaning.Showings.{shown_answers}
+use Rattle.shown_clauses.specs.meaning.Submissions.{Submission}
+use Rattle.shown_clauses.specs.meaning.Facts.{Fact, Course, course_of, after_taking, after_step, facts_at, showing_facts, submitted_fact, submits}
+use Rattle.shown_clauses.specs.meaning.Causes.{Past, is_wait, last_downs, outcomes_of, says_uncommitted}
+use Rattle.shown_clauses.specs.meaning.Caused.{Judged, judged_from, judge_step, Goes, Ends, ending_at, after_ending, is_right}
 use Rattle.caused_laws.specs.ServiceTerms.{kind_of}
 use Rattle.caused_laws.proofs.Agreeing.{Agrees}
 use Rattle.caused_laws.proofs.FactsKnown.{is_off, terms_by}

@@ -8,7 +8,7 @@ use Rattle.svc_values.specs.declared.value.Value.{Value}
 use Rattle.svc_values.specs.declared.frame.Up.{Up}
 use Rattle.svc_values.specs.declared.frame.Up.TheVariants as up
 use Rattle.request_bounds.specs.declared.rule.Why.TheVariants as why
-use Rattle.request_bounds.specs.Rules.{Rules}
+use Rattle.request_bounds.specs.meaning.Rules.{Rules}
 use Rattle.outage_schedule.specs.declared.document.Consistency.{Consistency}
 use Rattle.outage_schedule.specs.declared.document.Failover.{Failover}
 use Rattle.outage_schedule.specs.declared.document.Failover.TheVariants as failover
@@ -16,24 +16,24 @@ use Rattle.outage_schedule.specs.declared.document.Request.{Request}
 use Rattle.outage_schedule.specs.declared.document.ServiceOf.{ServiceOf}
 use Rattle.outage_schedule.specs.declared.failure.Failure.{Failure}
 use Rattle.outage_schedule.specs.declared.request.RequestReport.{RequestReport}
-use Rattle.client_model.specs.States.{Living}
+use Rattle.client_model.specs.meaning.States.{Living}
 use Rattle.client_model.specs.declared.act.Failed.{Failed}
 use Rattle.client_model.specs.declared.act.Hold.TheVariants.{Keep}
 use Rattle.client_model.specs.declared.act.Shown.{Shown}
 use Rattle.client_model.specs.declared.input.Input.{Input}
-use Rattle.client_model.specs.Terms.{Terms, Talk, Running}
-use Rattle.client_model.specs.Talk.{fails, ends, with_submitted, sends_call as sends_left}
+use Rattle.client_model.specs.meaning.Terms.{Terms, Talk, Running}
+use Rattle.client_model.specs.meaning.Talk.{fails, ends, with_submitted, sends_call as sends_left}
 use Rattle.client_model.specs.Conversation.{is_gone_next}
-use Rattle.client_model.specs.Account.{Account, begins, sends, hears, shows}
-use Rattle.client_model.specs.Account as account
+use Rattle.client_model.specs.meaning.Account.{Account, begins, sends, hears, shows}
+use Rattle.client_model.specs.meaning.Account as account
 use Rattle.client_model.specs.Reasons.{rules_of}
-use Rattle.run_clauses.specs.Reports.{told_outcome, failure_of}
-use Rattle.shown_clauses.specs.Fronts.{first_item, is_empty}
-use Rattle.shown_clauses.specs.Steps.{Step}
-use Rattle.shown_clauses.specs.Showings.{is_showing}
-use Rattle.shown_clauses.specs.Facts.{Fact, Course, after_step, sends_call, submitted_fact}
-use Rattle.shown_clauses.specs.Causes.{Past, line_at, outcomes_of}
-use Rattle.shown_clauses.specs.Caused.{Goes, Ends, all_shown, ending_at, ending_if, same_failed, fits_outcomes}
+use Rattle.run_clauses.specs.meaning.Reports.{told_outcome, failure_of}
+use Rattle.shown_clauses.specs.meaning.Fronts.{first_item, is_empty}
+use Rattle.shown_clauses.specs.meaning.Steps.{Step}
+use Rattle.shown_clauses.specs.meaning.Showings.{is_showing}
+use Rattle.shown_clauses.specs.meaning.Facts.{Fact, Course, after_step, sends_call, submitted_fact}
+use Rattle.shown_clauses.specs.meaning.Causes.{Past, line_at, outcomes_of}
+use Rattle.shown_clauses.specs.meaning.Caused.{Goes, Ends, all_shown, ending_at, ending_if, same_failed, fits_outcomes}
 use Rattle.caused_laws.specs.ServiceTerms.{kind_of}
 use Rattle.caused_laws.proofs.Agreeing.{first-drop, sent_agree}
 use Rattle.caused_laws.proofs.FactsKnown.{is_off, terms_by}

@@ -10,7 +10,7 @@ use Rattle.svc_values.specs.declared.value.Value.{Value}
 use Rattle.svc_values.specs.declared.frame.Down.{Down}
 use Rattle.svc_values.specs.declared.frame.Down.TheVariants as down
 use Rattle.svc_values.specs.declared.frame.Up.TheVariants as up
-use Rattle.request_bounds.specs.Rules.{Rules}
+use Rattle.request_bounds.specs.meaning.Rules.{Rules}
 use Rattle.outage_schedule.specs.declared.document.Request.{Request}
 use Rattle.outage_schedule.specs.declared.document.ServiceOf.{ServiceOf}
 use Rattle.outage_schedule.specs.declared.item.Item.{Item}
@@ -18,22 +18,22 @@ use Rattle.outage_schedule.specs.declared.item.Item.TheVariants as item
 use Rattle.outage_schedule.specs.declared.item.Served.{Served}
 use Rattle.outage_schedule.specs.declared.note.GoNote.TheVariants as go
 use Rattle.outage_schedule.specs.declared.request.RequestReport.{RequestReport}
-use Rattle.client_model.specs.States.{Living, Losing, asked_on}
+use Rattle.client_model.specs.meaning.States.{Living, Losing, asked_on}
 use Rattle.client_model.specs.declared.act.Act.{Act}
 use Rattle.client_model.specs.declared.act.Hold.TheVariants.{Keep, GiveBack}
 use Rattle.client_model.specs.declared.act.Shown.{Shown}
 use Rattle.client_model.specs.declared.input.Input.{Input}
 use Rattle.client_model.specs.declared.input.Input.TheVariants.{Took}
-use Rattle.client_model.specs.Terms.{Terms, Talk, Phase, Greeting, Asked, unsubmitted}
-use Rattle.client_model.specs.Talk.{Step as Pace, stands, quiet, sending, sends_call as sends_left, sends_or_ends, begin_of, next_call, on_hello}
+use Rattle.client_model.specs.meaning.Terms.{Terms, Talk, Phase, Greeting, Asked, unsubmitted}
+use Rattle.client_model.specs.meaning.Talk.{Step as Pace, stands, quiet, sending, sends_call as sends_left, sends_or_ends, begin_of, next_call, on_hello}
 use Rattle.client_model.specs.Conversation.{is_gone_next}
-use Rattle.client_model.specs.Account.{Account, session_of}
+use Rattle.client_model.specs.meaning.Account.{Account, session_of}
 use Rattle.client_model.specs.Reasons.{rules_of}
-use Rattle.shown_clauses.specs.Fronts.{is_empty}
-use Rattle.shown_clauses.specs.Steps.{Step}
-use Rattle.shown_clauses.specs.Showings.{is_showing}
-use Rattle.shown_clauses.specs.Facts.{Course, submits}
-use Rattle.shown_clauses.specs.Causes.{line_at}
+use Rattle.shown_clauses.specs.meaning.Fronts.{is_empty}
+use Rattle.shown_clauses.specs.meaning.Steps.{Step}
+use Rattle.shown_clauses.specs.meaning.Showings.{is_showing}
+use Rattle.shown_clauses.specs.meaning.Facts.{Course, submits}
+use Rattle.shown_clauses.specs.meaning.Causes.{line_at}
 use Rattle.caused_laws.specs.ServiceTerms.{kind_of}
 use Rattle.caused_laws.specs.Telling.{SentBy}
 use Rattle.caused_laws.proofs.FactsKnown.{terms_by}

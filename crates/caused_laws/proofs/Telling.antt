@@ -3,7 +3,7 @@ use Rattle.std.proofs.Common.{◌≡◌, ◌≢◌, ℕ, ◌≤◌, ◌&&◌, �
 use Rattle.std.proofs.lemmas.List.{append-nil, append_assoc}
 use Rattle.svc_values.specs.declared.answer.Answer.{Answer}
 use Rattle.svc_values.specs.declared.frame.Down.{Down}
-use Rattle.request_bounds.specs.Rules.{Rules}
+use Rattle.request_bounds.specs.meaning.Rules.{Rules}
 use Rattle.outage_schedule.specs.declared.document.Request.{Request}
 use Rattle.outage_schedule.specs.declared.document.ServiceOf.{ServiceOf}
 use Rattle.outage_schedule.specs.declared.item.Served.{Served}
@@ -12,15 +12,16 @@ use Rattle.outage_schedule.specs.declared.note.GoNote.TheVariants as go
 use Rattle.outage_schedule.specs.declared.request.RequestReport.{RequestReport}
 use Rattle.client_model.specs.declared.input.Input.{Input}
 use Rattle.client_model.specs.declared.input.Input.TheVariants.{Start, Waiting, Lent, Opened, TryFailed, Took, Gone}
-use Rattle.client_model.specs.Terms.{Terms, Talk}
-use Rattle.client_model.specs.Talk.{loses, talk_step, wants_in}
-use Rattle.client_model.specs.Conversation.{Timed, is_gone, is_gone_next, is_wanted, MayCome}
-use Rattle.client_model.specs.Account.{Account, unheard, after_step}
+use Rattle.client_model.specs.meaning.Terms.{Terms, Talk}
+use Rattle.client_model.specs.meaning.Talk.{loses, talk_step, wants_in}
+use Rattle.client_model.specs.meaning.Conversation.{Timed}
+use Rattle.client_model.specs.Conversation.{is_gone, is_gone_next, is_wanted, MayCome}
+use Rattle.client_model.specs.meaning.Account.{Account, unheard, after_step}
 use Rattle.client_model.specs.Reasons.{rules_of}
 use Rattle.client_model.proofs.Offered.{Fits, IsTalk, first_talks, last_fits, last_talks}
-use Rattle.run_clauses.specs.NoClash.{digest}
-use Rattle.run_clauses.specs.Reports.{report_of}
-use Rattle.shown_clauses.specs.Steps.{Step}
+use Rattle.run_clauses.specs.meaning.NoClash.{digest}
+use Rattle.run_clauses.specs.meaning.Reports.{report_of}
+use Rattle.shown_clauses.specs.meaning.Steps.{Step}
 use Rattle.caused_laws.specs.ServiceTerms.{kind_of}
 use Rattle.caused_laws.specs.Telling.{ToldStep, Before, first_talk, dones_of, talk_of, account_at, act_at, begun_with, LostBy, loss_behind, IsTaking, Has, TellsBy, Tells}
 use Rattle.caused_laws.proofs.FactsKnown.{terms_by}

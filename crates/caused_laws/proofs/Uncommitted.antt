@@ -8,7 +8,7 @@ use Rattle.svc_values.specs.declared.call.Call.{Call}
 use Rattle.svc_values.specs.declared.frame.Down.TheVariants as down
 use Rattle.svc_values.specs.declared.frame.Up.TheVariants as up
 use Rattle.request_bounds.specs.declared.rule.Why.{Why}
-use Rattle.request_bounds.specs.Rules.{Rules}
+use Rattle.request_bounds.specs.meaning.Rules.{Rules}
 use Rattle.outage_schedule.specs.declared.document.Request.{Request}
 use Rattle.outage_schedule.specs.declared.document.ServiceOf.{ServiceOf}
 use Rattle.outage_schedule.specs.declared.failure.Failure.{Failure}
@@ -19,22 +19,23 @@ use Rattle.outage_schedule.specs.declared.item.Item.TheVariants as item
 use Rattle.outage_schedule.specs.declared.item.Served.{Served}
 use Rattle.outage_schedule.specs.declared.note.AskResult.TheVariants as result
 use Rattle.outage_schedule.specs.declared.request.RequestReport.{RequestReport}
-use Rattle.client_model.specs.Told.{over, repeated, is_late, uncommitted}
-use Rattle.client_model.specs.Told as told_so
-use Rattle.client_model.specs.States.{Asking, next_of}
+use Rattle.client_model.specs.meaning.Told.{over, repeated, is_late, uncommitted}
+use Rattle.client_model.specs.meaning.Told as told_so
+use Rattle.client_model.specs.meaning.States.{Asking, next_of}
 use Rattle.client_model.specs.declared.act.Failed.{Failed}
 use Rattle.client_model.specs.declared.act.Failed.TheVariants as failed
 use Rattle.client_model.specs.declared.input.Input.TheVariants.{Took}
-use Rattle.client_model.specs.Terms.{Terms, Talk}
-use Rattle.client_model.specs.Talk.{fails, next_call, on_told}
-use Rattle.client_model.specs.Account.{Account, Outcome as Heard, count_uncommitted as heard_uncommitted, hears, hears_outcome, after_step}
+use Rattle.client_model.specs.meaning.Terms.{Terms, Talk}
+use Rattle.client_model.specs.meaning.Talk.{fails, next_call, on_told}
+use Rattle.client_model.specs.meaning.Account.{Account, Outcome as Heard, hears, hears_outcome, after_step}
+use Rattle.client_model.specs.Account.{count_uncommitted as heard_uncommitted}
 use Rattle.client_model.specs.Reasons.{rules_of}
 use Rattle.client_model.proofs.Offered.{Tracked}
-use Rattle.run_clauses.specs.Reports.{told_outcome}
-use Rattle.run_clauses.specs.Reports as report
-use Rattle.shown_clauses.specs.Steps.{Step}
-use Rattle.shown_clauses.specs.Causes.{AtOutcome, at_outcome, disabled_if, ended_of, line_at, outcome_lines, outcomes_of, says_uncommitted, timeout_by}
-use Rattle.shown_clauses.specs.Caused.{count_uncommitted, is_last_outcome, same_failed, same_reason, same_event}
+use Rattle.run_clauses.specs.meaning.Reports.{told_outcome}
+use Rattle.run_clauses.specs.meaning.Reports as report
+use Rattle.shown_clauses.specs.meaning.Steps.{Step}
+use Rattle.shown_clauses.specs.meaning.Causes.{AtOutcome, at_outcome, disabled_if, ended_of, line_at, outcome_lines, outcomes_of, says_uncommitted, timeout_by}
+use Rattle.shown_clauses.specs.meaning.Caused.{count_uncommitted, is_last_outcome, same_failed, same_reason, same_event}
 use Rattle.caused_laws.specs.ServiceTerms.{kind_of}
 use Rattle.caused_laws.proofs.FactsKnown.{terms_by}
 use Rattle.caused_laws.proofs.OutcomesTold.{count-first, count-last, is_last, count_is, sent_outcomes}

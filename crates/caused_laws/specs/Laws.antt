@@ -4,11 +4,11 @@ use Rattle.outage_schedule.specs.declared.document.Document.{Document}
 use Rattle.outage_schedule.specs.declared.document.Request.{Request}
 use Rattle.outage_schedule.specs.declared.document.ServiceOf.{ServiceOf}
 use Rattle.outage_schedule.specs.declared.report.Report.{Report}
-use Rattle.client_model.specs.Terms.{Terms}
-use Rattle.run_clauses.specs.Reports.{report_of}
-use Rattle.shown_clauses.specs.Steps.{Step, steps, steps_of}
-use Rattle.shown_clauses.specs.Submissions.{Submission, submissions_by_client}
-use Rattle.shown_clauses.specs.Caused.{judged_from, judge_step, is_client_caused, caused}
+use Rattle.client_model.specs.meaning.Terms.{Terms}
+use Rattle.run_clauses.specs.meaning.Reports.{report_of}
+use Rattle.shown_clauses.specs.meaning.Steps.{Step, steps, steps_of}
+use Rattle.shown_clauses.specs.meaning.Submissions.{Submission, submissions_by_client}
+use Rattle.shown_clauses.specs.meaning.Caused.{judged_from, judge_step, is_client_caused, caused}
 use Rattle.caused_laws.specs.ServiceTerms.{AreTermsOf}
 use Rattle.caused_laws.specs.Telling.{ToldStep, inputs_of, dones_of, IsConversation}
 

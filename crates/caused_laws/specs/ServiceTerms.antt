@@ -6,9 +6,9 @@ use Rattle.outage_schedule.specs.declared.document.Failover.TheVariants as failo
 use Rattle.outage_schedule.specs.declared.document.Consistency.{Consistency}
 use Rattle.outage_schedule.specs.declared.document.Consistency.TheVariants as consistency
 use Rattle.outage_schedule.specs.declared.document.ServiceOf.{ServiceOf}
-use Rattle.client_model.specs.Terms.{Terms}
+use Rattle.client_model.specs.meaning.Terms.{Terms}
 use Rattle.client_model.specs.Reasons.{Kind, NoReplay, Dynamic, Static, Auto, rules_of}
-use Rattle.run_clauses.specs.NoClash.{digest}
+use Rattle.run_clauses.specs.meaning.NoClash.{digest}
 
 -- which of the kinds of rules a service has
 abbrev pub kind_of : Failover → Consistency → Kind

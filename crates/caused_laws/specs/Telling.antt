@@ -13,14 +13,15 @@ use Rattle.client_model.specs.declared.act.Hold.TheVariants.{GiveBack}
 use Rattle.client_model.specs.declared.input.Input.{Input}
 use Rattle.client_model.specs.declared.input.Input.TheVariants.{Start, Waiting, Lent, Opened, TryFailed, Took, Gone}
 use Rattle.client_model.specs.declared.input.Wants.TheVariants as wants
-use Rattle.client_model.specs.Terms.{Terms, Talk, Idle, requested}
-use Rattle.client_model.specs.Talk.{talk_step, wants_of}
-use Rattle.client_model.specs.Conversation.{Timed, Done, steps_of, talk_after, is_gone_next, MayCome}
-use Rattle.client_model.specs.Account.{Account, account_of}
+use Rattle.client_model.specs.meaning.Terms.{Terms, Talk, Idle, requested}
+use Rattle.client_model.specs.meaning.Talk.{talk_step, wants_of}
+use Rattle.client_model.specs.meaning.Conversation.{Timed, Done}
+use Rattle.client_model.specs.Conversation.{steps_of, talk_after, is_gone_next, MayCome}
+use Rattle.client_model.specs.meaning.Account.{Account, account_of}
 use Rattle.client_model.specs.Laws.{is_expected}
-use Rattle.shown_clauses.specs.Links.{Link}
-use Rattle.shown_clauses.specs.Steps.{Step}
-use Rattle.shown_clauses.specs.Causes.{has_held}
+use Rattle.shown_clauses.specs.meaning.Links.{Link}
+use Rattle.shown_clauses.specs.meaning.Steps.{Step}
+use Rattle.shown_clauses.specs.meaning.Causes.{has_held}
 use Rattle.caused_laws.specs.Replies.{Replies, Answers}
 
 -- a step that is shown, with the inputs of the request that it tells

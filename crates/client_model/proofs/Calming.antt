@@ -10,8 +10,8 @@ use Rattle.svc_values.specs.declared.frame.Down.TheVariants as down
 use Rattle.client_model.specs.declared.input.Input.{Input}
 use Rattle.client_model.specs.declared.input.Input.TheVariants.{Start, Waiting, Lent, Opened, TryFailed, Took, Gone}
 use Rattle.client_model.specs.declared.act.Failed.TheVariants.{Disabled, Mismatch, Incomplete, Retries, ReplayTimeout, Replays, PoolWait, Unknown, BadPeer}
-use Rattle.client_model.specs.Terms.{Terms}
-use Rattle.client_model.specs.Account.{Account}
+use Rattle.client_model.specs.meaning.Terms.{Terms}
+use Rattle.client_model.specs.meaning.Account.{Account}
 use Rattle.client_model.specs.Laws.{is_expected, IsCaused}
 use Rattle.client_model.proofs.Fits.{Calm}
 

@@ -17,9 +17,10 @@ use Rattle.client_model.specs.declared.input.Input.TheVariants.{Waiting, TryFail
 use Rattle.client_model.specs.declared.act.Shown.{Shown}
 use Rattle.client_model.specs.declared.act.Failed.{Failed}
 use Rattle.client_model.specs.declared.act.Failed.TheVariants.{Disabled, Mismatch, Incomplete, Retries, ReplayTimeout, Replays, PoolWait, Unknown, BadPeer}
-use Rattle.client_model.specs.Terms.{Terms}
-use Rattle.client_model.specs.Talk.{tag_of}
-use Rattle.client_model.specs.Account.{Account, Answered, count_uncommitted}
+use Rattle.client_model.specs.meaning.Terms.{Terms}
+use Rattle.client_model.specs.meaning.Talk.{tag_of}
+use Rattle.client_model.specs.meaning.Account.{Account, Answered}
+use Rattle.client_model.specs.Account.{count_uncommitted}
 use Rattle.client_model.specs.Laws.{is_expected, IsCaused, WasEndedBy, Says, HasOneCause}
 
 gt_false : (a b : ℕ) → b < a → nat_le a b ≡ false

@@ -8,15 +8,17 @@ use Rattle.svc_values.specs.declared.entry.Ltxid.{Ltxid}
 use Rattle.svc_values.specs.declared.frame.Up.TheVariants as up
 use Rattle.call_recorder.specs.declared.recorded.Recorded.{Recorded}
 use Rattle.client_model.specs.declared.track.Track.{Track}
-use Rattle.client_model.specs.States.{Asking, Repeating, IsRepeating, next_of}
+use Rattle.client_model.specs.meaning.States.{Asking, Repeating, next_of}
+use Rattle.client_model.specs.States.{IsRepeating}
 use Rattle.client_model.specs.declared.input.Input.{Input}
 use Rattle.client_model.specs.declared.act.Shown.{Shown}
 use Rattle.client_model.specs.declared.act.Failed.{Failed}
-use Rattle.client_model.specs.Terms.{Terms, Talk, Phase, Idle, Unbegun, Queued, Seeking, Greeting, Asked, Running, Replaying}
-use Rattle.svc_values.specs.SettingsList.{with_sets}
-use Rattle.client_model.specs.Talk.{Step, settled}
+use Rattle.client_model.specs.meaning.Terms.{Terms, Talk, Phase, Idle, Unbegun, Queued, Seeking, Greeting, Asked, Running, Replaying}
+use Rattle.svc_values.specs.meaning.SettingsList.{with_sets}
+use Rattle.client_model.specs.meaning.Talk.{Step, settled}
 use Rattle.client_model.specs.Conversation.{is_gone_next}
-use Rattle.client_model.specs.Account.{Account, Answered, unheard, set_shown, count_uncommitted, sends}
+use Rattle.client_model.specs.meaning.Account.{Account, Answered, unheard, sends}
+use Rattle.client_model.specs.Account.{set_shown, count_uncommitted}
 use Rattle.client_model.specs.Laws.{digests_of, FollowsOutcome, MaySendAll, BegunWith, settings_known, IsCaused, HoldsBy}
 
 -- the calls shown since the last purge are the last ones that were shown

@@ -5,14 +5,15 @@ use Rattle.svc_values.specs.declared.value.Value.{Value}
 use Rattle.svc_values.specs.declared.call.Call.{Call}
 use Rattle.svc_values.specs.declared.frame.Up.{Up}
 use Rattle.client_model.specs.declared.track.Track.{Track}
-use Rattle.client_model.specs.States.{Living}
+use Rattle.client_model.specs.meaning.States.{Living}
 use Rattle.client_model.specs.declared.input.Input.{Input}
 use Rattle.client_model.specs.declared.act.Shown.{Shown}
 use Rattle.client_model.specs.declared.act.Hold.TheVariants.{Keep}
-use Rattle.client_model.specs.Terms.{Terms, Talk}
-use Rattle.client_model.specs.Talk.{begin_of, next_call, sends_or_ends, goes_on}
+use Rattle.client_model.specs.meaning.Terms.{Terms, Talk}
+use Rattle.client_model.specs.meaning.Talk.{begin_of, next_call, sends_or_ends, goes_on}
 use Rattle.client_model.specs.Conversation.{is_gone_next}
-use Rattle.client_model.specs.Account.{Account, begins, sends, count_uncommitted, set_shown}
+use Rattle.client_model.specs.meaning.Account.{Account, begins, sends}
+use Rattle.client_model.specs.Account.{count_uncommitted, set_shown}
 use Rattle.client_model.specs.Laws.{digests_of, FollowsOutcome, MaySendAll, BegunWith, settings_known}
 use Rattle.client_model.proofs.Fits.{Tracked, Holds, Few, IsTalk, Good, Calm, settings_shown}
 use Rattle.client_model.proofs.Left.{next_left}

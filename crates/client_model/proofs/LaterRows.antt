@@ -10,15 +10,16 @@ use Rattle.svc_values.specs.declared.frame.Up.TheVariants as up
 use Rattle.svc_values.specs.declared.frame.Ahead.TheVariants as ahead
 use Rattle.svc_values.specs.declared.frame.Down.TheVariants as down
 use Rattle.request_bounds.specs.declared.rule.Why.TheVariants as why
-use Rattle.request_bounds.specs.Rules.{dynamic_rules, auto_rules}
+use Rattle.request_bounds.specs.meaning.Rules.{dynamic_rules, auto_rules}
 use Rattle.client_model.specs.declared.input.Input.TheVariants.{Start, Opened, Took, Gone}
 use Rattle.client_model.specs.declared.act.Hold.TheVariants.{Keep, GiveBack, Drop}
 use Rattle.client_model.specs.declared.act.Failed.TheVariants.{Disabled, Unknown}
-use Rattle.client_model.specs.Terms.{requested}
-use Rattle.client_model.specs.Conversation.{Timed, Done, steps_of, MayCome}
-use Rattle.client_model.specs.Account.{account_of}
+use Rattle.client_model.specs.meaning.Terms.{requested}
+use Rattle.client_model.specs.meaning.Conversation.{Timed, Done}
+use Rattle.client_model.specs.Conversation.{steps_of, MayCome}
+use Rattle.client_model.specs.meaning.Account.{account_of}
 use Rattle.client_model.specs.Reasons.{Dynamic, reason_of}
-use Rattle.client_model.specs.Tried.{tried_of}
+use Rattle.client_model.specs.meaning.Tried.{tried_of}
 use Rattle.client_model.proofs.RowWords.{x, act, outcome, terms}
 
 -- a set, a commit shown by its outcome, and a call behind

@@ -5,14 +5,14 @@ use Rattle.std.proofs.lemmas.List.Sums.{fold-append}
 use Rattle.svc_values.specs.declared.value.Value.{Value}
 use Rattle.svc_values.specs.declared.call.Call.{Call}
 use Rattle.svc_values.specs.declared.call.Call.TheVariants as call
-use Rattle.svc_values.specs.SettingsList.{put_setting, with_set, with_sets}
+use Rattle.svc_values.specs.meaning.SettingsList.{put_setting, with_set, with_sets}
 use Rattle.request_bounds.specs.declared.rule.After.{After}
 use Rattle.request_bounds.specs.declared.rule.After.TheVariants as after
 use Rattle.client_model.specs.declared.act.Shown.{Shown}
-use Rattle.client_model.specs.Terms.{Terms, Talk}
-use Rattle.client_model.specs.Talk.{set_by, sets_by, settled, settled_by, waits_after, next_call, talk_shown}
+use Rattle.client_model.specs.meaning.Terms.{Terms, Talk}
+use Rattle.client_model.specs.meaning.Talk.{set_by, sets_by, settled, settled_by, waits_after, next_call, talk_shown}
 use Rattle.client_model.specs.declared.track.Track.{Track}
-use Rattle.client_model.specs.Account.{Account, purged_after, shows_call}
+use Rattle.client_model.specs.meaning.Account.{Account, purged_after, shows_call}
 use Rattle.client_model.proofs.Fits.{Tracked, IsTalk}
 use Rattle.client_model.proofs.Showing.{length-last}
 

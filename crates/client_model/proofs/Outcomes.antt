@@ -10,17 +10,18 @@ use Rattle.svc_values.specs.declared.frame.Down.TheVariants as down
 use Rattle.request_bounds.specs.declared.rule.Why.{Why}
 use Rattle.request_bounds.specs.declared.rule.Why.TheVariants as why
 use Rattle.client_model.specs.declared.track.Track.{Track}
-use Rattle.client_model.specs.Told as told
-use Rattle.client_model.specs.States.{Living, Asking, resumed, next_of}
-use Rattle.client_model.specs.Told.{over, completed_on, repeated, is_late, uncommitted, told_of}
+use Rattle.client_model.specs.meaning.Told as told
+use Rattle.client_model.specs.meaning.States.{Living, Asking, resumed, next_of}
+use Rattle.client_model.specs.meaning.Told.{over, completed_on, repeated, is_late, uncommitted, told_of}
 use Rattle.client_model.specs.declared.input.Input.TheVariants.{Took}
 use Rattle.client_model.specs.declared.act.Shown.{Shown}
 use Rattle.client_model.specs.declared.act.Hold.TheVariants.{Keep}
 use Rattle.client_model.specs.declared.act.Failed.TheVariants.{Disabled, Incomplete, Replays, ReplayTimeout}
-use Rattle.client_model.specs.Terms.{Terms, Talk, Asked}
-use Rattle.client_model.specs.Talk.{fails, sends_call, begin_of, next_call, with_shown, talk_shown, after_completed, on_completed, on_told}
+use Rattle.client_model.specs.meaning.Terms.{Terms, Talk, Asked}
+use Rattle.client_model.specs.meaning.Talk.{fails, sends_call, begin_of, next_call, with_shown, talk_shown, after_completed, on_completed, on_told}
 use Rattle.client_model.specs.Conversation.{is_gone_next}
-use Rattle.client_model.specs.Account.{Account, Outcome, Answered, is_uncommitted, count_uncommitted, hears_outcome, shows_call, shows_found, shows}
+use Rattle.client_model.specs.meaning.Account.{Account, Outcome, Answered, hears_outcome, shows_call, shows_found, shows}
+use Rattle.client_model.specs.Account.{is_uncommitted, count_uncommitted}
 use Rattle.client_model.specs.Laws.{FollowsOutcome, is_expected, WasEndedBy, LosesState, HadReplays}
 use Rattle.client_model.proofs.Fits.{Tracked, Few, Fits, IsTalk, Good, Calm}
 use Rattle.client_model.proofs.Calming.{outcome_calm}

@@ -16,17 +16,17 @@ use Rattle.svc_values.specs.declared.frame.Up.TheVariants as up
 use Rattle.svc_values.specs.declared.frame.Down.TheVariants as down
 use Rattle.call_recorder.specs.declared.recorded.Recorded.{Recorded}
 use Rattle.client_model.specs.declared.track.Track.{Track}
-use Rattle.client_model.specs.States.{Repeating, next_of}
-use Rattle.client_model.specs.Verifying.{submitted, verified_more, index_of, mismatch}
+use Rattle.client_model.specs.meaning.States.{Repeating, next_of}
+use Rattle.client_model.specs.meaning.Verifying.{submitted, verified_more, index_of, mismatch}
 use Rattle.client_model.specs.declared.input.Input.{Input}
 use Rattle.client_model.specs.declared.input.Input.TheVariants.{Took}
 use Rattle.client_model.specs.declared.act.Shown.{Shown}
 use Rattle.client_model.specs.declared.act.Hold.TheVariants.{Keep}
 use Rattle.client_model.specs.declared.act.Failed.TheVariants.{Mismatch}
-use Rattle.client_model.specs.Terms.{Terms, Talk, Replaying}
-use Rattle.client_model.specs.Talk.{begin_of, next_call, sends_marked, on_compared, on_repeated}
+use Rattle.client_model.specs.meaning.Terms.{Terms, Talk, Replaying}
+use Rattle.client_model.specs.meaning.Talk.{begin_of, next_call, sends_marked, on_compared, on_repeated}
 use Rattle.client_model.specs.Conversation.{is_gone_next}
-use Rattle.client_model.specs.Account.{Account, begins, sends}
+use Rattle.client_model.specs.meaning.Account.{Account, begins, sends}
 use Rattle.client_model.specs.Laws.{digests_of, FollowsOutcome, Differed, is_expected}
 use Rattle.client_model.proofs.Fits.{Recalls, Holds, Repeats, Fits, IsTalk, Good, Calm}
 use Rattle.client_model.proofs.Calming.{reply_calm}

@@ -8,14 +8,14 @@ use Rattle.svc_values.specs.declared.call.Call.{Call}
 use Rattle.svc_values.specs.declared.entry.Ltxid.{Ltxid}
 use Rattle.svc_values.specs.declared.frame.Up.TheVariants as up
 use Rattle.svc_values.specs.declared.frame.Down.TheVariants as down
-use Rattle.client_model.specs.States.{Living}
+use Rattle.client_model.specs.meaning.States.{Living}
 use Rattle.client_model.specs.declared.input.Input.TheVariants.{Took}
 use Rattle.client_model.specs.declared.act.Shown.{Shown}
 use Rattle.client_model.specs.declared.act.Hold.TheVariants.{Keep}
-use Rattle.client_model.specs.Terms.{Terms, Talk, Running}
-use Rattle.client_model.specs.Talk.{on_reply, next_call, with_shown, talk_shown}
+use Rattle.client_model.specs.meaning.Terms.{Terms, Talk, Running}
+use Rattle.client_model.specs.meaning.Talk.{on_reply, next_call, with_shown, talk_shown}
 use Rattle.client_model.specs.Conversation.{is_gone_next}
-use Rattle.client_model.specs.Account.{Account, Session, hears, shows_call, shows_found}
+use Rattle.client_model.specs.meaning.Account.{Account, Session, hears, shows_call, shows_found}
 use Rattle.client_model.specs.Laws.{FollowsOutcome, is_expected}
 use Rattle.client_model.proofs.Fits.{Tracked, Fits, IsTalk}
 use Rattle.client_model.proofs.Calming.{reply_calm}

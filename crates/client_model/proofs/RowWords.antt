@@ -6,13 +6,13 @@ use Rattle.svc_values.specs.declared.answer.Answer.{Answer}
 use Rattle.svc_values.specs.declared.answer.Answer.TheVariants as answer
 use Rattle.svc_values.specs.declared.entry.Ltxid.{Ltxid}
 use Rattle.svc_values.specs.declared.frame.Up.{Up}
-use Rattle.request_bounds.specs.Rules.{Rules}
+use Rattle.request_bounds.specs.meaning.Rules.{Rules}
 use Rattle.client_model.specs.declared.act.Act.{Act}
 use Rattle.client_model.specs.declared.act.Shown.{Shown}
 use Rattle.client_model.specs.declared.act.Hold.{Hold}
 use Rattle.client_model.specs.declared.act.Failed.{Failed}
-use Rattle.client_model.specs.Terms.{Terms}
-use Rattle.client_model.specs.Account.{Outcome}
+use Rattle.client_model.specs.meaning.Terms.{Terms}
+use Rattle.client_model.specs.meaning.Account.{Outcome}
 
 -- a digest by which the answers of these runs differ
 abbrev pub ints_of : List Value → List ℕ

@@ -9,15 +9,16 @@ use Rattle.svc_values.specs.declared.call.Call.TheVariants as call
 use Rattle.svc_values.specs.declared.frame.Up.TheVariants as up
 use Rattle.svc_values.specs.declared.frame.Down.TheVariants as down
 use Rattle.request_bounds.specs.declared.rule.Why.TheVariants as why
-use Rattle.request_bounds.specs.Rules.{static_rules, dynamic_rules}
+use Rattle.request_bounds.specs.meaning.Rules.{static_rules, dynamic_rules}
 use Rattle.client_model.specs.declared.input.Input.TheVariants.{Start, Opened, Took, Gone}
 use Rattle.client_model.specs.declared.act.Hold.TheVariants.{Keep, GiveBack, Drop}
 use Rattle.client_model.specs.declared.act.Failed.TheVariants.{Mismatch}
-use Rattle.client_model.specs.Terms.{requested}
-use Rattle.client_model.specs.Conversation.{Timed, Done, steps_of, MayCome}
-use Rattle.client_model.specs.Account.{account_of}
+use Rattle.client_model.specs.meaning.Terms.{requested}
+use Rattle.client_model.specs.meaning.Conversation.{Timed, Done}
+use Rattle.client_model.specs.Conversation.{steps_of, MayCome}
+use Rattle.client_model.specs.meaning.Account.{account_of}
 use Rattle.client_model.specs.Reasons.{Dynamic, Static, reason_of}
-use Rattle.client_model.specs.Tried.{tried_of}
+use Rattle.client_model.specs.meaning.Tried.{tried_of}
 use Rattle.client_model.proofs.RowWords.{x, act, outcome, terms}
 
 -- a cut before a call was served

@@ -8,15 +8,15 @@ use Rattle.svc_values.specs.declared.call.Call.{Call}
 use Rattle.svc_values.specs.declared.frame.Up.{Up}
 use Rattle.svc_values.specs.declared.frame.Up.TheVariants as up
 use Rattle.client_model.specs.declared.track.Track.{Track}
-use Rattle.client_model.specs.States.{Living}
+use Rattle.client_model.specs.meaning.States.{Living}
 use Rattle.client_model.specs.declared.input.Input.{Input}
 use Rattle.client_model.specs.declared.act.Shown.{Shown}
 use Rattle.client_model.specs.declared.act.Hold.TheVariants.{Keep}
 use Rattle.client_model.specs.declared.act.Failed.{Failed}
-use Rattle.client_model.specs.Terms.{Terms, Talk, Running}
-use Rattle.client_model.specs.Talk.{fails, ends, sends_call, with_submitted}
+use Rattle.client_model.specs.meaning.Terms.{Terms, Talk, Running}
+use Rattle.client_model.specs.meaning.Talk.{fails, ends, sends_call, with_submitted}
 use Rattle.client_model.specs.Conversation.{is_gone_next}
-use Rattle.client_model.specs.Account.{Account, Session, sends}
+use Rattle.client_model.specs.meaning.Account.{Account, Session, sends}
 use Rattle.client_model.specs.Laws.{FollowsOutcome, MaySend, MaySendAll, BegunWith, settings_known, IsCaused}
 use Rattle.client_model.proofs.Fits.{Tracked, Holds, Few, Fits, IsTalk, Good, Calm}
 

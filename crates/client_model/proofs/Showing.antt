@@ -12,9 +12,9 @@ use Rattle.request_bounds.specs.declared.rule.After.TheVariants as after
 use Rattle.call_recorder.specs.declared.recorded.Recorded.{Recorded}
 use Rattle.client_model.specs.declared.track.Track.{Track}
 use Rattle.client_model.specs.declared.act.Shown.{Shown}
-use Rattle.client_model.specs.Terms.{Terms}
-use Rattle.client_model.specs.Talk.{is_set, recorded_as, with_recorded, with_reply, with_counted, with_shown}
-use Rattle.client_model.specs.Account.{Account, reply_reason, since_after, purged_after, shows_call}
+use Rattle.client_model.specs.meaning.Terms.{Terms}
+use Rattle.client_model.specs.meaning.Talk.{is_set, recorded_as, with_recorded, with_reply, with_counted, with_shown}
+use Rattle.client_model.specs.meaning.Account.{Account, reply_reason, since_after, purged_after, shows_call}
 use Rattle.client_model.proofs.Fits.{Recalls, Tracked}
 
 -- whether one of the calls is a set, with one call more

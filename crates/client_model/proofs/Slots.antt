@@ -8,12 +8,12 @@ use Rattle.svc_values.specs.declared.call.Call.{Call}
 use Rattle.svc_values.specs.declared.entry.Ltxid.{Ltxid}
 use Rattle.svc_values.specs.declared.frame.Up.TheVariants as up
 use Rattle.client_model.specs.declared.track.Track.{Track}
-use Rattle.client_model.specs.States.{Losing}
+use Rattle.client_model.specs.meaning.States.{Losing}
 use Rattle.client_model.specs.declared.input.Input.TheVariants.{Start, Waiting, Lent, Opened, TryFailed, Gone}
 use Rattle.client_model.specs.declared.act.Failed.TheVariants.{Retries, PoolWait}
-use Rattle.client_model.specs.Terms.{Terms, Talk, Phase, Idle, Unbegun, Queued, Seeking, Greeting, Asked, Running, Replaying, unsubmitted}
-use Rattle.client_model.specs.Talk.{stands, quiet, fails, lost_of, loses, with_tried, on_waiting, on_try_failed, talk_step}
-use Rattle.client_model.specs.Account.{Account, session_of}
+use Rattle.client_model.specs.meaning.Terms.{Terms, Talk, Phase, Idle, Unbegun, Queued, Seeking, Greeting, Asked, Running, Replaying, unsubmitted}
+use Rattle.client_model.specs.meaning.Talk.{stands, quiet, fails, lost_of, loses, with_tried, on_waiting, on_try_failed, talk_step}
+use Rattle.client_model.specs.meaning.Account.{Account, session_of}
 use Rattle.client_model.proofs.Fits.{Fresh, Holds, Few, Fits, IsTalk, Good, Calm}
 use Rattle.client_model.proofs.Calming.{plain_calm, input_calm}
 use Rattle.client_model.proofs.Sending.{fails_good}

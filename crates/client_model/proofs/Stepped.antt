@@ -7,16 +7,17 @@ use Rattle.svc_values.specs.declared.frame.Up.TheVariants as up
 use Rattle.svc_values.specs.declared.frame.Down.{Down}
 use Rattle.svc_values.specs.declared.frame.Down.TheVariants as down
 use Rattle.client_model.specs.declared.track.Track.{Track}
-use Rattle.client_model.specs.States.{Losing}
+use Rattle.client_model.specs.meaning.States.{Losing}
 use Rattle.client_model.specs.declared.input.Input.{Input}
 use Rattle.client_model.specs.declared.input.Input.TheVariants.{Took}
 use Rattle.client_model.specs.declared.act.Shown.{Shown}
 use Rattle.client_model.specs.declared.act.Hold.TheVariants.{Keep}
 use Rattle.client_model.specs.declared.act.Failed.TheVariants.{BadPeer}
-use Rattle.client_model.specs.Terms.{Terms, Talk, Phase, Idle, Unbegun, Queued, Seeking, Greeting, Asked, Running, Replaying, unsubmitted}
-use Rattle.client_model.specs.Talk.{Step, quiet, bad_peer, tag_of, on_hello}
+use Rattle.client_model.specs.meaning.Terms.{Terms, Talk, Phase, Idle, Unbegun, Queued, Seeking, Greeting, Asked, Running, Replaying, unsubmitted}
+use Rattle.client_model.specs.meaning.Talk.{Step, quiet, bad_peer, tag_of, on_hello}
 use Rattle.client_model.specs.Conversation.{is_gone_next}
-use Rattle.client_model.specs.Account.{Account, count_uncommitted, set_shown, session_of, hears, shows, shows_call}
+use Rattle.client_model.specs.meaning.Account.{Account, session_of, hears, shows, shows_call}
+use Rattle.client_model.specs.Account.{count_uncommitted, set_shown}
 use Rattle.client_model.specs.Laws.{digests_of, is_expected}
 use Rattle.client_model.proofs.Fits.{Tracked, Fresh, Holds, Few, Fits, IsTalk, Good, Calm}
 use Rattle.client_model.proofs.Calming.{other_calm}

@@ -7,19 +7,20 @@ use Rattle.svc_values.specs.declared.frame.Up.TheVariants as up
 use Rattle.svc_values.specs.declared.frame.Ahead.TheVariants as ahead
 use Rattle.svc_values.specs.declared.frame.Down.{Down}
 use Rattle.svc_values.specs.declared.frame.Down.TheVariants as down
-use Rattle.request_bounds.specs.Limits.{has_waited}
+use Rattle.request_bounds.specs.meaning.Limits.{has_waited}
 use Rattle.client_model.specs.declared.track.Track.{Track}
-use Rattle.client_model.specs.States.{Losing, Living, Asking, Repeating, next_of}
+use Rattle.client_model.specs.meaning.States.{Losing, Living, Asking, Repeating, next_of}
 use Rattle.client_model.specs.declared.input.Input.{Input}
 use Rattle.client_model.specs.declared.input.Input.TheVariants.{Start, Waiting, Lent, Opened, TryFailed, Took, Gone}
 use Rattle.client_model.specs.declared.input.Wants.TheVariants as wants
 use Rattle.client_model.specs.declared.act.Shown.{Shown}
 use Rattle.client_model.specs.declared.act.Failed.{Failed}
 use Rattle.client_model.specs.declared.act.Failed.TheVariants.{Unknown}
-use Rattle.client_model.specs.Terms.{Terms, Talk, Phase, Idle, Unbegun, Queued, Seeking, Greeting, Asked, Running, Replaying, requested}
-use Rattle.client_model.specs.Talk.{Step, takes, next_call, lost_of, waits_from, on_waiting, talk_step, wants_in}
-use Rattle.client_model.specs.Conversation.{Timed, Done, done_at, steps_of, talk_after, is_wanted, is_gone_next, may_come, MayCome}
-use Rattle.client_model.specs.Account.{Account, unheard, hears, hears_outcome, shows, sends, before_sends, after_step, account_of}
+use Rattle.client_model.specs.meaning.Terms.{Terms, Talk, Phase, Idle, Unbegun, Queued, Seeking, Greeting, Asked, Running, Replaying, requested}
+use Rattle.client_model.specs.meaning.Talk.{Step, takes, next_call, lost_of, waits_from, on_waiting, talk_step, wants_in}
+use Rattle.client_model.specs.meaning.Conversation.{Timed, Done, done_at}
+use Rattle.client_model.specs.Conversation.{steps_of, talk_after, is_wanted, is_gone_next, may_come, MayCome}
+use Rattle.client_model.specs.meaning.Account.{Account, unheard, hears, hears_outcome, shows, sends, before_sends, after_step, account_of}
 use Rattle.client_model.specs.Laws.{EachStep, is_expected, MaySendAll, BegunWith, settings_known, HasCause, track_of, IsKept, ReplaysOnlyVerified, FailsForCause, FailsAtCause, FailsWhere, BeginsKnown, FewReplays, KeepsWhatIsTold, IsCaused, HoldsBy, ReleasesRightly}
 use Rattle.client_model.proofs.Fits.{Tracked, Few, Fits, IsTalk, Good, is_idle}
 use Rattle.client_model.proofs.Calming.{other_calm}

@@ -14,16 +14,17 @@ use Rattle.request_bounds.specs.declared.rule.Why.{Why}
 use Rattle.request_bounds.specs.declared.rule.Why.TheVariants as why
 use Rattle.request_bounds.specs.declared.rule.After.{After}
 use Rattle.request_bounds.specs.declared.rule.After.TheVariants as after
-use Rattle.request_bounds.specs.Replies.{ends_decided}
-use Rattle.request_bounds.specs.Rules.{Rules}
+use Rattle.request_bounds.specs.meaning.Replies.{ends_decided}
+use Rattle.request_bounds.specs.meaning.Rules.{Rules}
 use Rattle.call_recorder.specs.declared.recorded.Recorded.{Recorded}
 use Rattle.client_model.specs.declared.input.Input.{Input}
 use Rattle.client_model.specs.declared.input.Input.TheVariants.{Start, Waiting, Lent, Opened, TryFailed, Took, Gone}
 use Rattle.client_model.specs.declared.act.Shown.{Shown}
-use Rattle.client_model.specs.Terms.{Terms, Talk, requested}
-use Rattle.client_model.specs.Talk.{Step, recorded_as, talk_step}
-use Rattle.client_model.specs.Conversation.{Timed, done_at, steps_of, is_gone_next, MayCome}
-use Rattle.client_model.specs.Account.{Account, unheard, hears, hears_outcome, hears_reply, begins, sends, shows, shows_call, reply_reason, since_after, after_step}
+use Rattle.client_model.specs.meaning.Terms.{Terms, Talk, requested}
+use Rattle.client_model.specs.meaning.Talk.{Step, recorded_as, talk_step}
+use Rattle.client_model.specs.meaning.Conversation.{Timed, done_at}
+use Rattle.client_model.specs.Conversation.{steps_of, is_gone_next, MayCome}
+use Rattle.client_model.specs.meaning.Account.{Account, unheard, hears, hears_outcome, hears_reply, begins, sends, shows, shows_call, reply_reason, since_after, after_step}
 use Rattle.client_model.specs.Reasons.{Kind, NoReplay, Dynamic, Static, Auto, rules_of, Event, submissions, showing, events_from, submit_reason, show_reason, reason_from}
 use Rattle.client_model.specs.Laws.{HasTablesReason}
 use Rattle.client_model.proofs.Fits.{Fits, IsTalk, is_idle}

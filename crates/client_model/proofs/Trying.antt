@@ -17,20 +17,22 @@ use Rattle.svc_values.specs.declared.frame.Down.TheVariants as down
 use Rattle.request_bounds.specs.declared.rule.Why.{Why}
 use Rattle.request_bounds.specs.declared.rule.Why.TheVariants as why
 use Rattle.call_recorder.specs.declared.recorded.Recorded.{Recorded}
-use Rattle.client_model.specs.States.{Losing, Living, Asking, Repeating, next_of, resumed}
-use Rattle.client_model.specs.Told as told
-use Rattle.client_model.specs.Told.{uncommitted, told_of, is_late, over, repeated, completed_on}
-use Rattle.client_model.specs.Verifying.{submitted, verified_more, mismatch}
+use Rattle.client_model.specs.meaning.States.{Losing, Living, Asking, Repeating, next_of, resumed}
+use Rattle.client_model.specs.meaning.Told as told
+use Rattle.client_model.specs.meaning.Told.{uncommitted, told_of, is_late, over, repeated, completed_on}
+use Rattle.client_model.specs.meaning.Verifying.{submitted, verified_more, mismatch}
 use Rattle.client_model.specs.declared.input.Input.{Input}
 use Rattle.client_model.specs.declared.input.Input.TheVariants.{Start, Waiting, Lent, Opened, TryFailed, Took, Gone}
 use Rattle.client_model.specs.declared.act.Shown.{Shown}
 use Rattle.client_model.specs.declared.act.Failed.{Failed}
 use Rattle.client_model.specs.declared.act.Failed.TheVariants.{Disabled, Mismatch as Differs, Incomplete, Retries, ReplayTimeout, Replays, PoolWait, Unknown, BadPeer}
-use Rattle.client_model.specs.Terms.{Terms, Talk, Phase, Idle, Unbegun, Queued, Seeking, Greeting, Asked, Running, Replaying, requested, unsubmitted}
-use Rattle.client_model.specs.Talk.{Step, fails, ends, sends_call, sends_or_ends, goes_on, next_call, begin_of, sends_marked, repeats, on_hello, on_reply, on_repeated, on_compared, on_told, on_completed, after_completed, takes, loses, talk_step, waits_from, stands, quiet, bad_peer, tag_of, with_shown, talk_shown, with_tried, lost_of}
-use Rattle.client_model.specs.Conversation.{Timed, Done, done_at, steps_of, is_gone_next, MayCome}
-use Rattle.client_model.specs.Account.{Account, unheard, after_step}
-use Rattle.client_model.specs.Tried.{Sending, Trying, told_ltxid, replied, with_answer, sent_under, tries_on, sent_with, sent_in}
+use Rattle.client_model.specs.meaning.Terms.{Terms, Talk, Phase, Idle, Unbegun, Queued, Seeking, Greeting, Asked, Running, Replaying, requested, unsubmitted}
+use Rattle.client_model.specs.meaning.Talk.{Step, fails, ends, sends_call, sends_or_ends, goes_on, next_call, begin_of, sends_marked, repeats, on_hello, on_reply, on_repeated, on_compared, on_told, on_completed, after_completed, takes, loses, talk_step, waits_from, stands, quiet, bad_peer, tag_of, with_shown, talk_shown, with_tried, lost_of}
+use Rattle.client_model.specs.meaning.Conversation.{Timed, Done, done_at}
+use Rattle.client_model.specs.Conversation.{steps_of, is_gone_next, MayCome}
+use Rattle.client_model.specs.meaning.Account.{Account, unheard, after_step}
+use Rattle.client_model.specs.meaning.Tried.{Sending, Trying, told_ltxid, replied, with_answer, sent_under, tries_on}
+use Rattle.client_model.specs.Tried.{sent_with, sent_in}
 use Rattle.client_model.specs.Laws.{TriesUnderHeld}
 use Rattle.client_model.proofs.Fits.{Fits, IsTalk, is_idle}
 use Rattle.client_model.proofs.Stepped.{Stepped}

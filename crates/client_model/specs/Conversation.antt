@@ -1,30 +1,15 @@
 -- Conversations: what a client does over a list of inputs, each at its tick.
-use Rattle.std.specs.Prelude.{ℕ, Bool, true, false, not, ◌&&◌, ◌||◌, IsTrue, List, [], ◌∷◌}
+-- Here is what contracts and proofs say of it besides.
+use Rattle.std.specs.Prelude.{Bool, true, false, not, ◌&&◌, ◌||◌, IsTrue, List, [], ◌∷◌}
 use Rattle.client_model.specs.declared.input.Input.{Input}
 use Rattle.client_model.specs.declared.input.Input.TheVariants.{Start, Waiting, Lent, Opened, TryFailed, Took, Gone}
 use Rattle.client_model.specs.declared.input.Wants.{Wants}
 use Rattle.client_model.specs.declared.input.Wants.TheVariants as wants
-use Rattle.client_model.specs.declared.act.Act.{Act}
 use Rattle.client_model.specs.declared.act.Hold.{Hold}
 use Rattle.client_model.specs.declared.act.Hold.TheVariants.{Keep}
-use Rattle.client_model.specs.Terms.{Terms, Talk}
-use Rattle.client_model.specs.Talk.{talk_step, wants_of}
-
--- a step as it is told: the input, its tick, the act
-pub record Done : Type 0 where
-  pub input : Input
-  pub now : ℕ
-  pub act : Act
-
--- an input and its tick
-abbrev pub Timed : Type 0
-Timed = Input × ℕ
-
-abbrev pub done_at : Terms → Talk → Timed → Done
-done_at terms talk one = record { input = one.0; now = one.1; act = (talk_step terms talk one.0 one.1).1 }
-
-abbrev pub talk_at : Terms → Talk → Timed → Talk
-talk_at terms talk one = (talk_step terms talk one.0 one.1).0
+use Rattle.client_model.specs.meaning.Terms.{Terms, Talk}
+use Rattle.client_model.specs.meaning.Talk.{wants_of}
+use Rattle.client_model.specs.meaning.Conversation.{Done, Timed, done_at, talk_at}
 
 -- the steps of the whole list
 abbrev pub steps_of : Terms → Talk → List Timed → List Done

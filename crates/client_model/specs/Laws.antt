@@ -22,13 +22,16 @@ use Rattle.client_model.specs.declared.act.Hold.{Hold}
 use Rattle.client_model.specs.declared.act.Hold.TheVariants.{Keep, GiveBack, Drop}
 use Rattle.client_model.specs.declared.act.Failed.{Failed}
 use Rattle.client_model.specs.declared.act.Failed.TheVariants.{Disabled, Mismatch, Incomplete, Retries, ReplayTimeout, Replays, PoolWait, Unknown, BadPeer}
-use Rattle.client_model.specs.Terms.{Terms, Phase, Seeking, Greeting, Asked, Running, Replaying, requested}
-use Rattle.svc_values.specs.SettingsList.{with_sets}
-use Rattle.client_model.specs.Talk.{tag_of}
-use Rattle.client_model.specs.Conversation.{Timed, Done, steps_of, talk_after, MayCome}
-use Rattle.client_model.specs.Account.{Account, Outcome, Answered, Session, unheard, set_shown, count_uncommitted, before_sends, after_step, account_of}
+use Rattle.client_model.specs.meaning.Terms.{Terms, Phase, Seeking, Greeting, Asked, Running, Replaying, requested}
+use Rattle.svc_values.specs.meaning.SettingsList.{with_sets}
+use Rattle.client_model.specs.meaning.Talk.{tag_of}
+use Rattle.client_model.specs.meaning.Conversation.{Timed, Done}
+use Rattle.client_model.specs.Conversation.{steps_of, talk_after, MayCome}
+use Rattle.client_model.specs.meaning.Account.{Account, Outcome, Answered, Session, unheard, before_sends, after_step, account_of}
+use Rattle.client_model.specs.Account.{set_shown, count_uncommitted}
 use Rattle.client_model.specs.Reasons.{Kind, rules_of, reason_of}
-use Rattle.client_model.specs.Tried.{trying_of, sent_in}
+use Rattle.client_model.specs.meaning.Tried.{trying_of}
+use Rattle.client_model.specs.Tried.{sent_in}
 
 -- P, at each step, of what is known before its frames go out
 abbrev pub EachStep : (Account → Done → Type 0) → Terms → List Call → Account → List Done → Type 0

@@ -1,11 +1,8 @@
 pub mod States
-pub mod Told
-pub mod Verifying
-pub mod Terms
-pub mod Talk
 pub mod Released
 pub mod Conversation
 pub mod Account
 pub mod Reasons
 pub mod Tried
 pub mod Laws
+pub mod meaning

@@ -8,10 +8,10 @@ use Rattle.svc_values.specs.declared.frame.Up.{Up}
 use Rattle.svc_values.specs.declared.frame.Up.TheVariants as up
 use Rattle.request_bounds.specs.declared.rule.Why.{Why}
 use Rattle.request_bounds.specs.declared.rule.Why.TheVariants as why
-use Rattle.request_bounds.specs.Replies.{ends_decided}
-use Rattle.request_bounds.specs.Rules.{Rules, off_rules, static_rules, dynamic_rules, auto_rules}
+use Rattle.request_bounds.specs.meaning.Replies.{ends_decided}
+use Rattle.request_bounds.specs.meaning.Rules.{Rules, off_rules, static_rules, dynamic_rules, auto_rules}
 use Rattle.client_model.specs.declared.act.Shown.{Shown}
-use Rattle.client_model.specs.Conversation.{Done}
+use Rattle.client_model.specs.meaning.Conversation.{Done}
 
 -- the kinds: no replay, dynamic or static session state, settings that are kept
 pub data Kind : Type 0 where

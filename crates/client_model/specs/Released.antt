@@ -1,9 +1,7 @@
 -- What a Hold does to the pool.
-use Rattle.std.specs.Prelude.{ℕ, Bool, true, false}
-use Rattle.pool_core.specs.Slots.{Slots, after_give_back, after_lost, after_leave}
-use Rattle.client_model.specs.declared.act.Hold.{Hold}
-use Rattle.client_model.specs.declared.act.Hold.TheVariants.{Keep, GiveBack, Drop}
-use Rattle.client_model.specs.Terms.{Phase, Idle, Unbegun, Queued}
+-- Here is what contracts and proofs say of it besides.
+use Rattle.std.specs.Prelude.{Bool, true, false}
+use Rattle.client_model.specs.meaning.Terms.{Phase, Idle, Unbegun, Queued}
 
 -- a request has a slot in each phase behind the queue
 abbrev pub has_slot : Phase → Bool
@@ -11,12 +9,3 @@ has_slot Idle = false
 has_slot Unbegun = false
 has_slot (Queued from) = false
 has_slot _ = true
-
--- The pool after the act of a client's request: its connection comes back, or its slot is lost, or
--- it leaves the queue where it has no slot. A request whose first try failed has been given a slot
--- already.
-abbrev pub released : Slots → (client connection : ℕ) → (holds_slot : Bool) → Hold → Slots
-released slots client connection holds_slot Keep = slots
-released slots client connection holds_slot GiveBack = after_give_back slots connection
-released slots client connection true Drop = after_lost slots
-released slots client connection false Drop = after_leave slots client

@@ -1,7 +1,7 @@
 //! A client as a function of what comes to it: which frames it sends, which call it shows, which
 //! error it ends with, and what becomes of its slot.
 //!
-//! `specs/Talk` is that function, over the states of a request whose connection may be lost
+//! `specs/meaning/Talk` is that function, over the states of a request whose connection may be lost
 //! (`specs/States`, `specs/Told`, `specs/Verifying`) and by the rules of `request_bounds`.
 //! `specs/Account`, `specs/Reasons` and `specs/Tried` tell from inputs and acts alone what came of
 //! a conversation. `specs/Laws` ties the two, over every list of inputs that may come: nothing is

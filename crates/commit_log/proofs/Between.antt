@@ -2,12 +2,12 @@
 use Rattle.std.proofs.Common.{◌≡◌, ℕ, zero, suc, ◌≤◌, List, [], ◌∷◌, ◌++◌, length, map, take, Option, Some, refl, sym, ◌∙◌, ap, arith, append_assoc, fold}
 use Rattle.std.specs.Prelude.{Result, Ok}
 use Rattle.std.proofs.lemmas.Simd.{map-map}
-use Rattle.redo_store.specs.Records.{records_of}
+use Rattle.redo_store.specs.meaning.Records.{records_of}
 use Rattle.commit_log.specs.declared.journal.Journal.{Journal}
 use Rattle.commit_log.specs.declared.records.Record.{Record}
 use Rattle.commit_log.specs.RecordBytes.{spell_record}
-use Rattle.commit_log.specs.Rules.{with_record}
-use Rattle.commit_log.specs.Journals.{whole_record}
+use Rattle.commit_log.specs.meaning.Rules.{with_record}
+use Rattle.commit_log.specs.meaning.Journals.{whole_record}
 use Rattle.commit_log.specs.Growth.{with_records, with_payloads}
 use Rattle.commit_log.specs.Laws.{FrontsAreGrown}
 use Rattle.commit_log.proofs.Fronts.{fronts_are_journals}

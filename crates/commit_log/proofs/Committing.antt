@@ -6,15 +6,17 @@ use Rattle.std.proofs.lemmas.Bool.{ltb-true}
 use Rattle.svc_values.specs.declared.schema.Shape.{Shape}
 use Rattle.svc_values.specs.declared.entry.Entry.{Entry}
 use Rattle.svc_values.specs.declared.entry.Ltxid.{Ltxid}
-use Rattle.svc_values.specs.Fitting.{writes_fit}
-use Rattle.ltxid_book.specs.Sessions.{Contents, Sessions, sessions_in, may_commit as may_note, after_commit, after_block, after_forgetting}
-use Rattle.ltxid_book.specs.Journal.{Committed, committed_of, book_of, BlocksStand}
+use Rattle.svc_values.specs.meaning.Fitting.{writes_fit}
+use Rattle.ltxid_book.specs.meaning.Sessions.{Sessions, may_commit as may_note}
+use Rattle.ltxid_book.specs.Sessions.{Contents, sessions_in, after_commit, after_block, after_forgetting}
+use Rattle.ltxid_book.specs.meaning.Journal.{Committed, committed_of, book_of}
+use Rattle.ltxid_book.specs.Journal.{BlocksStand}
 use Rattle.ltxid_book.proofs.Offered.{follows_commits, follows_blocks, follows_forgetting}
 use Rattle.commit_log.specs.declared.journal.Journal.{Journal}
 use Rattle.commit_log.specs.declared.judge.Judge.{Judge}
 use Rattle.commit_log.specs.declared.records.Record.TheVariants as kept
-use Rattle.commit_log.specs.Bases.{schemas_of}
-use Rattle.commit_log.specs.Rules.{sessions_of, may_commit, may_block, rises, with_record}
+use Rattle.commit_log.specs.meaning.Bases.{schemas_of}
+use Rattle.commit_log.specs.meaning.Rules.{sessions_of, may_commit, may_block, rises, with_record}
 use Rattle.commit_log.specs.Judging.{IsBookFor, Keeps}
 
 -- whether a commit may come next, by a book that is kept beside the journal

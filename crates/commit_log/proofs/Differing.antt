@@ -10,11 +10,12 @@ use Rattle.svc_values.specs.declared.value.Value.{Value}
 use Rattle.svc_values.specs.declared.value.Value.TheVariants as value
 use Rattle.svc_values.specs.declared.schema.Column.{Column}
 use Rattle.svc_values.specs.contracts.value.ValuePartialEq.TheImpl.{eq-value}
-use Rattle.svc_values.specs.Kinds.{has_column, have_distinct_names}
-use Rattle.svc_values.specs.Same.{same_value}
-use Rattle.svc_values.specs.Names.{is_name_of, names_differ}
-use Rattle.svc_values.specs.Schemas.{key_of}
-use Rattle.commit_log.specs.Bases.{keys_differ, column_name}
+use Rattle.svc_values.specs.meaning.Kinds.{has_column, have_distinct_names}
+use Rattle.svc_values.specs.meaning.Same.{same_value}
+use Rattle.svc_values.specs.meaning.Names.{is_name_of, names_differ}
+use Rattle.svc_values.specs.meaning.Schemas.{key_of}
+use Rattle.commit_log.specs.meaning.Bases.{keys_differ}
+use Rattle.commit_log.specs.Bases.{column_name}
 use Rattle.commit_log.specs.Keys.{is_key}
 
 -- ---- names

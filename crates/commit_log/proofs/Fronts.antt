@@ -2,14 +2,14 @@
 use Rattle.std.proofs.Common.{◌≡◌, ℕ, ◌+◌, ◌^◌, ◌≤◌, ◌&&◌, ◌||◌, Bool, true, false, List, [], ◌∷◌, ◌++◌, length, map, Option, Some, None, refl, sym, ◌∙◌, ap, subst, arith, fold}
 use Rattle.std.specs.Prelude.{nat_le, nat_lt, Result, Ok, Err, option_and_then, if◌then◌else◌}
 use Rattle.std.proofs.lemmas.Bool.Decides.{nat_tests}
-use Rattle.redo_store.specs.Records.{records_of}
+use Rattle.redo_store.specs.meaning.Records.{records_of}
 use Rattle.commit_log.specs.declared.base.Base.{Base}
 use Rattle.commit_log.specs.declared.journal.Journal.{Journal}
 use Rattle.commit_log.specs.declared.records.Record.{Record}
 use Rattle.commit_log.specs.declared.records.Record.TheVariants as kept
-use Rattle.commit_log.specs.Bases.{is_base}
-use Rattle.commit_log.specs.Rules.{SoFar, Empty, Begun, new_journal, may_open, may_come, with_record, is_opening, is_horizon, after}
-use Rattle.commit_log.specs.Journals.{whole_record, after_payload, if_next, judged, journal_in, journal_of, so_far_of}
+use Rattle.commit_log.specs.meaning.Bases.{is_base}
+use Rattle.commit_log.specs.meaning.Rules.{SoFar, Empty, Begun, new_journal, may_open, may_come, with_record, is_opening, is_horizon, after}
+use Rattle.commit_log.specs.meaning.Journals.{whole_record, after_payload, if_next, judged, journal_in, journal_of, so_far_of}
 use Rattle.commit_log.specs.Keeping.{FrontsAreJournals}
 use Rattle.commit_log.proofs.Steps.{so_far_by_records}
 

@@ -4,15 +4,16 @@ use Rattle.std.specs.Prelude.{Bool, false, ◌||◌, IsTrue, Result, Ok, Err, if
 use Rattle.std.proofs.lemmas.List.{map-append}
 use Rattle.disk_model.specs.Disk.{DiskState, Meanwhile, SameBytes}
 use Rattle.disk_model.proofs.Offered.{stays, then as after_that, weaker}
-use Rattle.redo_store.specs.Records.{records_of, with_last}
+use Rattle.redo_store.specs.meaning.Records.{records_of}
+use Rattle.redo_store.specs.Records.{with_last}
 use Rattle.commit_log.specs.declared.journal.Journal.{Journal}
 use Rattle.commit_log.specs.declared.base.Base.{Base}
 use Rattle.commit_log.specs.declared.records.Record.{Record}
 use Rattle.commit_log.specs.declared.records.Record.TheVariants as kept
 use Rattle.commit_log.specs.Bases.{IsBase}
 use Rattle.commit_log.specs.RecordBytes.{spell_record}
-use Rattle.commit_log.specs.Rules.{SoFar, Empty, Begun, new_journal, with_record, is_opening, is_horizon, may_come, after}
-use Rattle.commit_log.specs.Journals.{whole_record, journal_in, journal_of, so_far_of}
+use Rattle.commit_log.specs.meaning.Rules.{SoFar, Empty, Begun, new_journal, with_record, is_opening, is_horizon, may_come, after}
+use Rattle.commit_log.specs.meaning.Journals.{whole_record, journal_in, journal_of, so_far_of}
 use Rattle.commit_log.specs.Adding.{HasAlso, IsOldOrWith}
 use Rattle.commit_log.specs.Growth.{with_records, with_payloads, HasAdded, IsGrown}
 use Rattle.commit_log.specs.Laws.{GrowsByNone, GrowsByMore, GrowsOn, AddsOn}

@@ -10,9 +10,10 @@ use Rattle.svc_values.specs.declared.schema.Schema.{Schema}
 use Rattle.svc_values.specs.declared.entry.Entry.{Entry}
 use Rattle.svc_values.specs.declared.entry.Ltxid.{Ltxid}
 use Rattle.svc_values.specs.declared.entry.SessionId.{SessionId}
-use Rattle.svc_values.specs.Identifiers.{is_of, same_ltxid, ltxid_of, session_of}
-use Rattle.svc_values.specs.Fitting.{writes_fit}
-use Rattle.ltxid_book.specs.Journal.{Committed, committed_of, commits_of, is_blocked, next_ltxid, state_of, BlocksStand}
+use Rattle.svc_values.specs.meaning.Identifiers.{is_of, same_ltxid, ltxid_of, session_of}
+use Rattle.svc_values.specs.meaning.Fitting.{writes_fit}
+use Rattle.ltxid_book.specs.meaning.Journal.{Committed, committed_of, commits_of, is_blocked, next_ltxid, state_of}
+use Rattle.ltxid_book.specs.Journal.{BlocksStand}
 use Rattle.ltxid_book.proofs.Offered.{May, commit_stands, block_stands, begins_untouched}
 use Rattle.commit_log.specs.Keeping.{AreCommits, ltxids_of}
 

@@ -5,17 +5,17 @@ use Rattle.std.proofs.lemmas.Bool.{leb-true, ltb-true, ltb-false, and_parts}
 use Rattle.std.proofs.Math.Bool.{or-true, or-false}
 use Rattle.std.specs.Prelude.{pos, ◌+ℤ◌, ◌-ℤ◌, int_lt, nat_le, nat_lt, Result, Ok, Err, suc, if◌then◌else◌}
 use Rattle.std.specs.List.{list_all, list_any}
-use Rattle.canon_bytes.specs.Reading.{◌>>=◌}
-use Rattle.canon_bytes.specs.Numbers.{u64_at}
-use Rattle.canon_bytes.specs.TextBytes.{bytes_at, name_at, text_at}
+use Rattle.canon_bytes.specs.meaning.Reading.{◌>>=◌}
+use Rattle.canon_bytes.specs.meaning.Numbers.{u64_at}
+use Rattle.canon_bytes.specs.meaning.TextBytes.{bytes_at, name_at, text_at}
 use Rattle.canon_bytes.specs.declared.fault.Fault.{Fault}
 use Rattle.canon_bytes.specs.declared.fault.Fault.TheVariants.{Short, BadTag}
 use Rattle.svc_values.specs.declared.entry.Entry.{Entry}
 use Rattle.svc_values.specs.declared.entry.Ltxid.{Ltxid}
-use Rattle.svc_values.specs.Names.{names_differ}
-use Rattle.svc_values.specs.Fitting.{writes_fit}
-use Rattle.ltxid_book.specs.Sessions.{may_commit as may_note}
-use Rattle.ltxid_book.specs.Journal.{committed_of, state_of}
+use Rattle.svc_values.specs.meaning.Names.{names_differ}
+use Rattle.svc_values.specs.meaning.Fitting.{writes_fit}
+use Rattle.ltxid_book.specs.meaning.Sessions.{may_commit as may_note}
+use Rattle.ltxid_book.specs.meaning.Journal.{committed_of, state_of}
 use Rattle.ltxid_book.proofs.Offered.{may_known}
 use Rattle.redo_store.specs.Records.{spelling_of}
 use Rattle.redo_store.proofs.Offered.{length-spelling_of, records_within}
@@ -25,12 +25,13 @@ use Rattle.commit_log.specs.declared.journal.Journal.{Journal}
 use Rattle.commit_log.specs.declared.journal.Reservation.{Reservation}
 use Rattle.commit_log.specs.declared.records.Record.{Record}
 use Rattle.commit_log.specs.declared.records.Record.TheVariants as kept
-use Rattle.commit_log.specs.Bases.{is_base, is_table, is_sequence, IsBase, schemas_of, table_name, sequence_name}
-use Rattle.canon_bytes.specs.Entries.{entry_at, ltxid_at}
-use Rattle.commit_log.specs.BaseBytes.{base_at}
-use Rattle.commit_log.specs.RecordBytes.{record_at, reservation_at}
-use Rattle.commit_log.specs.Rules.{SoFar, Empty, Begun, new_journal, sessions_of, may_commit, may_block, may_reserve, may_open, may_forget, rises, may_come, with_record, is_opening, is_horizon, end_of, is_next_reservation, after}
-use Rattle.commit_log.specs.Journals.{if_whole, whole_record, after_payload, judged, so_far_of}
+use Rattle.commit_log.specs.meaning.Bases.{is_base, is_table, is_sequence, schemas_of, table_name, sequence_name}
+use Rattle.commit_log.specs.Bases.{IsBase}
+use Rattle.canon_bytes.specs.meaning.Entries.{entry_at, ltxid_at}
+use Rattle.commit_log.specs.meaning.BaseBytes.{base_at}
+use Rattle.commit_log.specs.meaning.RecordBytes.{record_at, reservation_at}
+use Rattle.commit_log.specs.meaning.Rules.{SoFar, Empty, Begun, new_journal, sessions_of, may_commit, may_block, may_reserve, may_open, may_forget, rises, may_come, with_record, is_opening, is_horizon, end_of, is_next_reservation, after}
+use Rattle.commit_log.specs.meaning.Journals.{if_whole, whole_record, after_payload, judged, so_far_of}
 use Rattle.commit_log.specs.Keeping.{AreCommits, AreReservations, KeepsJournal, EachKeeps, ends_of}
 use Rattle.commit_log.proofs.Steps.{read_of}
 use Rattle.commit_log.proofs.Fronts.{next_of, one_of, begun_of}

@@ -9,11 +9,11 @@ use Rattle.std.specs.Prelude.{All, IsTrue, pos, ◌+ℤ◌, ◌-ℤ◌, if◌the
 use Rattle.std.specs.List.{range_with_len, list_any}
 use Rattle.std.specs.Ordering.{int_eq}
 use Rattle.std.specs.Str.{bytes_eq}
-use Rattle.svc_values.specs.Names.{is_name_of, names_differ}
+use Rattle.svc_values.specs.meaning.Names.{is_name_of, names_differ}
 use Rattle.commit_log.specs.declared.base.BaseSequence.{BaseSequence}
 use Rattle.commit_log.specs.declared.journal.Reservation.{Reservation}
-use Rattle.commit_log.specs.Bases.{sequence_name}
-use Rattle.commit_log.specs.Rules.{reservation_size, end_of, is_next_reservation}
+use Rattle.commit_log.specs.meaning.Bases.{sequence_name}
+use Rattle.commit_log.specs.meaning.Rules.{reservation_size, end_of, is_next_reservation}
 use Rattle.commit_log.specs.Keeping.{AreReservations, ends_of, end_after}
 use Rattle.commit_log.proofs.Reserving.{end_more}
 use Rattle.commit_log.proofs.KeepingCommits.{counted_push}

@@ -9,7 +9,7 @@ use Rattle.disk_model.specs.Disk.{DiskState, LoweredByLess, Lowers, Caused}
 use Rattle.disk_model.proofs.Offered.{caused_for, caused_then}
 use Rattle.commit_log.specs.declared.log.Log.{Log}
 use Rattle.commit_log.specs.declared.records.Record.{Record}
-use Rattle.commit_log.specs.Rules.{is_opening, is_horizon}
+use Rattle.commit_log.specs.meaning.Rules.{is_opening, is_horizon}
 use Rattle.commit_log.specs.Logs.{HasBegun, GoesOnFrom}
 use Rattle.commit_log.specs.declared.judge.Misfit.{Misfit}
 use Rattle.commit_log.specs.declared.judge.Misfit.TheVariants as misfit

@@ -12,8 +12,8 @@ use Rattle.commit_log.specs.declared.judge.Judge.{Judge}
 use Rattle.commit_log.specs.declared.log.Log.{Log}
 use Rattle.commit_log.specs.declared.records.Record.{Record}
 use Rattle.commit_log.specs.declared.records.Record.TheVariants as kept
-use Rattle.commit_log.specs.Rules.{SoFar, Begun, with_record, may_open, rises, may_forget}
-use Rattle.commit_log.specs.Journals.{journal_in, journal_of, so_far_of}
+use Rattle.commit_log.specs.meaning.Rules.{SoFar, Begun, with_record, may_open, rises, may_forget}
+use Rattle.commit_log.specs.meaning.Journals.{journal_in, journal_of, so_far_of}
 use Rattle.commit_log.specs.Judging.{so_far_in, Keeps}
 use Rattle.commit_log.specs.Growth.{with_records, HasAdded, IsGrown, horizon_of, first_of_opening, opening_of, with_opening}
 use Rattle.commit_log.specs.Logs.{HasBegun, CanLog}

@@ -3,8 +3,8 @@ use Rattle.std.proofs.Common.{◌≡◌, ℕ, Bool, true, false, List, fold, ref
 use Rattle.std.specs.Prelude.{max, Result}
 use Rattle.commit_log.specs.declared.journal.Journal.{Journal}
 use Rattle.commit_log.specs.declared.records.Record.{Record}
-use Rattle.commit_log.specs.Rules.{SoFar, with_record, rises}
-use Rattle.commit_log.specs.Journals.{so_far_of}
+use Rattle.commit_log.specs.meaning.Rules.{SoFar, with_record, rises}
+use Rattle.commit_log.specs.meaning.Journals.{so_far_of}
 use Rattle.commit_log.specs.Growth.{horizon_of, first_of_opening}
 use Rattle.commit_log.specs.Laws.{RaisesHorizon}
 use Rattle.commit_log.proofs.Committing.{greater}

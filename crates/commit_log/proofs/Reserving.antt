@@ -9,9 +9,9 @@ use Rattle.std.specs.Str.{bytes_eq}
 use Rattle.commit_log.specs.declared.base.Base.{Base}
 use Rattle.commit_log.specs.declared.base.BaseSequence.{BaseSequence}
 use Rattle.commit_log.specs.declared.journal.Reservation.{Reservation}
-use Rattle.commit_log.specs.Bases.{is_base, is_sequence, is_table, table_name, sequence_name}
-use Rattle.svc_values.specs.Names.{names_differ}
-use Rattle.commit_log.specs.Rules.{end_of}
+use Rattle.commit_log.specs.meaning.Bases.{is_base, is_sequence, is_table, table_name, sequence_name}
+use Rattle.svc_values.specs.meaning.Names.{names_differ}
+use Rattle.commit_log.specs.meaning.Rules.{end_of}
 
 last_of_four : (a b c d : Bool) → (a && (b && (c && d))) ≡ true → d ≡ true
 last_of_four true true true d e = e

@@ -8,12 +8,13 @@ use Rattle.std.specs.declared.cmp.Ordering.TheVariants.{Less, Equal, Greater}
 use Rattle.std.proofs.lemmas.Bool.{cases_Bool}
 use Rattle.std.proofs.lemmas.Cmp.{tied_itself}
 use Rattle.svc_values.specs.declared.value.Value.{Value}
-use Rattle.svc_values.specs.Order.{value_cmp}
-use Rattle.svc_values.specs.Same.{same_value}
+use Rattle.svc_values.specs.meaning.Order.{value_cmp}
+use Rattle.svc_values.specs.meaning.Same.{same_value}
 use Rattle.svc_values.specs.SameLaws.{same_value_decides}
-use Rattle.svc_values.specs.Schemas.{key_of}
+use Rattle.svc_values.specs.meaning.Schemas.{key_of}
 use Rattle.svc_values.proofs.Offered.{value_cmp_total}
-use Rattle.commit_log.specs.Bases.{has_lower_key, keys_differ}
+use Rattle.commit_log.specs.meaning.Bases.{keys_differ}
+use Rattle.commit_log.specs.Bases.{has_lower_key}
 
 less_from_lower : (o : Ordering) → true ≡ is_lt o → o ≡ Less
 less_from_lower Less h = refl

@@ -2,13 +2,15 @@
 use Rattle.std.proofs.Common.{◌≡◌, ℕ, ◌+◌, List, [], ◌∷◌, ◌++◌, length, drop, Option, Some, None, refl, sym, ◌∙◌, ap, arith, append_assoc, append-nil}
 use Rattle.std.specs.Prelude.{Result, Ok, Err, option_and_then}
 use Rattle.redo_store.specs.declared.walk.Walk.{Walk}
-use Rattle.redo_store.specs.Records.{spelling_of, records_of, whole_records, whole_from, with_last}
+use Rattle.redo_store.specs.meaning.Records.{records_of, whole_records, whole_from}
+use Rattle.redo_store.specs.Records.{spelling_of, with_last}
 use Rattle.redo_store.specs.Walk.{HasRead}
 use Rattle.redo_store.proofs.Offered.{length-spelling_of, whole_of_read}
 use Rattle.commit_log.specs.declared.records.Record.{Record}
-use Rattle.commit_log.specs.RecordBytes.{spell_record, FitsRecord, record_at, record_again}
-use Rattle.commit_log.specs.Rules.{SoFar, Empty, after}
-use Rattle.commit_log.specs.Journals.{if_whole, whole_record, after_payload, if_next, judged, with_gates, so_far_of}
+use Rattle.commit_log.specs.meaning.RecordBytes.{record_at}
+use Rattle.commit_log.specs.RecordBytes.{spell_record, FitsRecord, record_again}
+use Rattle.commit_log.specs.meaning.Rules.{SoFar, Empty, after}
+use Rattle.commit_log.specs.meaning.Journals.{if_whole, whole_record, after_payload, if_next, judged, with_gates, so_far_of}
 use Rattle.commit_log.specs.Adding.{HasAlso}
 
 -- ---- records judged after others

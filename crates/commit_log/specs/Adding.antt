@@ -1,6 +1,7 @@
 -- A record that is added to a store.
 use Rattle.std.specs.Prelude.{◌≡◌, ◌⊎◌, ℕ, List}
-use Rattle.redo_store.specs.Records.{records_of, with_last}
+use Rattle.redo_store.specs.meaning.Records.{records_of}
+use Rattle.redo_store.specs.Records.{with_last}
 use Rattle.commit_log.specs.declared.records.Record.{Record}
 use Rattle.commit_log.specs.declared.records.Record.TheVariants as kept
 use Rattle.commit_log.specs.declared.records.Adding.{Adding}

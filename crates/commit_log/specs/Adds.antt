@@ -6,8 +6,8 @@ use Rattle.redo_store.specs.declared.fault.RedoFault.TheVariants as fault
 use Rattle.commit_log.specs.declared.journal.Journal.{Journal}
 use Rattle.commit_log.specs.declared.records.Record.{Record}
 use Rattle.commit_log.specs.declared.log.Log.{Log}
-use Rattle.commit_log.specs.Rules.{may_come}
-use Rattle.commit_log.specs.Journals.{journal_of}
+use Rattle.commit_log.specs.meaning.Rules.{may_come}
+use Rattle.commit_log.specs.meaning.Journals.{journal_of}
 use Rattle.commit_log.specs.Growth.{HasAdded, IsGrown}
 use Rattle.commit_log.specs.Logs.{GoesOnFrom}
 

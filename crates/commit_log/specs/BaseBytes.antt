@@ -1,31 +1,29 @@
 -- The bytes of a base: a list of tables, each its name, its columns and its rows, and a list of sequences.
+-- Here is what contracts and proofs say of it besides.
 use Rattle.std.proofs.Common.{◌≡◌, refl, append_assoc}
-use Rattle.std.specs.Prelude.{ℕ, List, ◌++◌, Result, Ok}
-use Rattle.canon_bytes.specs.Numbers.{spell_i64, spell_bool, FitsI64, i64_at, bool_at}
-use Rattle.canon_bytes.specs.TextBytes.{spell_bytes, FitsName, name_at}
-use Rattle.canon_bytes.specs.Lists.{spell_list, FitsList, list_at}
-use Rattle.canon_bytes.specs.Values.{spell_row, FitsRow, row_at}
-use Rattle.canon_bytes.specs.ColumnBytes.{spell_column, FitsColumn, column_at, column_again}
-use Rattle.canon_bytes.specs.Reading.{◌>>=◌}
-use Rattle.canon_bytes.specs.declared.fault.Fault.{Fault}
+use Rattle.std.specs.Prelude.{ℕ, List, ◌++◌, Ok}
+use Rattle.canon_bytes.specs.meaning.Numbers.{spell_i64, spell_bool}
+use Rattle.canon_bytes.specs.Numbers.{FitsI64}
+use Rattle.canon_bytes.specs.meaning.TextBytes.{spell_bytes}
+use Rattle.canon_bytes.specs.TextBytes.{FitsName}
+use Rattle.canon_bytes.specs.meaning.Lists.{spell_list}
+use Rattle.canon_bytes.specs.Lists.{FitsList}
+use Rattle.canon_bytes.specs.meaning.Values.{spell_row, row_at}
+use Rattle.canon_bytes.specs.Values.{FitsRow}
+use Rattle.canon_bytes.specs.meaning.ColumnBytes.{column_at}
+use Rattle.canon_bytes.specs.ColumnBytes.{spell_column, FitsColumn, column_again}
 use Rattle.canon_bytes.specs.Again.{i64_again, bool_again, name_again, list_again}
 use Rattle.canon_bytes.specs.ValuesAgain.{row_again}
 use Rattle.commit_log.specs.declared.base.Base.{Base}
 use Rattle.commit_log.specs.declared.base.BaseTable.{BaseTable}
 use Rattle.commit_log.specs.declared.base.BaseSequence.{BaseSequence}
+use Rattle.commit_log.specs.meaning.BaseBytes.{base_at, sequence_at, table_at}
 
 unfoldable pub spell_table : BaseTable → List ℕ
 spell_table table = spell_bytes table.schema.name ++ spell_list spell_column table.schema.columns ++ spell_list spell_row table.rows
 
 abbrev pub FitsTable : BaseTable → Type 0
 FitsTable table = FitsName table.schema.name × FitsList FitsColumn 8 table.schema.columns × FitsList FitsRow 10000 table.rows
-
-unfoldable pub table_at : List ℕ → Result (BaseTable × List ℕ) Fault
-table_at bytes = do
-  name ← name_at bytes
-  columns ← list_at column_at 8 name.1
-  rows ← list_at row_at 10000 columns.1
-  Ok (record { schema = record { name = name.0; columns = columns.0 }; rows = rows.0 }, rows.1)
 
 -- its name, its first value, and whether its values are kept
 unfoldable pub spell_sequence : BaseSequence → List ℕ
@@ -34,24 +32,11 @@ spell_sequence sequence = spell_bytes sequence.name ++ spell_i64 sequence.start 
 abbrev pub FitsSequence : BaseSequence → Type 0
 FitsSequence sequence = FitsName sequence.name × FitsI64 sequence.start
 
-unfoldable pub sequence_at : List ℕ → Result (BaseSequence × List ℕ) Fault
-sequence_at bytes = do
-  name ← name_at bytes
-  start ← i64_at name.1
-  keep ← bool_at start.1
-  Ok (record { name = name.0; start = start.0; keep = keep.0 }, keep.1)
-
 unfoldable pub spell_base : Base → List ℕ
 spell_base base = spell_list spell_table base.tables ++ spell_list spell_sequence base.sequences
 
 abbrev pub FitsBase : Base → Type 0
 FitsBase base = FitsList FitsTable 32 base.tables × FitsList FitsSequence 32 base.sequences
-
-unfoldable pub base_at : List ℕ → Result (Base × List ℕ) Fault
-base_at bytes = do
-  tables ← list_at table_at 32 bytes
-  sequences ← list_at sequence_at 32 tables.1
-  Ok (record { tables = tables.0; sequences = sequences.0 }, sequences.1)
 
 -- ---- what was written is read again, whatever follows
 

@@ -1,12 +1,12 @@
 -- What a call that adds records leaves of a store, and what a crash does.
 use Rattle.std.specs.Prelude.{◌≡◌, ℕ, ◌+◌, ◌≤◌, Bool, max, List, [], ◌∷◌, ◌++◌, length, take, map, fold, Some, Result, Ok, Err, if◌then◌else◌}
-use Rattle.redo_store.specs.Records.{records_of}
+use Rattle.redo_store.specs.meaning.Records.{records_of}
 use Rattle.commit_log.specs.declared.journal.Journal.{Journal}
 use Rattle.commit_log.specs.declared.records.Record.{Record}
 use Rattle.commit_log.specs.declared.records.Record.TheVariants as kept
 use Rattle.commit_log.specs.RecordBytes.{spell_record}
-use Rattle.commit_log.specs.Rules.{SoFar, Begun, rises, with_record}
-use Rattle.commit_log.specs.Journals.{whole_record, journal_of}
+use Rattle.commit_log.specs.meaning.Rules.{SoFar, Begun, rises, with_record}
+use Rattle.commit_log.specs.meaning.Journals.{whole_record, journal_of}
 
 -- the journal with these records more, in order
 abbrev pub with_records : List Record → Result Journal ℕ → Result Journal ℕ

@@ -5,8 +5,8 @@ use Rattle.redo_store.specs.Redo.{CanAppend}
 use Rattle.commit_log.specs.declared.journal.Journal.{Journal}
 use Rattle.commit_log.specs.declared.judge.Judge.{Judge}
 use Rattle.commit_log.specs.declared.log.Log.{Log}
-use Rattle.commit_log.specs.Rules.{Begun}
-use Rattle.commit_log.specs.Journals.{so_far_of}
+use Rattle.commit_log.specs.meaning.Rules.{Begun}
+use Rattle.commit_log.specs.meaning.Journals.{so_far_of}
 use Rattle.commit_log.specs.Growth.{HasAdded, horizon_of}
 
 -- the horizon is stored, where it rises or is the first, and the journal is the one that was judged, with the greater horizon

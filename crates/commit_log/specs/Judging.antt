@@ -1,15 +1,16 @@
 -- What a judge of records keeps beside the journal.
 use Rattle.std.specs.Prelude.{◌≡◌, ℕ, false, List, map, Ok}
 use Rattle.ltxid_book.specs.Sessions.{Contents, sessions_in}
-use Rattle.ltxid_book.specs.Journal.{committed_of, BlocksStand}
+use Rattle.ltxid_book.specs.meaning.Journal.{committed_of}
+use Rattle.ltxid_book.specs.Journal.{BlocksStand}
 use Rattle.redo_store.specs.declared.walk.Walk.{Walk}
-use Rattle.redo_store.specs.Records.{records_of}
+use Rattle.redo_store.specs.meaning.Records.{records_of}
 use Rattle.redo_store.specs.Walk.{HasRead}
 use Rattle.commit_log.specs.declared.journal.Journal.{Journal}
 use Rattle.commit_log.specs.declared.judge.Judge.{Judge}
-use Rattle.commit_log.specs.Bases.{shape_of}
-use Rattle.commit_log.specs.Rules.{SoFar, Empty, Begun, sessions_of, end_of}
-use Rattle.commit_log.specs.Journals.{judged}
+use Rattle.commit_log.specs.meaning.Bases.{shape_of}
+use Rattle.commit_log.specs.meaning.Rules.{SoFar, Empty, Begun, sessions_of, end_of}
+use Rattle.commit_log.specs.meaning.Journals.{judged}
 
 -- how far it has come
 abbrev pub so_far_in : Judge → SoFar

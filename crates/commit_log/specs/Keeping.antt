@@ -6,18 +6,20 @@ use Rattle.svc_values.specs.declared.schema.Schema.{Schema}
 use Rattle.svc_values.specs.declared.entry.Entry.{Entry}
 use Rattle.svc_values.specs.declared.entry.Ltxid.{Ltxid}
 use Rattle.svc_values.specs.declared.entry.SessionId.{SessionId}
-use Rattle.svc_values.specs.Identifiers.{same_ltxid, ltxid_of}
-use Rattle.svc_values.specs.Names.{is_name_of}
-use Rattle.svc_values.specs.Fitting.{writes_fit}
-use Rattle.ltxid_book.specs.Journal.{committed_of, commits_of, is_blocked, BlocksStand}
-use Rattle.redo_store.specs.Records.{records_of}
+use Rattle.svc_values.specs.meaning.Identifiers.{same_ltxid, ltxid_of}
+use Rattle.svc_values.specs.meaning.Names.{is_name_of}
+use Rattle.svc_values.specs.meaning.Fitting.{writes_fit}
+use Rattle.ltxid_book.specs.meaning.Journal.{committed_of, commits_of, is_blocked}
+use Rattle.ltxid_book.specs.Journal.{BlocksStand}
+use Rattle.redo_store.specs.meaning.Records.{records_of}
 use Rattle.commit_log.specs.declared.base.BaseSequence.{BaseSequence}
 use Rattle.commit_log.specs.declared.journal.Journal.{Journal}
 use Rattle.commit_log.specs.declared.journal.Reservation.{Reservation}
 use Rattle.commit_log.specs.declared.records.Record.{Record}
-use Rattle.commit_log.specs.Bases.{IsBase, schemas_of, sequence_name}
-use Rattle.commit_log.specs.Rules.{end_of, with_record}
-use Rattle.commit_log.specs.Journals.{whole_record, journal_of}
+use Rattle.commit_log.specs.meaning.Bases.{schemas_of, sequence_name}
+use Rattle.commit_log.specs.Bases.{IsBase}
+use Rattle.commit_log.specs.meaning.Rules.{end_of, with_record}
+use Rattle.commit_log.specs.meaning.Journals.{whole_record, journal_of}
 
 -- the identifiers of a session's entries, in order
 abbrev pub ltxids_of : List Entry → SessionId → List Ltxid

@@ -1,12 +1,13 @@
 -- How stores grow, and which journal a log has.
 use Rattle.std.specs.Prelude.{◌≡◌, ℕ, max, List, [], ◌∷◌, ◌++◌, fold, Ok}
 use Rattle.disk_model.specs.Disk.{DiskState}
-use Rattle.redo_store.specs.Records.{records_of, record_count}
+use Rattle.redo_store.specs.meaning.Records.{records_of}
+use Rattle.redo_store.specs.Records.{record_count}
 use Rattle.commit_log.specs.declared.journal.Journal.{Journal}
 use Rattle.commit_log.specs.declared.records.Record.{Record}
 use Rattle.commit_log.specs.declared.log.Log.{Log}
-use Rattle.commit_log.specs.Rules.{with_record}
-use Rattle.commit_log.specs.Journals.{so_far_of, journal_of}
+use Rattle.commit_log.specs.meaning.Rules.{with_record}
+use Rattle.commit_log.specs.meaning.Journals.{so_far_of, journal_of}
 use Rattle.commit_log.specs.Growth.{HasAdded, IsGrown, first_of_opening}
 use Rattle.commit_log.specs.Logs.{count_of, CanLog}
 

@@ -1,8 +1,6 @@
 pub mod Bases
 pub mod BaseBytes
 pub mod RecordBytes
-pub mod Rules
-pub mod Journals
 pub mod Keys
 pub mod Growth
 pub mod Adding
@@ -12,3 +10,4 @@ pub mod Keeping
 pub mod Logs
 pub mod InnerOpening
 pub mod Laws
+pub mod meaning

@@ -7,8 +7,8 @@ use Rattle.redo_store.specs.Redo.{is_live as is_live_store, count_of as count_of
 use Rattle.commit_log.specs.declared.journal.Journal.{Journal}
 use Rattle.commit_log.specs.declared.records.Record.{Record}
 use Rattle.commit_log.specs.declared.log.Log.{Log}
-use Rattle.commit_log.specs.Rules.{Begun, is_opening, is_horizon}
-use Rattle.commit_log.specs.Journals.{so_far_of}
+use Rattle.commit_log.specs.meaning.Rules.{Begun, is_opening, is_horizon}
+use Rattle.commit_log.specs.meaning.Journals.{so_far_of}
 
 -- it may be added to, as far as it knows
 abbrev pub is_live : Log → Bool

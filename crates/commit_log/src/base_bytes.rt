@@ -1,12 +1,13 @@
 //! The canonical bytes of a base.
-ghost use Rattle.commit_log.specs.BaseBytes.{spell_table, spell_sequence, spell_base, FitsTable, FitsSequence, FitsBase, table_at, sequence_at, base_at, table_again, sequence_again, base_again};
+ghost use Rattle.commit_log.specs.meaning.BaseBytes.{table_at, sequence_at, base_at};
+ghost use Rattle.commit_log.specs.BaseBytes.{spell_table, spell_sequence, spell_base, FitsTable, FitsSequence, FitsBase, table_again, sequence_again, base_again};
 
 use crate::base::{Base, BaseRows, BaseSequence, BaseSequences, BaseTable, BaseTables};
 use canon_bytes::{Put, ReadFault, Take};
 use std::alloc::Global;
 use svc_values::{Columns, Name, NoMemory, Schema};
 
-#[tactic(auto, unfolding(crate::specs::BaseBytes::table_at, crate::specs::BaseBytes::spell_table))]
+#[tactic(auto, unfolding(crate::specs::meaning::BaseBytes::table_at, crate::specs::BaseBytes::spell_table))]
 impl Take for BaseTable {
     ghost spelling = { spell_table };
 
@@ -34,7 +35,7 @@ impl Put for BaseTable {
     }
 }
 
-#[tactic(auto, unfolding(crate::specs::BaseBytes::sequence_at, crate::specs::BaseBytes::spell_sequence))]
+#[tactic(auto, unfolding(crate::specs::meaning::BaseBytes::sequence_at, crate::specs::BaseBytes::spell_sequence))]
 impl Take for BaseSequence {
     ghost spelling = { spell_sequence };
 
@@ -61,7 +62,7 @@ impl Put for BaseSequence {
     }
 }
 
-#[tactic(auto, unfolding(crate::specs::BaseBytes::base_at, crate::specs::BaseBytes::spell_base))]
+#[tactic(auto, unfolding(crate::specs::meaning::BaseBytes::base_at, crate::specs::BaseBytes::spell_base))]
 impl Take for Base {
     ghost spelling = { spell_base };
 

@@ -1,10 +1,11 @@
 //! Whether a base keeps its rules.
 ghost use Rattle.std.specs.Prelude.{◌≡◌, ◌&&◌, IfOk, IsTrue, map};
 ghost use Rattle.std.specs.List.{IsAllAdjacentAnswer, list_all};
-ghost use Rattle.svc_values.specs.Kinds.{row_fits};
-ghost use Rattle.svc_values.specs.Schemas.{is_declared as is_declared_def, key_of as key_of_def};
-ghost use Rattle.svc_values.specs.Names.{names_differ};
-ghost use Rattle.commit_log.specs.Bases.{has_lower_key as has_lower_key_def, table_name, keys_differ as keys_differ_def, is_table as is_table_def, is_sequence as is_sequence_def, is_base as is_base_def, schemas_of as schemas_of_def, sequence_name, shape_of as shape_of_def};
+ghost use Rattle.svc_values.specs.meaning.Kinds.{row_fits};
+ghost use Rattle.svc_values.specs.meaning.Schemas.{is_declared as is_declared_def, key_of as key_of_def};
+ghost use Rattle.svc_values.specs.meaning.Names.{names_differ};
+ghost use Rattle.commit_log.specs.meaning.Bases.{table_name, keys_differ as keys_differ_def, is_table as is_table_def, is_sequence as is_sequence_def, is_base as is_base_def, schemas_of as schemas_of_def, sequence_name, shape_of as shape_of_def};
+ghost use Rattle.commit_log.specs.Bases.{has_lower_key as has_lower_key_def};
 
 use crate::base::{Base, BaseSequence, BaseTable};
 use crate::keys::Keys;
@@ -86,7 +87,7 @@ fn has_fitting_rows(table: &BaseTable) -> bool
     is_declared(&table.schema) && rows_fit(&table.schema, table.rows.as_slice())
 }
 
-#[tactic(auto, unfolding(crate::specs::Bases::is_table))]
+#[tactic(auto, unfolding(crate::specs::meaning::Bases::is_table))]
 fn is_table(alloc: Global, table: &BaseTable) -> Result<bool, NoMemory>
     ensures { IfOk result (λ is. is ≡ is_table_def table.now) }
 {
@@ -129,7 +130,7 @@ fn has_fitting_names(base: &Base) -> bool
 }
 
 // Whether a store may begin with this base: n log n for n rows.
-#[tactic(auto, unfolding(crate::specs::Bases::is_base))]
+#[tactic(auto, unfolding(crate::specs::meaning::Bases::is_base))]
 pub fn is_base(alloc: Global, base: &Base) -> Result<bool, NoMemory>
     ensures { IfOk result (λ is. is ≡ is_base_def base.now) }
 {

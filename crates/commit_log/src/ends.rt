@@ -4,8 +4,8 @@ ghost use Rattle.std.specs.List.{list_all, list_any};
 ghost use Rattle.std.specs.Ordering.{int_eq};
 ghost use Rattle.std.specs.Str.{bytes_eq};
 ghost use Rattle.commit_log.specs.declared.journal.Reservation.{Reservation as Part};
-ghost use Rattle.commit_log.specs.Bases.{is_sequence};
-ghost use Rattle.commit_log.specs.Rules.{reservation_size, end_of, is_next_reservation};
+ghost use Rattle.commit_log.specs.meaning.Bases.{is_sequence};
+ghost use Rattle.commit_log.specs.meaning.Rules.{reservation_size, end_of, is_next_reservation};
 
 use crate::base::BaseSequence;
 use crate::journal::{Journal, Reservation};

@@ -1,9 +1,9 @@
 //! A journal under way: records are judged one by one and added to it.
 ghost use Rattle.std.specs.Prelude.{◌≡◌, Some, None, OnOk, IfOk, IsErrOf, false};
-ghost use Rattle.svc_values.specs.Fitting.{writes_fit as writes_fit_def};
+ghost use Rattle.svc_values.specs.meaning.Fitting.{writes_fit as writes_fit_def};
 ghost use Rattle.canon_bytes.specs.Entries.{FitsEntry};
-ghost use Rattle.commit_log.specs.Rules.{Empty, new_journal as new_journal_def, after, rises, may_forget, may_commit, may_block, may_reserve};
-ghost use Rattle.commit_log.specs.Journals.{after_payload};
+ghost use Rattle.commit_log.specs.meaning.Rules.{Empty, new_journal as new_journal_def, after, rises, may_forget, may_commit, may_block, may_reserve};
+ghost use Rattle.commit_log.specs.meaning.Journals.{after_payload};
 ghost use Rattle.commit_log.specs.Judging.{so_far_in, Keeps};
 
 use crate::base::Base;
@@ -207,7 +207,7 @@ impl Judge {
     }
 
     // Whether the reservation may be set aside next: linear in the sequences of the base, of which there are at most 32.
-    #[tactic(auto, unfolding(crate::specs::Rules::may_reserve))]
+    #[tactic(auto, unfolding(crate::specs::meaning::Rules::may_reserve))]
     pub fn can_reserve(&self, reservation: &Reservation) -> bool
         requires { Keeps self.now }
         ensures { result ≡ may_reserve self.now.journal reservation.now }

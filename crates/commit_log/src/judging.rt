@@ -3,7 +3,7 @@ ghost use Rattle.std.specs.Prelude.{◌≡◌, ℕ, [], OnOk, IfOk, IsErrOf, Ok,
 ghost use Rattle.disk_model.specs.Disk.{IsSettled, OnlyReads};
 ghost use Rattle.redo_store.specs.Redo.{CanAppend};
 ghost use Rattle.redo_store.specs.Walk.{HasRead};
-ghost use Rattle.commit_log.specs.Journals.{so_far_of, journal_of};
+ghost use Rattle.commit_log.specs.meaning.Journals.{so_far_of, journal_of};
 ghost use Rattle.commit_log.specs.Judging.{so_far_in, Keeps, HasJudged, HasJudgedAll};
 
 use crate::judge::Judge;

@@ -1,7 +1,7 @@
 //! The log: a store that is opened for commits.
 ghost use Rattle.std.specs.Prelude.{◌≡◌, ◌+◌, ◌*◌, ◌<◌, ◌≤◌, ◌^◌, ◌⊎◌, [], ℕ, Bool, length, OnOk, IfOk, IsErrOf, Ok, Err};
 ghost use Rattle.disk_model.specs.Disk.{Meanwhile, IsSettled, SameBytes, Lowers, Caused, OnlyReads};
-ghost use Rattle.redo_store.specs.Records.{records_of};
+ghost use Rattle.redo_store.specs.meaning.Records.{records_of};
 ghost use Rattle.redo_store.specs.Redo.{CanAppend, StoreGoesOn};
 ghost use Rattle.svc_values.specs.Identifiers.{IsLtxid};
 ghost use Rattle.canon_bytes.specs.Entries.{IsMadeEntry};
@@ -9,8 +9,8 @@ ghost use Rattle.commit_log.specs.declared.journal.Journal.{Journal as Held};
 ghost use Rattle.commit_log.specs.declared.records.Record.TheVariants as kept;
 ghost use Rattle.commit_log.specs.Bases.{IsBase};
 ghost use Rattle.commit_log.specs.RecordBytes.{IsMadeRecord};
-ghost use Rattle.commit_log.specs.Rules.{new_journal};
-ghost use Rattle.commit_log.specs.Journals.{so_far_of, journal_of, is_opened};
+ghost use Rattle.commit_log.specs.meaning.Rules.{new_journal};
+ghost use Rattle.commit_log.specs.meaning.Journals.{so_far_of, journal_of, is_opened};
 ghost use Rattle.commit_log.specs.Adding.{record_in, HasAlso, IsOldOrWith};
 ghost use Rattle.commit_log.specs.Adds.{MayAddTo, MayAdd, AddsTo, Adds};
 ghost use Rattle.commit_log.specs.Growth.{HasAdded, IsGrown, horizon_of, first_of_opening, opening_of, with_opening};

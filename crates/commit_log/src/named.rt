@@ -1,6 +1,6 @@
 //! Names that stand once.
 ghost use Rattle.std.specs.Prelude.{◌≡◌, ℕ, List, map};
-ghost use Rattle.svc_values.specs.Names.{is_name_of, names_differ};
+ghost use Rattle.svc_values.specs.meaning.Names.{is_name_of, names_differ};
 
 use crate::base::{BaseSequence, BaseTable};
 use svc_values::{Column, Name};
@@ -14,7 +14,7 @@ pub trait Named {
 }
 
 impl Named for BaseTable {
-    ghost use Rattle.commit_log.specs.Bases.{table_name};
+    ghost use Rattle.commit_log.specs.meaning.Bases.{table_name};
 
     ghost name_of = { table_name };
 
@@ -24,7 +24,7 @@ impl Named for BaseTable {
 }
 
 impl Named for BaseSequence {
-    ghost use Rattle.commit_log.specs.Bases.{sequence_name};
+    ghost use Rattle.commit_log.specs.meaning.Bases.{sequence_name};
 
     ghost name_of = { sequence_name };
 

@@ -1,8 +1,9 @@
 //! The records of a journal, and their bytes.
 ghost use Rattle.std.specs.Prelude.{◌≡◌, ◌≤◌, ◌++◌, length, IfOk, IfSome, OnOk};
 ghost use Rattle.redo_store.specs.Records.{payload_in};
-ghost use Rattle.commit_log.specs.RecordBytes.{spell_reservation, FitsReservation, reservation_at, reservation_again, spell_record, FitsRecord, record_at, record_again, IsMadeRecord};
-ghost use Rattle.commit_log.specs.Journals.{whole_record};
+ghost use Rattle.commit_log.specs.meaning.RecordBytes.{reservation_at, record_at};
+ghost use Rattle.commit_log.specs.RecordBytes.{spell_reservation, FitsReservation, reservation_again, spell_record, FitsRecord, record_again, IsMadeRecord};
+ghost use Rattle.commit_log.specs.meaning.Journals.{whole_record};
 ghost use Rattle.commit_log.specs.Adding.{record_in};
 
 use crate::base::Base;
@@ -36,7 +37,7 @@ pub enum Adding<'a> {
     Horizon(u64),
 }
 
-#[tactic(auto, unfolding(crate::specs::RecordBytes::reservation_at, crate::specs::RecordBytes::spell_reservation))]
+#[tactic(auto, unfolding(crate::specs::meaning::RecordBytes::reservation_at, crate::specs::RecordBytes::spell_reservation))]
 impl Take for Reservation {
     ghost spelling = { spell_reservation };
 
@@ -53,7 +54,7 @@ impl Take for Reservation {
     }
 }
 
-#[tactic(auto, unfolding(crate::specs::RecordBytes::record_at))]
+#[tactic(auto, unfolding(crate::specs::meaning::RecordBytes::record_at))]
 impl Take for Record {
     ghost spelling = { spell_record };
 

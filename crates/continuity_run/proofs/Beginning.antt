@@ -3,19 +3,20 @@ use Rattle.std.proofs.Common.{◌≡◌, ◌∙◌, refl, sym, ap, subst, ◌≤
 use Rattle.disk_model.specs.Mem.{mem_state}
 use Rattle.mutable_values.specs.declared.grants.Grants.{Grants}
 use Rattle.commit_log.specs.declared.journal.Journal.{Journal}
-use Rattle.commit_log.specs.Journals.{journal_of}
+use Rattle.commit_log.specs.meaning.Journals.{journal_of}
 use Rattle.outage_schedule.specs.declared.document.Client.{Client}
 use Rattle.outage_schedule.specs.declared.document.Document.{Document}
 use Rattle.outage_schedule.specs.declared.event.Event.{Event}
 use Rattle.doc_reader.specs.Keeping.{IsDocument}
-use Rattle.run_clauses.specs.Before.{base_of, journal_before}
-use Rattle.run_clauses.specs.ServiceBase.{grants_of, service_base}
-use Rattle.server_model.specs.Base.{Base, IsSound}
+use Rattle.run_clauses.specs.meaning.Before.{base_of, journal_before}
+use Rattle.run_clauses.specs.meaning.ServiceBase.{grants_of, service_base}
+use Rattle.server_model.specs.meaning.Base.{Base}
+use Rattle.server_model.specs.Base.{IsSound}
 use Rattle.server_model.specs.Seen.{IsNew}
 use Rattle.service_core.specs.Seeing.{SeesIn, state_in}
 use Rattle.service_core.specs.Starting.{CanBegin, base_of as begins_with, made_on, seen_new}
 use Rattle.service_core.specs.Within.{Within}
-use Rattle.world_model.specs.Settings.{rules_of}
+use Rattle.world_model.specs.meaning.Settings.{rules_of}
 use Rattle.continuity_run.specs.declared.store.Store.{Store}
 use Rattle.continuity_run.specs.Runs.{IsRunOf}
 use Rattle.continuity_run.specs.Stores.{IsStoreOf}

@@ -8,19 +8,21 @@ use Rattle.svc_values.specs.declared.call.Call.{Call}
 use Rattle.svc_values.specs.declared.call.Call.TheVariants as call
 use Rattle.svc_values.specs.declared.entry.Ltxid.{Ltxid}
 use Rattle.svc_values.specs.Identifiers.{IsLtxid}
-use Rattle.svc_values.specs.Calls.{is_made, IsMade}
+use Rattle.svc_values.specs.meaning.Calls.{is_made}
+use Rattle.svc_values.specs.Calls.{IsMade}
 use Rattle.outage_schedule.specs.declared.document.ServiceOf.{ServiceOf}
 use Rattle.outage_schedule.specs.declared.document.Request.{Request}
 use Rattle.outage_schedule.specs.declared.document.Client.{Client}
 use Rattle.outage_schedule.specs.declared.document.Document.{Document}
 use Rattle.outage_schedule.specs.declared.event.Event.{Event}
 use Rattle.outage_schedule.specs.declared.event.Event.TheVariants as event
-use Rattle.doc_reader.specs.Counts.{is_small, calls_in_event, has_few_names, calls_in}
+use Rattle.doc_reader.specs.meaning.Counts.{is_small, calls_in_event, has_few_names, calls_in}
 use Rattle.document_forms.specs.Keeping.{is_service, is_request, is_client, is_event, is_pick}
 use Rattle.doc_reader.specs.Keeping.{IsDocument}
-use Rattle.document_forms.specs.Numbers.{is_between, is_count, is_small_ltxid}
-use Rattle.document_forms.specs.Scripts.{is_inside, is_one_transaction}
-use Rattle.server_model.specs.ServiceCalls.{is_failover}
+use Rattle.document_forms.specs.meaning.Numbers.{is_count, is_small_ltxid}
+use Rattle.document_forms.specs.Numbers.{is_between}
+use Rattle.document_forms.specs.meaning.Scripts.{is_inside, is_one_transaction}
+use Rattle.server_model.specs.meaning.ServiceCalls.{is_failover}
 use Rattle.run_laws.specs.FinishShort.{AreLimits, calls_of_scripts, is_repeated_little}
 use Rattle.world_model.specs.records.Ready.{has_calls, is_rightly_repeated, is_right_request}
 use Rattle.world_model.specs.records.Ready as ready

@@ -9,27 +9,29 @@ use Rattle.disk_model.specs.Disk.{DiskState}
 use Rattle.json_form.proofs.Offered.{both_true}
 use Rattle.svc_values.specs.declared.entry.Entry.{Entry}
 use Rattle.svc_values.specs.declared.entry.Ltxid.{Ltxid}
-use Rattle.stmt_meaning.specs.Serial.{Serial}
+use Rattle.stmt_meaning.specs.meaning.Serial.{Serial}
 use Rattle.mutable_values.specs.declared.grants.Grants.{Grants}
 use Rattle.mutable_values.specs.declared.source.SeqState.{SeqState}
 use Rattle.mutable_values.specs.Sources.{Opening, sequence_of}
 use Rattle.commit_log.specs.declared.journal.Journal.{Journal}
-use Rattle.commit_log.specs.Journals.{journal_of}
+use Rattle.commit_log.specs.meaning.Journals.{journal_of}
 use Rattle.outage_schedule.specs.declared.document.Document.{Document}
 use Rattle.outage_schedule.specs.declared.item.Served.{Served}
 use Rattle.outage_schedule.specs.declared.note.Note.{Note}
 use Rattle.outage_schedule.specs.declared.report.Report.{Report}
-use Rattle.run_clauses.specs.Before.{journal_before, tables_of, start, shape}
-use Rattle.run_clauses.specs.Serial.{IsSerial, printed_tables}
-use Rattle.run_clauses.specs.Horizons.{last_horizon}
-use Rattle.run_clauses.specs.ServiceBase.{sequences_of, service_base}
-use Rattle.run_clauses.specs.Stored.{stored}
-use Rattle.server_model.specs.Base.{Base, Sequence, IsSound}
+use Rattle.run_clauses.specs.meaning.Before.{journal_before, tables_of, start, shape}
+use Rattle.run_clauses.specs.meaning.Serial.{IsSerial, printed_tables}
+use Rattle.run_clauses.specs.meaning.Horizons.{last_horizon}
+use Rattle.run_clauses.specs.meaning.ServiceBase.{sequences_of, service_base}
+use Rattle.run_clauses.specs.meaning.Stored.{stored}
+use Rattle.server_model.specs.meaning.Base.{Base, Sequence}
+use Rattle.server_model.specs.Base.{IsSound}
 use Rattle.server_model.specs.Core.{committed}
 use Rattle.server_model.specs.Laws.{RunsSerial}
 use Rattle.server_model.specs.Runs.{Happened, Server, Runs}
 use Rattle.server_model.specs.Seen.{ServiceState}
-use Rattle.server_model.specs.SetAside.{SetAside, ends_in, ends_of}
+use Rattle.server_model.specs.meaning.SetAside.{SetAside, ends_in}
+use Rattle.server_model.specs.SetAside.{ends_of}
 use Rattle.server_session.specs.declared.shared.Core.{Core}
 use Rattle.server_session.specs.Fits.{IsSourceOf, sequence_in}
 use Rattle.server_session.specs.Plain.{IsStored}
@@ -39,14 +41,14 @@ use Rattle.service_core.specs.Held.{Held}
 use Rattle.service_core.specs.Seeing.{Stands, SeesIn, bytes_in, store_in}
 use Rattle.service_core.specs.Sound.{IsSound as IsSoundIn}
 use Rattle.service_core.specs.Within.{Within}
-use Rattle.world_model.specs.Judged.{drawn_in}
+use Rattle.world_model.specs.meaning.Judged.{drawn_in}
 use Rattle.world_model.specs.Reached.{IsRun}
 use Rattle.world_model.specs.Reported.{IsReported}
 use Rattle.world_model.specs.records.Ready.{all_requests_right}
 use Rattle.world_model.proofs.Offered.{finishing_start}
 use Rattle.world_run.specs.declared.world.Ran.{Ran}
 use Rattle.continuity_run.specs.declared.store.Before.{Before}
-use Rattle.continuity_run.specs.Headline.{Headline, IsReadFrom}
+use Rattle.continuity_run.specs.meaning.Headline.{Headline, IsReadFrom}
 use Rattle.continuity_run.proofs.Images.{image_is}
 use Rattle.continuity_run.specs.Reading.{IsReadOff}
 use Rattle.continuity_run.specs.RunLaws.{RunsHold}

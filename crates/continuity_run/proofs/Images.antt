@@ -12,24 +12,24 @@ use Rattle.svc_values.specs.declared.schema.Column.{Column}
 use Rattle.svc_values.specs.declared.value.Kind.{Kind}
 use Rattle.svc_values.specs.declared.value.Kind.TheVariants as kind
 use Rattle.svc_values.specs.declared.value.Value.{Value}
-use Rattle.svc_values.specs.Identifiers.{same_ltxid}
-use Rattle.svc_values.specs.Kinds.{same_kind}
-use Rattle.svc_values.specs.Same.{same_value, same_piece}
+use Rattle.svc_values.specs.meaning.Identifiers.{same_ltxid}
+use Rattle.svc_values.specs.meaning.Kinds.{same_kind}
+use Rattle.svc_values.specs.meaning.Same.{same_value, same_piece}
 use Rattle.svc_values.specs.SameLaws.{same_bool_decides, same_ltxid_decides, same_piece_decides, same_settings_equiv, same_value_decides}
 use Rattle.commit_log.specs.declared.base.Base.{Base}
 use Rattle.commit_log.specs.declared.base.BaseSequence.{BaseSequence}
 use Rattle.commit_log.specs.declared.base.BaseTable.{BaseTable}
 use Rattle.commit_log.specs.declared.journal.Journal.{Journal}
-use Rattle.commit_log.specs.Journals.{journal_of}
+use Rattle.commit_log.specs.meaning.Journals.{journal_of}
 use Rattle.outage_schedule.specs.declared.document.Document.{Document}
 use Rattle.outage_schedule.specs.declared.report.Report.{Report}
 use Rattle.outage_schedule.specs.declared.report.ReportTable.{ReportTable}
-use Rattle.run_clauses.specs.Before.{journal_before, tables_of}
-use Rattle.run_clauses.specs.Comparing.{same_base, same_base_sequence, same_base_table, same_column, same_entry, same_printed_rows}
-use Rattle.run_clauses.specs.Horizons.{last_horizon}
-use Rattle.run_clauses.specs.Images.{follows, has_journal, image_fits, is_after_run}
-use Rattle.run_clauses.specs.Serial.{printed_tables, same_report_table}
-use Rattle.continuity_run.specs.Headline.{IsReadFrom, image_if}
+use Rattle.run_clauses.specs.meaning.Before.{journal_before, tables_of}
+use Rattle.run_clauses.specs.meaning.Comparing.{same_base, same_base_sequence, same_base_table, same_column, same_entry, same_printed_rows}
+use Rattle.run_clauses.specs.meaning.Horizons.{last_horizon}
+use Rattle.run_clauses.specs.meaning.Images.{follows, has_journal, image_fits, is_after_run}
+use Rattle.run_clauses.specs.meaning.Serial.{printed_tables, same_report_table}
+use Rattle.continuity_run.specs.meaning.Headline.{IsReadFrom, image_if}
 
 -- WHAT IS ONE PASSES THE TESTS --------------------------------------------------------------------
 

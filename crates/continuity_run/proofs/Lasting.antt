@@ -8,7 +8,7 @@ use Rattle.doc_reader.specs.Keeping.{IsDocument}
 use Rattle.server_model.specs.Seen.{Seen}
 use Rattle.world_model.specs.FinishEnds.{CanFinish, FinishBegins, FinishFalls, FinishGoesOn}
 use Rattle.run_laws.specs.FinishShort.{FinishIsShort}
-use Rattle.world_model.specs.Finishing.{Place}
+use Rattle.world_model.specs.meaning.Finishing.{Place}
 use Rattle.world_model.specs.Reached.{Reached, Begins, GoesOn, IsFinishing, Scheduled, Finishes}
 use Rattle.world_model.specs.Remaining.{remaining}
 use Rattle.world_model.specs.RunLaws.{RunsAreOrderly}

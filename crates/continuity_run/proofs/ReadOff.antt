@@ -7,12 +7,12 @@ use Rattle.svc_values.specs.declared.tables.PlainRow.{PlainRow}
 use Rattle.outage_schedule.specs.declared.report.ReportTable.{ReportTable}
 use Rattle.commit_log.specs.declared.base.BaseTable.{BaseTable}
 use Rattle.commit_log.specs.declared.journal.Journal.{Journal}
-use Rattle.commit_log.specs.Bases.{schema_in, schemas_of, start_of}
+use Rattle.commit_log.specs.meaning.Bases.{schema_in, schemas_of, start_of}
 use Rattle.table_store.specs.Given.{named, named_in}
 use Rattle.table_store.specs.Stored.{Stored}
 use Rattle.table_store.specs.declared.shelves.TableRows.{TableRows}
-use Rattle.run_clauses.specs.Before.{tables_of}
-use Rattle.run_clauses.specs.Serial.{printed_table, printed_tables}
+use Rattle.run_clauses.specs.meaning.Before.{tables_of}
+use Rattle.run_clauses.specs.meaning.Serial.{printed_table, printed_tables}
 use Rattle.server_model.specs.Core.{tables_with}
 use Rattle.continuity_run.specs.Reading.{printed_by}
 

@@ -4,7 +4,7 @@ use Rattle.json_form.specs.declared.fault.DocFault.{DocFault}
 use Rattle.json_form.specs.declared.fault.DocFault.TheVariants as fault
 use Rattle.json_form.specs.Faults.{Gives}
 use Rattle.outage_schedule.specs.declared.document.Document.{Document}
-use Rattle.doc_reader.specs.Documents.{document_at}
+use Rattle.doc_reader.specs.meaning.Documents.{document_at}
 use Rattle.continuity_run.specs.declared.top.Status.{Status}
 use Rattle.continuity_run.specs.declared.top.Status.TheVariants as status
 use Rattle.continuity_run.specs.InnerEnds.{ended_as}

@@ -5,7 +5,7 @@ use Rattle.std.specs.List.{AllByRecursion}
 use Rattle.std.proofs.Math.Seq.{take-length}
 use Rattle.std.proofs.lemmas.List.{length-take-le, take_more}
 use Rattle.std.proofs.lemmas.Option.{slice_get-map}
-use Rattle.request_bounds.specs.Rules.{Rules}
+use Rattle.request_bounds.specs.meaning.Rules.{Rules}
 use Rattle.outage_schedule.specs.declared.document.Client.{Client as Script}
 use Rattle.outage_schedule.specs.declared.document.Document.{Document}
 use Rattle.outage_schedule.specs.declared.document.ServiceOf.{ServiceOf}
@@ -15,9 +15,9 @@ use Rattle.outage_schedule.specs.declared.note.Note.{Note}
 use Rattle.outage_schedule.specs.declared.request.RequestReport.{RequestReport}
 use Rattle.server_model.specs.Seen.{Seen}
 use Rattle.service_calls.specs.Kept.{HaveOneBase}
-use Rattle.world_model.specs.Clients.{Client, reports_of}
+use Rattle.world_model.specs.meaning.Clients.{Client, reports_of}
 use Rattle.run_laws.specs.FinishShort.{FinishIsShort}
-use Rattle.world_model.specs.Followed.{transcripts_of}
+use Rattle.world_model.specs.meaning.Followed.{transcripts_of}
 use Rattle.world_model.specs.Forgets.{first_of}
 use Rattle.world_model.specs.Reached.{Reached, Begins, GoesOn, IsRun, Scheduled, traced_start}
 use Rattle.world_model.specs.Traced.{Traced}

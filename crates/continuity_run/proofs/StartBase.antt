@@ -5,17 +5,18 @@ use Rattle.std.specs.List.{list_all, list_any}
 use Rattle.std.specs.Str.{bytes_eq}
 use Rattle.std.proofs.lemmas.List.Folds.{list_all-map}
 use Rattle.svc_values.specs.declared.value.Value.{Value}
-use Rattle.svc_values.specs.Kinds.{row_fits, has_column}
-use Rattle.svc_values.specs.Names.{is_name_of, names_differ}
-use Rattle.svc_values.specs.Same.{same_value}
-use Rattle.svc_values.specs.Schemas.{is_declared, key_of}
+use Rattle.svc_values.specs.meaning.Kinds.{row_fits, has_column}
+use Rattle.svc_values.specs.meaning.Names.{is_name_of, names_differ}
+use Rattle.svc_values.specs.meaning.Same.{same_value}
+use Rattle.svc_values.specs.meaning.Schemas.{is_declared, key_of}
 use Rattle.outage_schedule.specs.declared.document.DocTable.{DocTable}
 use Rattle.outage_schedule.specs.declared.document.DocSequence.{DocSequence}
 use Rattle.json_form.specs.Arrays.{have_distinct_keys}
 use Rattle.json_form.proofs.Offered.{first_true, second_true, both_true}
-use Rattle.commit_log.specs.Bases.{IsBase, is_base, keys_differ, is_table as is_base_table, is_sequence as is_base_sequence, table_name as base_table_name, sequence_name as base_sequence_name}
+use Rattle.commit_log.specs.meaning.Bases.{is_base, keys_differ, is_table as is_base_table, is_sequence as is_base_sequence, table_name as base_table_name, sequence_name as base_sequence_name}
+use Rattle.commit_log.specs.Bases.{IsBase}
 use Rattle.document_forms.specs.Keeping.{is_table, is_sequence, schema_in}
-use Rattle.run_clauses.specs.Before.{base_table, base_sequence}
+use Rattle.run_clauses.specs.meaning.Before.{base_table, base_sequence}
 use Rattle.continuity_run.specs.Stores.{table_name, sequence_name}
 
 -- ---- names

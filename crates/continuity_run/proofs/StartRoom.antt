@@ -7,11 +7,11 @@ use Rattle.outage_schedule.specs.declared.document.DocSequence.{DocSequence}
 use Rattle.json_form.proofs.Offered.{first_true, second_true}
 use Rattle.commit_log.specs.declared.base.Base.{Base}
 use Rattle.commit_log.specs.declared.journal.Journal.{Journal}
-use Rattle.commit_log.specs.Journals.{journal_of}
-use Rattle.doc_reader.specs.Images.{is_store, leaves_room}
+use Rattle.commit_log.specs.meaning.Journals.{journal_of}
+use Rattle.doc_reader.specs.meaning.Images.{is_store, leaves_room}
 use Rattle.doc_reader.specs.Keeping.{is_begin}
-use Rattle.document_forms.specs.Numbers.{is_count}
-use Rattle.run_clauses.specs.Before.{given_journal, read_journal}
+use Rattle.document_forms.specs.meaning.Numbers.{is_count}
+use Rattle.run_clauses.specs.meaning.Before.{given_journal, read_journal}
 
 low : (journal : Journal) → leaves_room journal ≡ true → journal.incarnation ≤ 2 ^ 62
 unfolding leaves_room

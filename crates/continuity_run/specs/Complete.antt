@@ -2,7 +2,7 @@
 use Rattle.std.specs.Prelude.{◌≡◌, ℕ, List, Option, Some, Ok, String}
 use Rattle.std.specs.declared.alloc.Global.{Global}
 use Rattle.outage_schedule.specs.declared.document.Document.{Document}
-use Rattle.doc_reader.specs.Documents.{document_at}
+use Rattle.doc_reader.specs.meaning.Documents.{document_at}
 use Rattle.continuity_run.specs.Causes.{Rose}
 use Rattle.continuity_run.specs.declared.command.Command.{Command}
 use Rattle.continuity_run.specs.Words.{command_of}

@@ -1,7 +1,6 @@
 pub mod Causes
 pub mod Clauses
 pub mod Complete
-pub mod Headline
 pub mod InnerEnds
 pub mod InnerWords
 pub mod Memory
@@ -13,3 +12,4 @@ pub mod Runs
 pub mod RunLaws
 pub mod Told
 pub mod Words
+pub mod meaning

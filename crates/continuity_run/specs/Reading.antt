@@ -3,16 +3,16 @@ use Rattle.std.specs.Prelude.{◌≡◌, ◌+◌, ◌<◌, ◌^◌, ℕ, Bool, t
 use Rattle.svc_values.specs.declared.schema.Schema.{Schema}
 use Rattle.svc_values.specs.declared.tables.PlainRow.{PlainRow}
 use Rattle.svc_values.specs.declared.tables.Place.TheVariants as place
-use Rattle.svc_values.specs.Tables.{rows_at}
+use Rattle.svc_values.specs.meaning.Tables.{rows_at}
 use Rattle.outage_schedule.specs.declared.report.Report.{Report}
 use Rattle.outage_schedule.specs.declared.report.ReportTable.{ReportTable}
 use Rattle.commit_log.specs.declared.journal.Journal.{Journal}
-use Rattle.commit_log.specs.Journals.{journal_of}
-use Rattle.run_clauses.specs.Before.{tables_of}
-use Rattle.run_clauses.specs.Serial.{printed_tables}
+use Rattle.commit_log.specs.meaning.Journals.{journal_of}
+use Rattle.run_clauses.specs.meaning.Before.{tables_of}
+use Rattle.run_clauses.specs.meaning.Serial.{printed_tables}
 use Rattle.server_model.specs.Seen.{Seen}
 use Rattle.continuity_run.specs.declared.store.Before.{Before}
-use Rattle.continuity_run.specs.Headline.{image_if}
+use Rattle.continuity_run.specs.meaning.Headline.{image_if}
 use Rattle.world_run.specs.declared.world.Ran.{Ran}
 
 -- So many calls more may be made on the service, and none of them is stopped: nothing but a stop makes its disk fail, and none is set.

@@ -1,13 +1,13 @@
 -- The run of a document: what it is made of, and what it leaves.
 use Rattle.std.specs.Prelude.{◌≡◌, Bool, List}
-use Rattle.request_bounds.specs.Rules.{Rules}
+use Rattle.request_bounds.specs.meaning.Rules.{Rules}
 use Rattle.outage_schedule.specs.declared.document.Client.{Client as Script}
 use Rattle.outage_schedule.specs.declared.document.Document.{Document}
 use Rattle.outage_schedule.specs.declared.document.ServiceOf.{ServiceOf}
 use Rattle.outage_schedule.specs.declared.event.Event.{Event}
 use Rattle.doc_reader.specs.Keeping.{IsDocument}
 use Rattle.server_model.specs.Seen.{Seen}
-use Rattle.world_model.specs.Followed.{transcripts_of}
+use Rattle.world_model.specs.meaning.Followed.{transcripts_of}
 use Rattle.world_model.specs.Reached.{IsRun}
 use Rattle.world_model.specs.Traced.{Traced}
 use Rattle.world_core.specs.declared.traffic.Traffic.{Traffic}

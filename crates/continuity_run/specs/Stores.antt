@@ -7,8 +7,8 @@ use Rattle.outage_schedule.specs.declared.document.DocTable.{DocTable}
 use Rattle.outage_schedule.specs.declared.document.DocSequence.{DocSequence}
 use Rattle.commit_log.specs.declared.base.Base.{Base}
 use Rattle.commit_log.specs.declared.journal.Journal.{Journal}
-use Rattle.commit_log.specs.Journals.{so_far_of, journal_of, is_opened}
-use Rattle.run_clauses.specs.Before.{given_journal}
+use Rattle.commit_log.specs.meaning.Journals.{so_far_of, journal_of, is_opened}
+use Rattle.run_clauses.specs.meaning.Before.{given_journal}
 use Rattle.continuity_run.specs.declared.store.Before.{Before}
 use Rattle.continuity_run.specs.declared.store.Store.{Store}
 

@@ -3,8 +3,8 @@ use Rattle.std.specs.Prelude.{◌≡◌, ℕ, List}
 use Rattle.outage_schedule.specs.declared.document.Document.{Document}
 use Rattle.report_text.specs.Laws.{shown_report}
 use Rattle.report_text.specs.Octets.{ReportOfBytes}
-use Rattle.report_text.specs.Report.{report_value}
-use Rattle.continuity_run.specs.Clauses.{IsReported}
+use Rattle.report_text.specs.meaning.Report.{report_value}
+use Rattle.continuity_run.specs.meaning.Clauses.{IsReported}
 
 -- A text is that of one JSON value, of whichever documents it is the report.
 abbrev pub TellsOneValue : Type 0

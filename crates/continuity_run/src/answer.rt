@@ -1,7 +1,7 @@
 //! The answer to a command: the text that it writes of a document.
 ghost use Rattle.std.specs.Prelude.{IfOk};
 ghost use Rattle.doc_reader.specs.Keeping.{IsDocument};
-ghost use Rattle.continuity_run.specs.Clauses.{IsReported, IsCovered, Tells};
+ghost use Rattle.continuity_run.specs.meaning.Clauses.{IsReported, IsCovered, Tells};
 
 use crate::command::Command;
 use crate::run::run_document;

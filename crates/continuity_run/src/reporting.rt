@@ -1,7 +1,7 @@
 //! The report of a run that is over.
 ghost use Rattle.std.specs.Prelude.{◌≡◌, IfOk, OnOk, Ok, drop, map};
-ghost use Rattle.commit_log.specs.Journals.{journal_of as journal_def};
-ghost use Rattle.continuity_run.specs.Headline.{image_if};
+ghost use Rattle.commit_log.specs.meaning.Journals.{journal_of as journal_def};
+ghost use Rattle.continuity_run.specs.meaning.Headline.{image_if};
 ghost use Rattle.continuity_run.specs.Reading.{IsReadOff, MayBeRead, printed_by};
 
 use crate::store::Before;

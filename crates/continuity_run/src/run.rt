@@ -2,10 +2,10 @@
 ghost use Rattle.std.specs.Prelude.{◌≡◌, IfOk};
 ghost use Rattle.outage_schedule.specs.declared.document.Document.{Document as Given};
 ghost use Rattle.doc_reader.specs.Keeping.{IsDocument};
-ghost use Rattle.run_clauses.specs.ServiceBase.{grants_of as grants_def};
+ghost use Rattle.run_clauses.specs.meaning.ServiceBase.{grants_of as grants_def};
 ghost use Rattle.service_calls.specs.Kept.{HaveOneBase};
-ghost use Rattle.world_model.specs.Settings.{rules_of};
-ghost use Rattle.continuity_run.specs.Headline.{Headline};
+ghost use Rattle.world_model.specs.meaning.Settings.{rules_of};
+ghost use Rattle.continuity_run.specs.meaning.Headline.{Headline};
 ghost use Rattle.continuity_run.specs.RunLaws.{RunsHold};
 ghost use Rattle.continuity_run.specs.Runs.{HasRun, IsRunOf, IsRunOfSome};
 

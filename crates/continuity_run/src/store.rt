@@ -7,10 +7,10 @@ ghost use Rattle.disk_model.specs.Disk.{OnlyReads};
 ghost use Rattle.disk_model.specs.Mem.{mem_state};
 ghost use Rattle.commit_log.specs.declared.base.Base.{Base as Start};
 ghost use Rattle.commit_log.specs.Bases.{IsBase};
-ghost use Rattle.commit_log.specs.Journals.{so_far_of, journal_of, is_opened};
+ghost use Rattle.commit_log.specs.meaning.Journals.{so_far_of, journal_of, is_opened};
 ghost use Rattle.document_forms.specs.Keeping.{is_sequence, is_table};
 ghost use Rattle.doc_reader.specs.Keeping.{is_begin};
-ghost use Rattle.run_clauses.specs.Before.{base_table, base_sequence};
+ghost use Rattle.run_clauses.specs.meaning.Before.{base_table, base_sequence};
 ghost use Rattle.continuity_run.specs.Stores.{CountsOf, IsStoreOf, IsUntroubled, table_name, sequence_name};
 
 use commit_log::{

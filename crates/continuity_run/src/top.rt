@@ -2,9 +2,10 @@
 ghost use Rattle.std.specs.Prelude.{◌≡◌, ◌⊎◌, Err, IfOk, IfErr, IsErrOf, None, OnOk, Some};
 ghost use Rattle.continuity_run.specs.Causes.{Rose};
 ghost use Rattle.doc_reader.specs.Keeping.{IsDocument};
-ghost use Rattle.doc_reader.specs.Documents.{document_at};
+ghost use Rattle.doc_reader.specs.meaning.Documents.{document_at};
 ghost use Rattle.continuity_run.specs.Words.{command_of as command_of_def};
-ghost use Rattle.continuity_run.specs.Clauses.{Tells, IsDone, IsCut, IsRead, IsRefused, Writes, WritesFront, IfDocument, IsBefore, IsReply, UnlessRead};
+ghost use Rattle.continuity_run.specs.meaning.Clauses.{Tells, IsDone, IsRead};
+ghost use Rattle.continuity_run.specs.Clauses.{IsCut, IsRefused, Writes, WritesFront, IfDocument, IsBefore, IsReply, UnlessRead};
 ghost use Rattle.continuity_run.specs.Complete.{IsFaultless};
 ghost use Rattle.continuity_run.specs.InnerEnds.{ended_as, IsWritten};
 

@@ -6,7 +6,7 @@ use Rattle.std.proofs.lemmas.List.{drop_all, drop_more}
 use Rattle.outage_schedule.specs.declared.document.ServiceOf.{ServiceOf}
 use Rattle.outage_schedule.specs.declared.document.Client.{Client}
 use Rattle.outage_schedule.specs.declared.request.RequestReport.{RequestReport}
-use Rattle.shown_clauses.specs.Cover.{Counts}
+use Rattle.shown_clauses.specs.meaning.Cover.{Counts}
 use Rattle.cover_core.specs.Walks.{client_cover, clients_cover}
 
 -- the reports at a place, and none past the end

@@ -2,10 +2,10 @@
 use Rattle.std.proofs.Common.{ℕ, suc, List, refl}
 use Rattle.serde_json.specs.Read.{max_depth}
 use Rattle.json_form.specs.Forms.{IsForm}
-use Rattle.json_form.specs.Writing.{list_by}
+use Rattle.json_form.specs.meaning.Writing.{list_by}
 use Rattle.json_form.proofs.Offered.{items_form}
-use Rattle.shown_clauses.specs.Cover.{Counts}
-use Rattle.cover_core.specs.Text.{counts_value, cover_value}
+use Rattle.shown_clauses.specs.meaning.Cover.{Counts}
+use Rattle.cover_core.specs.meaning.Text.{counts_value, cover_value}
 
 counts_form : (deep : ℕ) (one : Counts) → IsForm (suc deep) (counts_value one)
 unfolding counts_value

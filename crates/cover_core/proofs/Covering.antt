@@ -3,14 +3,14 @@ use Rattle.std.proofs.Common.{◌≡◌, ℕ, suc, ◌+◌, ◌≤◌, Bool, tru
 use Rattle.std.specs.Prelude.{is_some, filter}
 use Rattle.svc_values.specs.declared.answer.Answer.{Answer}
 use Rattle.svc_values.specs.declared.call.Call.{Call}
-use Rattle.request_bounds.specs.Rules.{Rules}
+use Rattle.request_bounds.specs.meaning.Rules.{Rules}
 use Rattle.outage_schedule.specs.declared.document.ServiceOf.{ServiceOf}
 use Rattle.outage_schedule.specs.declared.request.ShownCall.{ShownCall}
-use Rattle.shown_clauses.specs.Turns.{ends_decided}
-use Rattle.shown_clauses.specs.Facts.{Fact, Submitted, Showed}
-use Rattle.shown_clauses.specs.Reasons.{after_commit_at, submission_reason, showing_reason, reason_of}
-use Rattle.shown_clauses.specs.Cover.{protections}
-use Rattle.world_model.specs.Settings.{rules_of}
+use Rattle.shown_clauses.specs.meaning.Turns.{ends_decided}
+use Rattle.shown_clauses.specs.meaning.Facts.{Fact, Submitted, Showed}
+use Rattle.shown_clauses.specs.meaning.Reasons.{after_commit_at, submission_reason, showing_reason, reason_of}
+use Rattle.shown_clauses.specs.meaning.Cover.{protections}
+use Rattle.world_model.specs.meaning.Settings.{rules_of}
 use Rattle.auto_bounds.specs.Covered.{Covered, nothing_covered, submitted, counted, showed}
 use Rattle.cover_core.specs.Coverings.{covered}
 use Rattle.cover_core.specs.Laws.{CoverageIsCover}

@@ -5,8 +5,8 @@ use Rattle.std.specs.Option.{option_or}
 use Rattle.svc_values.specs.declared.answer.Answer.{Answer}
 use Rattle.svc_values.specs.declared.call.Call.{Call}
 use Rattle.outage_schedule.specs.declared.document.ServiceOf.{ServiceOf}
-use Rattle.shown_clauses.specs.Facts.{Fact, Submitted, Showed}
-use Rattle.shown_clauses.specs.Reasons.{submission_reason, showing_reason, since_now, reason_from}
+use Rattle.shown_clauses.specs.meaning.Facts.{Fact, Submitted, Showed}
+use Rattle.shown_clauses.specs.meaning.Reasons.{submission_reason, showing_reason, since_now, reason_from}
 
 or_none : {T : Type 0} (a : Option T) → option_or a None ≡ a
 or_none None = refl

@@ -15,9 +15,9 @@ use Rattle.outage_schedule.specs.declared.document.Consistency.{Consistency}
 use Rattle.outage_schedule.specs.declared.document.Consistency.TheVariants as consistency
 use Rattle.outage_schedule.specs.declared.failure.Reason.{Reason}
 use Rattle.outage_schedule.specs.declared.failure.Reason.TheVariants as reason
-use Rattle.shown_clauses.specs.Turns.{ends_decided}
-use Rattle.shown_clauses.specs.Reasons.{off_at, asked_at, settings_at, after_commit_at, full_at}
-use Rattle.world_model.specs.Settings.{rules_of}
+use Rattle.shown_clauses.specs.meaning.Turns.{ends_decided}
+use Rattle.shown_clauses.specs.meaning.Reasons.{off_at, asked_at, settings_at, after_commit_at, full_at}
+use Rattle.world_model.specs.meaning.Settings.{rules_of}
 use Rattle.auto_bounds.specs.Covered.{Covered, replied}
 
 pub or_false : (a : Bool) → (a || false) ≡ a

@@ -6,8 +6,8 @@ use Rattle.std.proofs.lemmas.List.{map-append}
 use Rattle.json_form.proofs.Offered.{first_true, second_true}
 use Rattle.outage_schedule.specs.declared.document.Request.{Request}
 use Rattle.outage_schedule.specs.declared.request.RequestReport.{RequestReport}
-use Rattle.run_clauses.specs.Copies.{Copies, is_repeated, with_copy, further_copies, copies_of, are_all_copies, is_over, next_of}
-use Rattle.shown_clauses.specs.Submissions.{Submission, submissions_of}
+use Rattle.run_clauses.specs.meaning.Copies.{Copies, is_repeated, with_copy, further_copies, copies_of, are_all_copies, is_over, next_of}
+use Rattle.shown_clauses.specs.meaning.Submissions.{Submission, submissions_of}
 use Rattle.world_model.proofs.Offered.{counted, position_cons}
 
 -- FURTHER COPIES ----------------------------------------------------------------------------------

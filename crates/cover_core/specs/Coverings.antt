@@ -2,7 +2,7 @@
 use Rattle.std.specs.Prelude.{List, [], ◌∷◌}
 use Rattle.svc_values.specs.declared.call.Call.{Call}
 use Rattle.outage_schedule.specs.declared.request.ShownCall.{ShownCall}
-use Rattle.request_bounds.specs.Rules.{Rules}
+use Rattle.request_bounds.specs.meaning.Rules.{Rules}
 use Rattle.auto_bounds.specs.Covered.{Covered, submitted, showed}
 
 -- each call of a request is submitted, and then shown as it was, one after the other

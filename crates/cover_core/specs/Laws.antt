@@ -1,10 +1,10 @@
 -- What is counted under the rule of a service is what its table of reasons says.
 use Rattle.std.specs.Prelude.{◌≡◌, ◌≤◌, length}
-use Rattle.request_bounds.specs.Rules.{Rules}
+use Rattle.request_bounds.specs.meaning.Rules.{Rules}
 use Rattle.outage_schedule.specs.declared.document.ServiceOf.{ServiceOf}
-use Rattle.shown_clauses.specs.Submissions.{Submission}
-use Rattle.shown_clauses.specs.Cover.{counts_of}
-use Rattle.world_model.specs.Settings.{rules_of}
+use Rattle.shown_clauses.specs.meaning.Submissions.{Submission}
+use Rattle.shown_clauses.specs.meaning.Cover.{counts_of}
+use Rattle.world_model.specs.meaning.Settings.{rules_of}
 use Rattle.auto_bounds.specs.Covered.{Covered, nothing_covered}
 use Rattle.cover_core.specs.Coverings.{covered}
 

@@ -1,5 +1,5 @@
 pub mod Coverings
 pub mod Laws
 pub mod Made
-pub mod Text
 pub mod Walks
+pub mod meaning

@@ -1,7 +1,7 @@
 -- The scripts of clients each of whose calls is one that there is.
 use Rattle.std.specs.Prelude.{Bool}
 use Rattle.std.specs.List.{list_all}
-use Rattle.svc_values.specs.Calls.{is_made}
+use Rattle.svc_values.specs.meaning.Calls.{is_made}
 use Rattle.outage_schedule.specs.declared.document.Request.{Request}
 use Rattle.outage_schedule.specs.declared.document.Client.{Client}
 

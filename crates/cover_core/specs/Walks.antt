@@ -4,9 +4,9 @@ use Rattle.outage_schedule.specs.declared.document.ServiceOf.{ServiceOf}
 use Rattle.outage_schedule.specs.declared.document.Request.{Request}
 use Rattle.outage_schedule.specs.declared.document.Client.{Client}
 use Rattle.outage_schedule.specs.declared.request.RequestReport.{RequestReport}
-use Rattle.run_clauses.specs.Copies.{copies_of, copies_by_client}
-use Rattle.shown_clauses.specs.Submissions.{submissions_of}
-use Rattle.shown_clauses.specs.Cover.{Counts, counts_of}
+use Rattle.run_clauses.specs.meaning.Copies.{copies_of, copies_by_client}
+use Rattle.shown_clauses.specs.meaning.Submissions.{submissions_of}
+use Rattle.shown_clauses.specs.meaning.Cover.{Counts, counts_of}
 
 -- of one client, with its script and its reports
 abbrev pub client_cover : ServiceOf → List Request → List RequestReport → List Counts

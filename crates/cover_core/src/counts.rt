@@ -1,12 +1,12 @@
 //! The counts of one report.
 ghost use Rattle.std.specs.Prelude.{◌≡◌, IsTrue};
 ghost use Rattle.std.specs.List.{list_all};
-ghost use Rattle.shown_clauses.specs.Cover.{counts_of as counts_def};
-ghost use Rattle.world_model.specs.Settings.{rules_of};
+ghost use Rattle.shown_clauses.specs.meaning.Cover.{counts_of as counts_def};
+ghost use Rattle.world_model.specs.meaning.Settings.{rules_of};
 ghost use Rattle.cover_core.specs.Made.{has_made_calls};
 ghost use Rattle.cover_core.specs.Coverings.{covered};
 ghost use Rattle.auto_bounds.specs.Covered.{nothing_covered};
-ghost use Rattle.svc_values.specs.Calls.{is_made};
+ghost use Rattle.svc_values.specs.meaning.Calls.{is_made};
 
 use crate::laws::coverage_is_cover;
 use auto_bounds::{AutoRule, Coverage};
@@ -23,7 +23,7 @@ pub struct Counts {
 }
 
 impl Model for Counts {
-    ghost use Rattle.shown_clauses.specs.Cover.{Counts as Told};
+    ghost use Rattle.shown_clauses.specs.meaning.Cover.{Counts as Told};
 
     ghost Value = { Told };
 

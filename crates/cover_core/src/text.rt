@@ -4,8 +4,8 @@ ghost use Rattle.json.specs.Token.{key};
 ghost use Rattle.serde_json.specs.Read.{read};
 ghost use Rattle.serde_json.specs.Written.{compact_text};
 ghost use Rattle.json_form.specs.Tokens.{tokens_of};
-ghost use Rattle.json_form.specs.Writing.{whole, list_by};
-ghost use Rattle.cover_core.specs.Text.{counts_value, cover_value};
+ghost use Rattle.json_form.specs.meaning.Writing.{whole, list_by};
+ghost use Rattle.cover_core.specs.meaning.Text.{counts_value, cover_value};
 
 use crate::counts::Counts;
 use crate::walk::ClientCounts;
@@ -26,7 +26,7 @@ struct CountsWriter;
 impl Writer<Counts> for CountsWriter {
     ghost writes = { λ s. counts_value };
 
-    #[tactic(auto, unfolding(crate::specs::Text::counts_value))]
+    #[tactic(auto, unfolding(crate::specs::meaning::Text::counts_value))]
     fn write(&self, _alloc: Global, item: &Counts, out: &mut TextWriter) -> Result<(), AllocError> {
         out.begin_object()?;
         number_member("calls", item.calls(), out)?;
@@ -50,7 +50,7 @@ impl Writer<ClientCounts> for ClientWriter {
     }
 }
 
-#[tactic(auto, unfolding(crate::specs::Text::cover_value))]
+#[tactic(auto, unfolding(crate::specs::meaning::Text::cover_value))]
 fn cover_written(
     alloc: Global,
     all: &[ClientCounts],

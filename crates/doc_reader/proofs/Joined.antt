@@ -1,9 +1,10 @@
 -- A document of which the tables, clients and events were read before its other members.
 use Rattle.std.proofs.Common.{◌≡◌, ℕ, List, [], length, Bool, false, Option, Some, None, option_map, Result, Ok, codes, refl, sym, ap, ◌∙◌}
 use Rattle.serde_json.specs.Data.{Members, object}
-use Rattle.json_form.specs.Faults.{Fault, ◌>>=◌, within}
-use Rattle.json_form.specs.Values.{bool_of}
-use Rattle.json_form.specs.Objects.{Named, named, known, object_with, has, required, optional, read_or, without}
+use Rattle.json_form.specs.meaning.Faults.{Fault, ◌>>=◌, within}
+use Rattle.json_form.specs.meaning.Values.{bool_of}
+use Rattle.json_form.specs.meaning.Objects.{Named, named, known, object_with, has, required, optional, read_or}
+use Rattle.json_form.specs.Objects.{without}
 use Rattle.outage_schedule.specs.declared.document.Client.{Client}
 use Rattle.outage_schedule.specs.declared.document.DocTable.{DocTable}
 use Rattle.outage_schedule.specs.declared.document.DocSequence.{DocSequence}
@@ -11,12 +12,12 @@ use Rattle.outage_schedule.specs.declared.document.Document.{Document}
 use Rattle.outage_schedule.specs.declared.event.Event.{Event}
 use Rattle.doc_reader.specs.declared.document.Store.{Store}
 use Rattle.doc_reader.specs.declared.document.Begin.{Begin}
-use Rattle.document_forms.specs.Tables.{tables_of, sequences_of}
-use Rattle.document_forms.specs.Service.{service_of, usual_service}
-use Rattle.document_forms.specs.Events.{schedule_of}
-use Rattle.doc_reader.specs.Images.{image_of}
-use Rattle.doc_reader.specs.Counts.{if_small}
-use Rattle.doc_reader.specs.Documents.{is_alone, store_of, begin_of, document_with, clients_of, rest_of, document_members, document_of}
+use Rattle.document_forms.specs.meaning.Tables.{tables_of, sequences_of}
+use Rattle.document_forms.specs.meaning.Service.{service_of, usual_service}
+use Rattle.document_forms.specs.meaning.Events.{schedule_of}
+use Rattle.doc_reader.specs.meaning.Images.{image_of}
+use Rattle.doc_reader.specs.meaning.Counts.{if_small}
+use Rattle.doc_reader.specs.meaning.Documents.{is_alone, store_of, begin_of, document_with, clients_of, rest_of, document_members, document_of}
 use Rattle.doc_reader.specs.Ahead.{held_back}
 use Rattle.json_form.proofs.Offered.{after, ok_is}
 use Rattle.document_forms.proofs.Offered.{gives_after, optional_apart, none_there, none_left, one_there, may_be_there, members_there, required_there}

@@ -7,11 +7,12 @@ use Rattle.std.proofs.lemmas.List.{length_push, append-nil, drop_more}
 use Rattle.json_form.specs.declared.fault.DocCode.TheVariants.{Limit}
 use Rattle.json_form.specs.declared.fault.DocFault.{DocFault}
 use Rattle.json_form.specs.declared.fault.DocFault.TheVariants.{NoMemory, At}
-use Rattle.json_form.specs.Faults.{Fault, ◌>>=◌, here, Fails}
-use Rattle.svc_values.specs.Names.{is_name_of}
+use Rattle.json_form.specs.meaning.Faults.{Fault, ◌>>=◌, here}
+use Rattle.json_form.specs.Faults.{Fails}
+use Rattle.svc_values.specs.meaning.Names.{is_name_of}
 use Rattle.svc_values.specs.declared.statement.Operand.{Operand}
 use Rattle.outage_schedule.specs.declared.document.Document.{Document}
-use Rattle.doc_reader.specs.Counts.{with_others, different, names_in_operand, names_in, has_few_names}
+use Rattle.doc_reader.specs.meaning.Counts.{with_others, different, names_in_operand, names_in, has_few_names}
 use Rattle.doc_reader.specs.InnerCounting.{noted, noted_all, if_few_names}
 
 ends : {A : Type 0} (r : Result A Fault) → (r >>= λ x. Ok x) ≡ r

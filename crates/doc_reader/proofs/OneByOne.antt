@@ -8,16 +8,18 @@ use Rattle.std.specs.List.{AllByRecursion}
 use Rattle.std.proofs.lemmas.Slice.Eq.{bytes_eq-Decides}
 use Rattle.serde_json.specs.Data.{Data}
 use Rattle.json_form.specs.declared.fault.DocFault.{DocFault}
-use Rattle.json_form.specs.Faults.{Fault, Gives}
-use Rattle.json_form.specs.Objects.{Named, is_among, members_at, without, putting}
+use Rattle.json_form.specs.meaning.Faults.{Fault}
+use Rattle.json_form.specs.Faults.{Gives}
+use Rattle.json_form.specs.meaning.Objects.{Named, is_among}
+use Rattle.json_form.specs.Objects.{members_at, without, putting}
 use Rattle.json_form.specs.declared.object.Members as held
 use Rattle.outage_schedule.specs.declared.document.Client.{Client}
 use Rattle.outage_schedule.specs.declared.document.DocTable.{DocTable}
 use Rattle.outage_schedule.specs.declared.event.Event.{Event}
-use Rattle.document_forms.specs.Tables.{tables_of}
-use Rattle.document_forms.specs.Events.{schedule_of}
+use Rattle.document_forms.specs.meaning.Tables.{tables_of}
+use Rattle.document_forms.specs.meaning.Events.{schedule_of}
 use Rattle.doc_reader.specs.declared.streamed.Ahead.{Ahead}
-use Rattle.doc_reader.specs.Documents.{clients_of, document_members}
+use Rattle.doc_reader.specs.meaning.Documents.{clients_of, document_members}
 use Rattle.doc_reader.specs.Ahead.{held_members, held_back, number_in, AreRead}
 use Rattle.json_form.proofs.Offered.{given, without_put, without_other}
 use Rattle.document_forms.proofs.Offered.{at_this, at_other, none_there}

@@ -4,14 +4,16 @@ use Rattle.std.specs.Prelude.{Bool, Option}
 use Rattle.std.specs.Str.{bytes_eq}
 use Rattle.serde_json.specs.Data.{Data}
 use Rattle.json_form.specs.declared.fault.DocFault.{DocFault}
-use Rattle.json_form.specs.Faults.{Fault, ◌>>=◌, Fails}
-use Rattle.json_form.specs.Values.{bool_of}
-use Rattle.json_form.specs.Objects.{Named, object_with, required, optional, without}
+use Rattle.json_form.specs.meaning.Faults.{Fault, ◌>>=◌}
+use Rattle.json_form.specs.Faults.{Fails}
+use Rattle.json_form.specs.meaning.Values.{bool_of}
+use Rattle.json_form.specs.meaning.Objects.{Named, object_with, required, optional}
+use Rattle.json_form.specs.Objects.{without}
 use Rattle.outage_schedule.specs.declared.document.ServiceOf.{ServiceOf}
-use Rattle.document_forms.specs.Service.{service_of, usual_service}
+use Rattle.document_forms.specs.meaning.Service.{service_of, usual_service}
 use Rattle.doc_reader.specs.declared.document.Store.{Store}
 use Rattle.doc_reader.specs.declared.document.Begin.{Begin}
-use Rattle.doc_reader.specs.Documents.{store_of, begin_of, rest_of, document_members, document_of}
+use Rattle.doc_reader.specs.meaning.Documents.{store_of, begin_of, rest_of, document_members, document_of}
 use Rattle.json_form.proofs.Offered.{others_stay}
 use Rattle.document_forms.proofs.Offered.{fails_first, fails_after, optional_apart, at_apart}
 

@@ -4,11 +4,12 @@ use Rattle.std.specs.Prelude.{not, is_some, IfOk}
 use Rattle.serde_json.specs.Data.{Data}
 use Rattle.json_form.specs.declared.fault.DocCode.TheVariants.{Limit, Rule, BadImage}
 use Rattle.json_form.specs.declared.fault.DocFault.{DocFault}
-use Rattle.json_form.specs.Faults.{Fault, ◌>>=◌, here, within, Gives}
-use Rattle.json_form.specs.Pointers.{escaped}
-use Rattle.json_form.specs.Values.{text_of, bool_of}
-use Rattle.json_form.specs.Objects.{Named, object_with, has, required, optional, read_or}
-use Rattle.json_form.specs.Texts.{json_at, octets_in}
+use Rattle.json_form.specs.meaning.Faults.{Fault, ◌>>=◌, here, within}
+use Rattle.json_form.specs.Faults.{Gives}
+use Rattle.json_form.specs.meaning.Pointers.{escaped}
+use Rattle.json_form.specs.meaning.Values.{text_of, bool_of}
+use Rattle.json_form.specs.meaning.Objects.{Named, object_with, has, required, optional, read_or}
+use Rattle.json_form.specs.meaning.Texts.{json_at, octets_in}
 use Rattle.outage_schedule.specs.declared.document.Client.{Client}
 use Rattle.outage_schedule.specs.declared.document.ServiceOf.{ServiceOf}
 use Rattle.outage_schedule.specs.declared.document.DocTable.{DocTable}
@@ -18,14 +19,14 @@ use Rattle.outage_schedule.specs.declared.event.Event.{Event}
 use Rattle.doc_reader.specs.declared.document.Store.{Store}
 use Rattle.doc_reader.specs.declared.document.Begin.{Begin}
 use Rattle.document_forms.specs.declared.built.LateForm.TheVariants as form
-use Rattle.document_forms.specs.Built.{built}
-use Rattle.document_forms.specs.Tables.{tables_of, sequences_of}
-use Rattle.document_forms.specs.Service.{service_of, usual_service}
-use Rattle.document_forms.specs.Events.{schedule_of}
-use Rattle.commit_log.specs.Journals.{journal_of}
-use Rattle.doc_reader.specs.Images.{if_alone, is_store, if_store, image_of}
-use Rattle.doc_reader.specs.Counts.{is_small, if_small}
-use Rattle.doc_reader.specs.Documents.{is_alone, store_of, begin_of, document_with, clients_of, rest_of, document_members, document_of, limit, document_at}
+use Rattle.document_forms.specs.meaning.Built.{built}
+use Rattle.document_forms.specs.meaning.Tables.{tables_of, sequences_of}
+use Rattle.document_forms.specs.meaning.Service.{service_of, usual_service}
+use Rattle.document_forms.specs.meaning.Events.{schedule_of}
+use Rattle.commit_log.specs.meaning.Journals.{journal_of}
+use Rattle.doc_reader.specs.meaning.Images.{if_alone, is_store, if_store, image_of}
+use Rattle.doc_reader.specs.meaning.Counts.{is_small, if_small}
+use Rattle.doc_reader.specs.meaning.Documents.{is_alone, store_of, begin_of, document_with, clients_of, rest_of, document_members, document_of, limit, document_at}
 use Rattle.doc_reader.specs.Keeping.{is_begin, IsDocument}
 use Rattle.json_form.proofs.Offered.{after, ok_is, within_ok, passed, both_true, first_true, second_true, optional_keeps}
 use Rattle.document_forms.proofs.Offered.{AreTables, tables_read, no_tables, AreSequences, sequences_read, no_sequences}

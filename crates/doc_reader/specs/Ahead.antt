@@ -2,13 +2,14 @@
 use Rattle.std.specs.Prelude.{◌≡◌, ℕ, List, [], ◌∷◌, length, false, Option, Some, None, option_map, Ok, codes}
 use Rattle.json.specs.Token.{Token}
 use Rattle.serde_json.specs.Data.{Data}
-use Rattle.json_form.specs.Objects.{Named, members_at, without, putting}
+use Rattle.json_form.specs.meaning.Objects.{Named}
+use Rattle.json_form.specs.Objects.{members_at, without, putting}
 use Rattle.json_form.specs.Streams.{value_ahead}
 use Rattle.outage_schedule.specs.declared.document.Client.{Client}
 use Rattle.doc_reader.specs.declared.streamed.Ahead.{Ahead}
-use Rattle.document_forms.specs.Tables.{tables_of}
-use Rattle.doc_reader.specs.Documents.{clients_of}
-use Rattle.document_forms.specs.Events.{schedule_of}
+use Rattle.document_forms.specs.meaning.Tables.{tables_of}
+use Rattle.doc_reader.specs.meaning.Documents.{clients_of}
+use Rattle.document_forms.specs.meaning.Events.{schedule_of}
 
 -- the members whose values are held until the last member was passed
 abbrev pub held_members : List (List ℕ)

@@ -1,10 +1,10 @@
 -- How the counts over a whole document are kept: never above their limits.
 use Rattle.std.specs.Prelude.{ℕ, ◌-◌, List, [], ◌∷◌, ◌++◌, length, nat_le, nat_lt, Option, Some, None, Result, Ok, Err, ⊤, if◌then◌else◌}
 use Rattle.json_form.specs.declared.fault.DocCode.TheVariants.{Limit}
-use Rattle.json_form.specs.Faults.{Fault, ◌>>=◌, here}
-use Rattle.svc_values.specs.Names.{is_name_of}
+use Rattle.json_form.specs.meaning.Faults.{Fault, ◌>>=◌, here}
+use Rattle.svc_values.specs.meaning.Names.{is_name_of}
 use Rattle.outage_schedule.specs.declared.document.Document.{Document}
-use Rattle.doc_reader.specs.Counts.{has_few_names}
+use Rattle.doc_reader.specs.meaning.Counts.{has_few_names}
 
 -- how many are left of so many, if as many are there
 abbrev pub left_of : ℕ → ℕ → Option ℕ

@@ -6,10 +6,10 @@ use Rattle.json_form.specs.Arrays.{have_distinct_keys}
 use Rattle.outage_schedule.specs.declared.document.DocTable.{DocTable}
 use Rattle.outage_schedule.specs.declared.document.DocSequence.{DocSequence}
 use Rattle.outage_schedule.specs.declared.document.Document.{Document}
-use Rattle.commit_log.specs.Journals.{journal_of}
+use Rattle.commit_log.specs.meaning.Journals.{journal_of}
 use Rattle.document_forms.specs.Keeping.{is_service, is_table, is_sequence, is_client, is_event}
-use Rattle.doc_reader.specs.Images.{is_store}
-use Rattle.doc_reader.specs.Counts.{is_small}
+use Rattle.doc_reader.specs.meaning.Images.{is_store}
+use Rattle.doc_reader.specs.meaning.Counts.{is_small}
 
 -- an image stands alone, and is that of a store
 abbrev pub is_begin : List DocTable → List DocSequence → Option (List ℕ) → Bool

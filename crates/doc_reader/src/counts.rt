@@ -3,8 +3,8 @@ ghost use Rattle.std.specs.Prelude.{◌≡◌, length, map, [], ◌∷◌, ◌++
 ghost use Rattle.std.specs.List.{flat_map};
 ghost use Rattle.json_form.specs.declared.fault.DocFault.TheVariants.{NoMemory};
 ghost use Rattle.json_form.specs.Faults.{Gives};
-ghost use Rattle.svc_values.specs.Calls.{operand_of};
-ghost use Rattle.doc_reader.specs.Counts.{calls_in_request, calls_in_client, calls_in_event, names_in_operand, names_in_statement, names_in_call, names_in_request, names_in_client, names_in_event, names_in, has_few_calls as has_few_calls_def, if_small};
+ghost use Rattle.svc_values.specs.meaning.Calls.{operand_of};
+ghost use Rattle.doc_reader.specs.meaning.Counts.{calls_in_request, calls_in_client, calls_in_event, names_in_operand, names_in_statement, names_in_call, names_in_request, names_in_client, names_in_event, names_in, has_few_calls as has_few_calls_def, if_small};
 ghost use Rattle.doc_reader.specs.InnerCounting.{left_of, noted as noted_def, noted_all, if_few_names};
 
 use call_forms::copied;
@@ -165,7 +165,7 @@ fn note_update(
 impl Naming for Statement {
     ghost names = { names_in_statement };
 
-    #[tactic(auto, unfolding(crate::specs::Counts::names_in_statement), using(crate::proofs::Naming::only_one))]
+    #[tactic(auto, unfolding(crate::specs::meaning::Counts::names_in_statement), using(crate::proofs::Naming::only_one))]
     fn note(&self, alloc: Global, before: Different) -> Result<Different, DocFault> {
         match self {
             Statement::Insert { values, .. } => note_each(alloc, before, values.as_slice()),

@@ -2,11 +2,12 @@
 ghost use Rattle.std.specs.Prelude.{◌≡◌, ◌<◌, length, IfOk, IfSome, codes, [], option_map};
 ghost use Rattle.serde_json.specs.View.{view};
 ghost use Rattle.json_form.specs.Faults.{Gives};
-ghost use Rattle.json_form.specs.Objects.{members_at, without, read_or};
+ghost use Rattle.json_form.specs.meaning.Objects.{read_or};
+ghost use Rattle.json_form.specs.Objects.{members_at, without};
 ghost use Rattle.json_form.specs.Streams.{Begins};
-ghost use Rattle.document_forms.specs.Events.{schedule_of};
+ghost use Rattle.document_forms.specs.meaning.Events.{schedule_of};
 ghost use Rattle.doc_reader.specs.Keeping.{IsDocument};
-ghost use Rattle.doc_reader.specs.Documents.{store_of, begin_of, document_with as document_with_def, clients_of, rest_of, document_of, document_at};
+ghost use Rattle.doc_reader.specs.meaning.Documents.{store_of, begin_of, document_with as document_with_def, clients_of, rest_of, document_of, document_at};
 
 use crate::counts::small;
 use crate::image::ImageReader;
@@ -32,7 +33,7 @@ pub struct Store {
 }
 
 /// What the store begins with, among the members of the document, which are taken out.
-#[tactic(auto, unfolding(crate::specs::Documents::store_of), using(json_form::proofs::Offered::others_stay))]
+#[tactic(auto, unfolding(crate::specs::meaning::Documents::store_of), using(json_form::proofs::Offered::others_stay))]
 fn store_from(alloc: Global, members: &mut Members) -> Result<Store, DocFault>
     ensures read { Gives result (store_of (members_at members.old)) }
     ensures left { IfOk result (λ _. members_at members.new ≡ without (codes "image") (without (codes "sequences") (without (codes "tables") (members_at members.old)))) }
@@ -57,7 +58,7 @@ pub struct Begin {
 }
 
 /// What a run begins with, among the members of the document, which are taken out.
-#[tactic(auto, unfolding(crate::specs::Documents::begin_of), using(json_form::proofs::Offered::others_stay, crate::proofs::Parts::parts_stay))]
+#[tactic(auto, unfolding(crate::specs::meaning::Documents::begin_of), using(json_form::proofs::Offered::others_stay, crate::proofs::Parts::parts_stay))]
 pub(crate) fn begin_from(alloc: Global, members: &mut Members) -> Result<Begin, DocFault>
     ensures read { Gives result (begin_of (members_at members.old)) }
     ensures left { IfOk result (λ _. members_at members.new ≡ without (codes "print_image") (without (codes "image") (without (codes "sequences")
@@ -139,7 +140,7 @@ fn schedule_from(
 }
 
 /// The clients and the events, behind what the run begins with.
-#[tactic(auto, unfolding(crate::specs::Documents::rest_of))]
+#[tactic(auto, unfolding(crate::specs::meaning::Documents::rest_of))]
 fn rest_from(
     alloc: Global,
     schedule: Option<Json>,
@@ -166,7 +167,7 @@ const MEMBERS: [&str; 7] = [
 
 /// The document of a JSON value, or the first fault and its place. How many bytes the value was read
 /// from is no matter. The cost is that of `read_document`.
-#[tactic(auto, unfolding(crate::specs::Documents::document_of), using(crate::proofs::Parts::parts_stay))]
+#[tactic(auto, unfolding(crate::specs::meaning::Documents::document_of), using(crate::proofs::Parts::parts_stay))]
 pub fn document_from(alloc: Global, value: Json) -> Result<Document, DocFault>
     ensures read { Gives result (document_of (view value)) }
     ensures document { IfOk result IsDocument }

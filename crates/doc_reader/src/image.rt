@@ -2,9 +2,9 @@
 ghost use Rattle.std.specs.Prelude.{◌≡◌};
 ghost use Rattle.std.specs.List.{list_all};
 ghost use Rattle.json_form.specs.Faults.{Gives};
-ghost use Rattle.commit_log.specs.Journals.{journal_of};
-ghost use Rattle.document_forms.specs.Numbers.{is_count as is_count_def, is_small_ltxid as is_small_ltxid_def};
-ghost use Rattle.doc_reader.specs.Images.{is_small_reservation as is_small_reservation_def, leaves_room as leaves_room_def, if_store, image_of};
+ghost use Rattle.commit_log.specs.meaning.Journals.{journal_of};
+ghost use Rattle.document_forms.specs.meaning.Numbers.{is_count as is_count_def, is_small_ltxid as is_small_ltxid_def};
+ghost use Rattle.doc_reader.specs.meaning.Images.{is_small_reservation as is_small_reservation_def, leaves_room as leaves_room_def, if_store, image_of};
 
 use commit_log::{Journal, Log, LogFault, Reservation};
 use disk_model::MemDisk;
@@ -55,7 +55,7 @@ fn are_small_reservations(reservations: &[Reservation]) -> bool
 }
 
 /// Whether the numbers of the journal leave room for a run.
-#[tactic(auto, unfolding(crate::specs::Images::leaves_room))]
+#[tactic(auto, unfolding(crate::specs::meaning::Images::leaves_room))]
 fn leaves_room(journal: &Journal) -> bool
     ensures { result ≡ leaves_room_def journal.now }
 {
@@ -90,7 +90,7 @@ pub(crate) struct ImageReader {
 impl Reader<Option<Image>> for ImageReader {
     ghost reads = { λ s. image_of s.alone };
 
-    #[tactic(auto, unfolding(crate::specs::Images::image_of))]
+    #[tactic(auto, unfolding(crate::specs::meaning::Images::image_of))]
     fn read(&self, alloc: Global, value: Json) -> Result<Option<Image>, DocFault> {
         require_built(alloc, LateForm::Image)?;
         let text = text_from(alloc, value)?;

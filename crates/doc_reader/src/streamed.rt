@@ -2,10 +2,11 @@
 ghost use Rattle.std.specs.Prelude.{◌≡◌, ◌<◌, length, true, Some, None, IfSome, Ok, codes, option_map};
 ghost use Rattle.serde_json.specs.Data.{Data, Members as MemberData, object};
 ghost use Rattle.serde_json.specs.Read.{read};
-ghost use Rattle.json_form.specs.Objects.{Named, named, known, is_among as is_among_def, members_at};
+ghost use Rattle.json_form.specs.meaning.Objects.{Named, named, known, is_among as is_among_def};
+ghost use Rattle.json_form.specs.Objects.{members_at};
 ghost use Rattle.json_form.specs.Streams.{members_ahead as members_ahead_def};
-ghost use Rattle.document_forms.specs.Tables.{tables_of};
-ghost use Rattle.doc_reader.specs.Documents.{begin_of, document_members, document_of, document_at};
+ghost use Rattle.document_forms.specs.meaning.Tables.{tables_of};
+ghost use Rattle.doc_reader.specs.meaning.Documents.{begin_of, document_members, document_of, document_at};
 ghost use Rattle.doc_reader.specs.Ahead.{held_members, held_back, AreRead, Passes};
 
 use crate::counts::small;

@@ -4,8 +4,9 @@ use Rattle.std.specs.Prelude.{⊤, is_some, IfSome}
 use Rattle.std.specs.Option.{unwrap_or}
 use Rattle.std.specs.Str.{bytes_eq}
 use Rattle.serde_json.specs.Data.{Data, Members, object}
-use Rattle.json_form.specs.Faults.{Fault, ◌>>=◌, within}
-use Rattle.json_form.specs.Objects.{Named, named, known, object_with, required, read_or, putting}
+use Rattle.json_form.specs.meaning.Faults.{Fault, ◌>>=◌, within}
+use Rattle.json_form.specs.meaning.Objects.{Named, named, known, object_with, required, read_or}
+use Rattle.json_form.specs.Objects.{putting}
 use Rattle.json_form.proofs.Offered.{given}
 
 pub at_this : (name : List ℕ) (d : Data) (ms : Named) → bytes_eq name name ≡ true → putting name d ms name ≡ Some d

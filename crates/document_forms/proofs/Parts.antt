@@ -2,15 +2,17 @@
 use Rattle.std.proofs.Common.{◌≡◌, ℕ, List, false, Result, Ok, codes, refl, sym, ap, subst, ◌∙◌, rules}
 use Rattle.std.specs.Str.{bytes_eq}
 use Rattle.json_form.specs.declared.fault.DocFault.{DocFault}
-use Rattle.json_form.specs.Faults.{Fault, ◌>>=◌, Fails}
-use Rattle.json_form.specs.Objects.{Named, optional, without}
-use Rattle.json_form.specs.Texts.{word_of}
+use Rattle.json_form.specs.meaning.Faults.{Fault, ◌>>=◌}
+use Rattle.json_form.specs.Faults.{Fails}
+use Rattle.json_form.specs.meaning.Objects.{Named, optional}
+use Rattle.json_form.specs.Objects.{without}
+use Rattle.json_form.specs.meaning.Texts.{word_of}
 use Rattle.outage_schedule.specs.declared.document.Failover.{Failover}
 use Rattle.outage_schedule.specs.declared.document.Failover.TheVariants as failover
 use Rattle.outage_schedule.specs.declared.document.Consistency.{Consistency}
 use Rattle.outage_schedule.specs.declared.document.Consistency.TheVariants as consistency
 use Rattle.document_forms.specs.declared.service.Words.{Words}
-use Rattle.document_forms.specs.Service.{failover_words, consistency_words, words_of, limits_of, shares_of, stores_of}
+use Rattle.document_forms.specs.meaning.Service.{failover_words, consistency_words, words_of, limits_of, shares_of, stores_of}
 use Rattle.document_forms.proofs.Steps.{fails_first, fails_after, optional_apart}
 use Rattle.json_form.proofs.Offered.{others_stay}
 

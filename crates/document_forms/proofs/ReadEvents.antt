@@ -5,20 +5,20 @@ use Rattle.std.proofs.lemmas.Bool.{le-leb, leb-true}
 use Rattle.serde_json.specs.Data.{Data}
 use Rattle.json_form.specs.declared.hexadecimal.Digits.TheVariants as digits
 use Rattle.json_form.specs.declared.fault.DocCode.TheVariants.{Rule}
-use Rattle.json_form.specs.Faults.{Fault, ◌>>=◌, here}
-use Rattle.json_form.specs.Values.{whole_of}
-use Rattle.json_form.specs.Arrays.{Placed, each_of, array_of, fixed, part}
-use Rattle.json_form.specs.Texts.{head_of}
+use Rattle.json_form.specs.meaning.Faults.{Fault, ◌>>=◌, here}
+use Rattle.json_form.specs.meaning.Values.{whole_of}
+use Rattle.json_form.specs.meaning.Arrays.{Placed, each_of, array_of, fixed, part}
+use Rattle.json_form.specs.meaning.Texts.{head_of}
 use Rattle.svc_values.specs.declared.entry.Ltxid.{Ltxid}
 use Rattle.outage_schedule.specs.declared.event.Event.{Event}
 use Rattle.outage_schedule.specs.declared.event.Event.TheVariants as event
 use Rattle.document_forms.specs.declared.built.LateForm.TheVariants as form
 use Rattle.document_forms.specs.declared.event.EventWord.{EventWord}
 use Rattle.document_forms.specs.declared.event.EventWord.TheVariants as word
-use Rattle.document_forms.specs.Built.{built}
-use Rattle.call_forms.specs.Calls.{call_of}
-use Rattle.document_forms.specs.Events.{count_of, pick_of, lost_pick_of, go_of, serve_of, reap_of, cut_of, crash_of, upcrash_of, bare_of, outside_of, ltxid_of, ask_of, if_second, failover_of, event_words, event_by, event_of, schedule_of}
-use Rattle.document_forms.specs.Numbers.{is_count, is_small_ltxid}
+use Rattle.document_forms.specs.meaning.Built.{built}
+use Rattle.call_forms.specs.meaning.Calls.{call_of}
+use Rattle.document_forms.specs.meaning.Events.{count_of, pick_of, lost_pick_of, go_of, serve_of, reap_of, cut_of, crash_of, upcrash_of, bare_of, outside_of, ltxid_of, ask_of, if_second, failover_of, event_words, event_by, event_of, schedule_of}
+use Rattle.document_forms.specs.meaning.Numbers.{is_count, is_small_ltxid}
 use Rattle.document_forms.specs.Keeping.{is_event}
 use Rattle.json_form.proofs.Offered.{after, ok_is, given, passed, part_read, each_long, read_array, all_read, both_true, second_true}
 use Rattle.document_forms.proofs.ReadNumbers.{part_whole, whole_read}

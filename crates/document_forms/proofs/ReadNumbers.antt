@@ -2,10 +2,10 @@
 use Rattle.std.proofs.Common.{◌≡◌, ℕ, ℤ, pos, negsuc, ◌&&◌, nat_le, List, true, Ok, ap, sym, ◌∙◌}
 use Rattle.serde_json.specs.Data.{Data}
 use Rattle.json_form.specs.declared.fault.DocCode.TheVariants.{Limit}
-use Rattle.json_form.specs.Faults.{here}
-use Rattle.json_form.specs.Values.{number_of, in_limits, whole_of}
-use Rattle.json_form.specs.Arrays.{Placed, part}
-use Rattle.json_form.specs.Objects.{Named, optional}
+use Rattle.json_form.specs.meaning.Faults.{here}
+use Rattle.json_form.specs.meaning.Values.{number_of, in_limits, whole_of}
+use Rattle.json_form.specs.meaning.Arrays.{Placed, part}
+use Rattle.json_form.specs.meaning.Objects.{Named, optional}
 use Rattle.document_forms.specs.Numbers.{is_between}
 use Rattle.json_form.proofs.Offered.{after, ok_is, passed, part_read, optional_keeps}
 

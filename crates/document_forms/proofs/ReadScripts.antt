@@ -5,18 +5,18 @@ use Rattle.std.proofs.lemmas.Bool.{le-leb}
 use Rattle.serde_json.specs.Data.{Data}
 use Rattle.json_form.specs.declared.hexadecimal.Digits.TheVariants as digits
 use Rattle.json_form.specs.declared.fault.DocCode.TheVariants.{Rule}
-use Rattle.json_form.specs.Faults.{Fault, ◌>>=◌, here, within}
-use Rattle.json_form.specs.Pointers.{escaped}
-use Rattle.json_form.specs.Values.{items_of, whole_of}
-use Rattle.json_form.specs.Objects.{Named, object_with, required, optional}
-use Rattle.json_form.specs.Arrays.{each_of, array_of, list_of}
+use Rattle.json_form.specs.meaning.Faults.{Fault, ◌>>=◌, here, within}
+use Rattle.json_form.specs.meaning.Pointers.{escaped}
+use Rattle.json_form.specs.meaning.Values.{items_of, whole_of}
+use Rattle.json_form.specs.meaning.Objects.{Named, object_with, required, optional}
+use Rattle.json_form.specs.meaning.Arrays.{each_of, array_of, list_of}
 use Rattle.svc_values.specs.declared.call.Call.{Call}
-use Rattle.svc_values.specs.Calls.{is_made}
-use Rattle.svc_values.specs.SettingsList.{NamedValues}
+use Rattle.svc_values.specs.meaning.Calls.{is_made}
+use Rattle.svc_values.specs.meaning.SettingsList.{NamedValues}
 use Rattle.outage_schedule.specs.declared.document.Request.{Request}
 use Rattle.outage_schedule.specs.declared.document.Client.{Client}
-use Rattle.call_forms.specs.Calls.{call_of}
-use Rattle.document_forms.specs.Scripts.{settings_of, is_one_transaction, if_submitted_rightly, request_of, client_of}
+use Rattle.call_forms.specs.meaning.Calls.{call_of}
+use Rattle.document_forms.specs.meaning.Scripts.{settings_of, is_one_transaction, if_submitted_rightly, request_of, client_of}
 use Rattle.document_forms.specs.Numbers.{is_between}
 use Rattle.document_forms.specs.Keeping.{is_request, is_client}
 use Rattle.json_form.proofs.Offered.{after, ok_is, within_ok, passed, each_long, read_array, all_read, both_true}

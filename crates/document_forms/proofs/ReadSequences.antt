@@ -3,15 +3,16 @@ use Rattle.std.proofs.Common.{◌≡◌, ◌≤◌, ℕ, ℤ, pos, List, [], ◌
 use Rattle.std.specs.List.{list_all}
 use Rattle.std.specs.Str.{bytes_eq}
 use Rattle.serde_json.specs.Data.{Data}
-use Rattle.json_form.specs.Faults.{Fault, ◌>>=◌, within}
-use Rattle.json_form.specs.Pointers.{escaped}
-use Rattle.json_form.specs.Values.{whole_of, bool_of}
-use Rattle.json_form.specs.Objects.{Named, object_with, required, optional}
-use Rattle.json_form.specs.Arrays.{distinct, have_distinct_keys}
+use Rattle.json_form.specs.meaning.Faults.{Fault, ◌>>=◌, within}
+use Rattle.json_form.specs.meaning.Pointers.{escaped}
+use Rattle.json_form.specs.meaning.Values.{whole_of, bool_of}
+use Rattle.json_form.specs.meaning.Objects.{Named, object_with, required, optional}
+use Rattle.json_form.specs.meaning.Arrays.{distinct}
+use Rattle.json_form.specs.Arrays.{have_distinct_keys}
 use Rattle.outage_schedule.specs.declared.document.DocTable.{DocTable}
 use Rattle.outage_schedule.specs.declared.document.DocSequence.{DocSequence}
-use Rattle.call_forms.specs.Values.{name_of, new_name}
-use Rattle.document_forms.specs.Tables.{table_of, tables_of, start_of, sequence_of, sequences_of}
+use Rattle.call_forms.specs.meaning.Values.{name_of, new_name}
+use Rattle.document_forms.specs.meaning.Tables.{table_of, tables_of, start_of, sequence_of, sequences_of}
 use Rattle.document_forms.specs.Keeping.{is_table, is_sequence}
 use Rattle.json_form.proofs.Offered.{after, ok_is, within_ok, each_long, read_array, new_key}
 use Rattle.json_form.proofs.Offered.{distinct_read, distinct_all}

@@ -1,9 +1,9 @@
 -- What a service that was read keeps to.
 use Rattle.std.proofs.Common.{◌≡◌, ℕ, [], ◌∷◌, ◌&&◌, Bool, true, false, Result, Ok, codes, refl, sym, ap, subst, ◌∙◌}
 use Rattle.serde_json.specs.Data.{Data}
-use Rattle.json_form.specs.Faults.{Fault, ◌>>=◌}
-use Rattle.json_form.specs.Values.{whole_of, bool_of}
-use Rattle.json_form.specs.Objects.{Named, object_with, optional}
+use Rattle.json_form.specs.meaning.Faults.{Fault, ◌>>=◌}
+use Rattle.json_form.specs.meaning.Values.{whole_of, bool_of}
+use Rattle.json_form.specs.meaning.Objects.{Named, object_with, optional}
 use Rattle.outage_schedule.specs.declared.document.PoolOf.{PoolOf}
 use Rattle.outage_schedule.specs.declared.document.ServiceOf.{ServiceOf}
 use Rattle.document_forms.specs.declared.service.Words.{Words}
@@ -11,8 +11,8 @@ use Rattle.document_forms.specs.declared.service.Limits.{Limits}
 use Rattle.document_forms.specs.declared.service.Shares.{Shares}
 use Rattle.document_forms.specs.declared.service.Stores.{Stores}
 use Rattle.document_forms.specs.declared.built.LateForm.TheVariants as form
-use Rattle.document_forms.specs.Built.{is_built, built}
-use Rattle.document_forms.specs.Service.{usual_pool, usual_keep, pool_of, keep_of, words_of, limits_of, shares_of, standby_of, stores_of, service_with, service_members, service_of, usual_service}
+use Rattle.document_forms.specs.meaning.Built.{is_built, built}
+use Rattle.document_forms.specs.meaning.Service.{usual_pool, usual_keep, pool_of, keep_of, words_of, limits_of, shares_of, standby_of, stores_of, service_with, service_members, service_of, usual_service}
 use Rattle.document_forms.specs.Numbers.{is_between}
 use Rattle.document_forms.specs.Keeping.{is_service}
 use Rattle.json_form.proofs.Offered.{after, ok_is, both_true, optional_keeps}

@@ -7,23 +7,24 @@ use Rattle.std.proofs.lemmas.Bool.{le-leb}
 use Rattle.serde_json.specs.Data.{Data}
 use Rattle.json_form.specs.declared.hexadecimal.Digits.TheVariants as digits
 use Rattle.json_form.specs.declared.fault.DocCode.TheVariants.{WrongKind, Unknown}
-use Rattle.json_form.specs.Faults.{Fault, ◌>>=◌, here, within}
-use Rattle.json_form.specs.Pointers.{escaped}
-use Rattle.json_form.specs.Objects.{Named, object_with, required, optional}
-use Rattle.json_form.specs.Arrays.{Placed, each_after, fixed, distinct, fresh, exact_of, part, have_distinct_keys}
-use Rattle.json_form.specs.Texts.{word_of}
-use Rattle.json_form.specs.Values.{items_of, text_of}
+use Rattle.json_form.specs.meaning.Faults.{Fault, ◌>>=◌, here, within}
+use Rattle.json_form.specs.meaning.Pointers.{escaped}
+use Rattle.json_form.specs.meaning.Objects.{Named, object_with, required, optional}
+use Rattle.json_form.specs.meaning.Arrays.{Placed, each_after, fixed, distinct, fresh, exact_of, part}
+use Rattle.json_form.specs.Arrays.{have_distinct_keys}
+use Rattle.json_form.specs.meaning.Texts.{word_of}
+use Rattle.json_form.specs.meaning.Values.{items_of, text_of}
 use Rattle.svc_values.specs.declared.value.Value.{Value}
 use Rattle.svc_values.specs.declared.schema.Column.{Column}
-use Rattle.svc_values.specs.Kinds.{row_fits, has_column, have_distinct_names}
-use Rattle.svc_values.specs.Same.{same_value}
-use Rattle.svc_values.specs.Schemas.{key_of}
-use Rattle.svc_values.specs.Texts.{is_name}
+use Rattle.svc_values.specs.meaning.Kinds.{row_fits, has_column, have_distinct_names}
+use Rattle.svc_values.specs.meaning.Same.{same_value}
+use Rattle.svc_values.specs.meaning.Schemas.{key_of}
+use Rattle.svc_values.specs.meaning.Texts.{is_name}
 use Rattle.outage_schedule.specs.declared.document.DocTable.{DocTable}
 use Rattle.document_forms.specs.declared.built.LateForm.TheVariants as form
-use Rattle.document_forms.specs.Built.{built}
-use Rattle.call_forms.specs.Values.{name_of, new_name, value_of}
-use Rattle.document_forms.specs.Tables.{kind_words, column_of, field_of, fitting, row_of, rows_of, columns_of, known_column, indexed_of, index_of, table_of}
+use Rattle.document_forms.specs.meaning.Built.{built}
+use Rattle.call_forms.specs.meaning.Values.{name_of, new_name, value_of}
+use Rattle.document_forms.specs.meaning.Tables.{kind_words, column_of, field_of, fitting, row_of, rows_of, columns_of, known_column, indexed_of, index_of, table_of}
 use Rattle.document_forms.specs.Keeping.{is_table}
 use Rattle.json_form.proofs.Offered.{after, ok_is, within_ok, passed, second_true, each_keeps, each_long, read_array, both_true, part_read, new_key, optional_keeps}
 use Rattle.json_form.proofs.Offered.{distinct_read, distinct_all}

@@ -4,8 +4,10 @@ use Rattle.std.specs.Str.{bytes_eq}
 use Rattle.serde_json.specs.Data.{Data}
 use Rattle.json_form.specs.declared.fault.DocFault.{DocFault}
 use Rattle.json_form.specs.declared.fault.DocFault.TheVariants.{NoMemory, At}
-use Rattle.json_form.specs.Faults.{Fault, ◌>>=◌, Fails}
-use Rattle.json_form.specs.Objects.{Named, optional, without}
+use Rattle.json_form.specs.meaning.Faults.{Fault, ◌>>=◌}
+use Rattle.json_form.specs.Faults.{Fails}
+use Rattle.json_form.specs.meaning.Objects.{Named, optional}
+use Rattle.json_form.specs.Objects.{without}
 
 pub fails_first : {A B : Type 0} (e : DocFault) (r : Result A Fault) (next : A → Result B Fault) → Fails e r → Fails e (r >>= next)
 fails_first NoMemory r next h = tt

@@ -2,18 +2,19 @@
 use Rattle.std.proofs.Common.{◌≡◌, List, [], ℕ, Bool, Option, Some, None, option_map, Ok, codes, refl, sym, ap, ◌∙◌}
 use Rattle.std.specs.Option.{unwrap_or}
 use Rattle.serde_json.specs.Data.{Data, Members, object}
-use Rattle.json_form.specs.Faults.{◌>>=◌, within}
-use Rattle.json_form.specs.Objects.{Named, named, known, object_with, required, optional, read_or, putting}
-use Rattle.json_form.specs.Arrays.{array_of, distinct}
+use Rattle.json_form.specs.meaning.Faults.{◌>>=◌, within}
+use Rattle.json_form.specs.meaning.Objects.{Named, named, known, object_with, required, optional, read_or}
+use Rattle.json_form.specs.Objects.{putting}
+use Rattle.json_form.specs.meaning.Arrays.{array_of, distinct}
 use Rattle.svc_values.specs.declared.value.Value.{Value}
 use Rattle.svc_values.specs.declared.schema.Column.{Column}
 use Rattle.svc_values.specs.contracts.value.ValuePartialEq.TheImpl.{eq-value}
-use Rattle.svc_values.specs.Schemas.{key_of}
+use Rattle.svc_values.specs.meaning.Schemas.{key_of}
 use Rattle.svc_values.proofs.Offered.{same_is_eq}
 use Rattle.outage_schedule.specs.declared.document.DocTable.{DocTable}
 use Rattle.document_forms.specs.declared.table_ahead.TableAhead.{TableAhead}
-use Rattle.call_forms.specs.Values.{new_name}
-use Rattle.document_forms.specs.Tables.{row_of, rows_of, columns_of, index_of, table_members, table_of}
+use Rattle.call_forms.specs.meaning.Values.{new_name}
+use Rattle.document_forms.specs.meaning.Tables.{row_of, rows_of, columns_of, index_of, table_members, table_of}
 use Rattle.document_forms.specs.TablesAhead.{columns_in, IsTableRead}
 use Rattle.json_form.proofs.Offered.{given}
 use Rattle.document_forms.proofs.Steps.{gives_after}

@@ -4,10 +4,10 @@ use Rattle.std.specs.List.{list_all}
 use Rattle.std.specs.Str.{bytes_eq}
 use Rattle.json_form.specs.Arrays.{have_distinct_keys}
 use Rattle.svc_values.specs.declared.schema.Schema.{Schema}
-use Rattle.svc_values.specs.Kinds.{row_fits, has_column}
-use Rattle.svc_values.specs.Same.{same_value}
-use Rattle.svc_values.specs.Schemas.{is_declared, key_of}
-use Rattle.svc_values.specs.Calls.{is_made}
+use Rattle.svc_values.specs.meaning.Kinds.{row_fits, has_column}
+use Rattle.svc_values.specs.meaning.Same.{same_value}
+use Rattle.svc_values.specs.meaning.Schemas.{is_declared, key_of}
+use Rattle.svc_values.specs.meaning.Calls.{is_made}
 use Rattle.outage_schedule.specs.declared.document.ServiceOf.{ServiceOf}
 use Rattle.outage_schedule.specs.declared.document.DocTable.{DocTable}
 use Rattle.outage_schedule.specs.declared.document.DocSequence.{DocSequence}
@@ -15,8 +15,9 @@ use Rattle.outage_schedule.specs.declared.document.Request.{Request}
 use Rattle.outage_schedule.specs.declared.document.Client.{Client}
 use Rattle.outage_schedule.specs.declared.event.Event.{Event}
 use Rattle.outage_schedule.specs.declared.event.Event.TheVariants as event
-use Rattle.document_forms.specs.Numbers.{is_between, is_count, is_small_ltxid}
-use Rattle.document_forms.specs.Scripts.{is_one_transaction}
+use Rattle.document_forms.specs.meaning.Numbers.{is_count, is_small_ltxid}
+use Rattle.document_forms.specs.Numbers.{is_between}
+use Rattle.document_forms.specs.meaning.Scripts.{is_one_transaction}
 
 -- the limits of the service's members
 unfoldable pub is_service : ServiceOf → Bool

@@ -2,12 +2,13 @@
 use Rattle.std.specs.Prelude.{◌≡◌, ℕ, List, [], Bool, Option, Some, None, option_map, Ok, codes}
 use Rattle.json.specs.Token.{Token}
 use Rattle.serde_json.specs.Data.{Data}
-use Rattle.json_form.specs.Objects.{Named, putting}
+use Rattle.json_form.specs.meaning.Objects.{Named}
+use Rattle.json_form.specs.Objects.{putting}
 use Rattle.json_form.specs.Streams.{value_ahead}
 use Rattle.svc_values.specs.declared.schema.Column.{Column}
 use Rattle.document_forms.specs.declared.table_ahead.TableAhead.{TableAhead}
-use Rattle.call_forms.specs.Values.{new_name}
-use Rattle.document_forms.specs.Tables.{columns_of, rows_of}
+use Rattle.call_forms.specs.meaning.Values.{new_name}
+use Rattle.document_forms.specs.meaning.Tables.{columns_of, rows_of}
 
 -- the columns that were read
 abbrev pub columns_in : Option (List Column) → List Column

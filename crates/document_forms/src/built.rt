@@ -1,7 +1,7 @@
 //! Forms of a document that are read only once there is what carries them out.
 ghost use Rattle.std.specs.Prelude.{◌≡◌};
 ghost use Rattle.json_form.specs.Faults.{Gives};
-ghost use Rattle.document_forms.specs.Built.{is_built as is_built_def, built};
+ghost use Rattle.document_forms.specs.meaning.Built.{is_built as is_built_def, built};
 
 use json_form::{DocCode, DocFault};
 use std::alloc::Global;
@@ -20,7 +20,7 @@ pub enum LateForm {
 }
 
 /// The table of what is built: each line goes from `false` to `true` with the machinery.
-#[tactic(auto, unfolding(crate::specs::Built::is_built))]
+#[tactic(auto, unfolding(crate::specs::meaning::Built::is_built))]
 fn is_built(form: LateForm) -> bool
     ensures { result ≡ is_built_def form }
 {

@@ -2,7 +2,7 @@
 ghost use Rattle.std.specs.Prelude.{◌≤◌, ◌<◌, false, length, IfOk, IfSome};
 ghost use Rattle.serde_json.specs.View.{view};
 ghost use Rattle.json_form.specs.Faults.{Gives};
-ghost use Rattle.document_forms.specs.Events.{count_of, pick_of, lost_pick_of, go_of, serve_of, reap_of, cut_of, crash_of, upcrash_of, bare_of, outside_of, ltxid_of, ask_of, failover_of, event_by as event_by_def, event_of, schedule_of};
+ghost use Rattle.document_forms.specs.meaning.Events.{count_of, pick_of, lost_pick_of, go_of, serve_of, reap_of, cut_of, crash_of, upcrash_of, bare_of, outside_of, ltxid_of, ask_of, failover_of, event_by as event_by_def, event_of, schedule_of};
 ghost use Rattle.json_form.specs.Streams.{Begins};
 
 use crate::built::{LateForm, require_built};
@@ -76,9 +76,9 @@ impl Reader<u8> for LostPickReader {
 struct CallsReader;
 
 impl Reader<Calls> for CallsReader {
-    ghost use Rattle.json_form.specs.Arrays.{array_of, each_of};
+    ghost use Rattle.json_form.specs.meaning.Arrays.{array_of, each_of};
     ghost use Rattle.json_form.specs.declared.hexadecimal.Digits.TheVariants as digits;
-    ghost use Rattle.call_forms.specs.Calls.{call_of};
+    ghost use Rattle.call_forms.specs.meaning.Calls.{call_of};
 
     ghost reads = { λ s. array_of 1 1024 (each_of (call_of digits.Any)) };
 
@@ -98,7 +98,7 @@ struct LtxidReader;
 impl Reader<Ltxid> for LtxidReader {
     ghost reads = { λ s. ltxid_of };
 
-    #[tactic(auto, unfolding(crate::specs::Events::ltxid_of), using(json_form::proofs::Offered::others_stay))]
+    #[tactic(auto, unfolding(crate::specs::meaning::Events::ltxid_of), using(json_form::proofs::Offered::others_stay))]
     fn read(&self, alloc: Global, value: Json) -> Result<Ltxid, DocFault> {
         let mut parts = fixed(alloc, value, 3)?;
         let incarnation = parts.read(alloc, 0, &CountReader)?;
@@ -112,7 +112,7 @@ impl Reader<Ltxid> for LtxidReader {
     }
 }
 
-#[tactic(auto, unfolding(crate::specs::Events::go_of))]
+#[tactic(auto, unfolding(crate::specs::meaning::Events::go_of))]
 fn go_from(alloc: Global, value: Json, clients: u64) -> Result<Event, DocFault>
     ensures { Gives result (go_of clients (view value)) }
 {
@@ -121,7 +121,7 @@ fn go_from(alloc: Global, value: Json, clients: u64) -> Result<Event, DocFault>
     Ok(Event::Go { client })
 }
 
-#[tactic(auto, unfolding(crate::specs::Events::serve_of))]
+#[tactic(auto, unfolding(crate::specs::meaning::Events::serve_of))]
 fn serve_from(alloc: Global, value: Json) -> Result<Event, DocFault>
     ensures { Gives result (serve_of (view value)) }
 {
@@ -130,7 +130,7 @@ fn serve_from(alloc: Global, value: Json) -> Result<Event, DocFault>
     Ok(Event::Serve { connection })
 }
 
-#[tactic(auto, unfolding(crate::specs::Events::reap_of))]
+#[tactic(auto, unfolding(crate::specs::meaning::Events::reap_of))]
 fn reap_from(alloc: Global, value: Json) -> Result<Event, DocFault>
     ensures { Gives result (reap_of (view value)) }
 {
@@ -139,7 +139,7 @@ fn reap_from(alloc: Global, value: Json) -> Result<Event, DocFault>
     Ok(Event::Reap { connection })
 }
 
-#[tactic(auto, unfolding(crate::specs::Events::cut_of), using(json_form::proofs::Offered::others_stay))]
+#[tactic(auto, unfolding(crate::specs::meaning::Events::cut_of), using(json_form::proofs::Offered::others_stay))]
 fn cut_from(alloc: Global, value: Json) -> Result<Event, DocFault>
     ensures { Gives result (cut_of (view value)) }
 {
@@ -154,7 +154,7 @@ fn cut_from(alloc: Global, value: Json) -> Result<Event, DocFault>
     })
 }
 
-#[tactic(auto, unfolding(crate::specs::Events::crash_of), using(json_form::proofs::Offered::others_stay))]
+#[tactic(auto, unfolding(crate::specs::meaning::Events::crash_of), using(json_form::proofs::Offered::others_stay))]
 fn crash_from(alloc: Global, value: Json) -> Result<Event, DocFault>
     ensures { Gives result (crash_of (view value)) }
 {
@@ -169,7 +169,7 @@ fn crash_from(alloc: Global, value: Json) -> Result<Event, DocFault>
     })
 }
 
-#[tactic(auto, unfolding(crate::specs::Events::upcrash_of), using(json_form::proofs::Offered::others_stay))]
+#[tactic(auto, unfolding(crate::specs::meaning::Events::upcrash_of), using(json_form::proofs::Offered::others_stay))]
 fn upcrash_from(alloc: Global, value: Json) -> Result<Event, DocFault>
     ensures { Gives result (upcrash_of (view value)) }
 {
@@ -186,7 +186,7 @@ fn bare_from(alloc: Global, value: Json, one: Event) -> Result<Event, DocFault>
     Ok(one)
 }
 
-#[tactic(auto, unfolding(crate::specs::Events::outside_of))]
+#[tactic(auto, unfolding(crate::specs::meaning::Events::outside_of))]
 fn outside_from(alloc: Global, value: Json) -> Result<Event, DocFault>
     ensures { Gives result (outside_of (view value)) }
 {
@@ -195,7 +195,7 @@ fn outside_from(alloc: Global, value: Json) -> Result<Event, DocFault>
     Ok(Event::Outside { calls })
 }
 
-#[tactic(auto, unfolding(crate::specs::Events::ask_of))]
+#[tactic(auto, unfolding(crate::specs::meaning::Events::ask_of))]
 fn ask_from(alloc: Global, value: Json) -> Result<Event, DocFault>
     ensures { Gives result (ask_of (view value)) }
 {
@@ -204,7 +204,7 @@ fn ask_from(alloc: Global, value: Json) -> Result<Event, DocFault>
     Ok(Event::Ask { ltxid })
 }
 
-#[tactic(auto, unfolding(crate::specs::Events::failover_of), using(json_form::proofs::Offered::others_stay))]
+#[tactic(auto, unfolding(crate::specs::meaning::Events::failover_of), using(json_form::proofs::Offered::others_stay))]
 fn failover_from(alloc: Global, value: Json, standby: bool) -> Result<Event, DocFault>
     ensures { Gives result (failover_of standby (view value)) }
 {
@@ -273,7 +273,7 @@ struct EventReader {
 impl Reader<Event> for EventReader {
     ghost reads = { λ s. event_of s.clients s.standby };
 
-    #[tactic(auto, unfolding(crate::specs::Events::event_of))]
+    #[tactic(auto, unfolding(crate::specs::meaning::Events::event_of))]
     fn read(&self, alloc: Global, value: Json) -> Result<Event, DocFault> {
         let EventReader { clients, standby } = *self;
         let word = head_from(alloc, &value, &WORDS)?;

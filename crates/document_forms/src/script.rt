@@ -2,10 +2,11 @@
 ghost use Rattle.std.specs.Prelude.{◌≡◌, IfOk, codes};
 ghost use Rattle.serde_json.specs.View.{view};
 ghost use Rattle.json_form.specs.declared.hexadecimal.Digits.TheVariants as digits;
-ghost use Rattle.json_form.specs.Faults.{Gives, within};
-ghost use Rattle.json_form.specs.Arrays.{array_of, each_of};
-ghost use Rattle.call_forms.specs.Calls.{call_of};
-ghost use Rattle.document_forms.specs.Scripts.{setting_of, by_name as by_name_def, settings_of, is_inside as is_inside_def, is_one_transaction as is_one_transaction_def, if_submitted_rightly, request_of, client_of};
+ghost use Rattle.json_form.specs.meaning.Faults.{within};
+ghost use Rattle.json_form.specs.Faults.{Gives};
+ghost use Rattle.json_form.specs.meaning.Arrays.{array_of, each_of};
+ghost use Rattle.call_forms.specs.meaning.Calls.{call_of};
+ghost use Rattle.document_forms.specs.meaning.Scripts.{setting_of, by_name as by_name_def, settings_of, is_inside as is_inside_def, is_one_transaction as is_one_transaction_def, if_submitted_rightly, request_of, client_of};
 
 use crate::number::whole;
 use call_forms::{CallReader, NewNameReader, ValueReader, copied};
@@ -33,7 +34,7 @@ impl KeyedReader<(Name, Value)> for SettingReader {
         copied(alloc, &item.0)
     }
 
-    #[tactic(auto, unfolding(crate::specs::Scripts::setting_of), using(json_form::proofs::Offered::others_stay))]
+    #[tactic(auto, unfolding(crate::specs::meaning::Scripts::setting_of), using(json_form::proofs::Offered::others_stay))]
     fn read(
         &self,
         alloc: Global,
@@ -125,7 +126,7 @@ struct RequestReader;
 impl Reader<Request> for RequestReader {
     ghost reads = { λ s. request_of };
 
-    #[tactic(auto, unfolding(crate::specs::Scripts::request_of), using(json_form::proofs::Offered::others_stay))]
+    #[tactic(auto, unfolding(crate::specs::meaning::Scripts::request_of), using(json_form::proofs::Offered::others_stay))]
     fn read(&self, alloc: Global, value: Json) -> Result<Request, DocFault> {
         let mut members = object_with(alloc, value, &["settings", "calls", "again"])?;
         let calls = members.required(alloc, "calls")?;
@@ -149,7 +150,7 @@ pub struct ClientReader;
 impl Reader<Client> for ClientReader {
     ghost reads = { λ s. client_of };
 
-    #[tactic(auto, unfolding(crate::specs::Scripts::client_of))]
+    #[tactic(auto, unfolding(crate::specs::meaning::Scripts::client_of))]
     fn read(&self, alloc: Global, value: Json) -> Result<Client, DocFault> {
         let mut members = object_with(alloc, value, &["requests"])?;
         let requests = members.required(alloc, "requests")?;

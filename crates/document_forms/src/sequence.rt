@@ -1,7 +1,7 @@
 //! Reader of sequences.
 ghost use Rattle.serde_json.specs.View.{view};
 ghost use Rattle.json_form.specs.Faults.{Gives};
-ghost use Rattle.document_forms.specs.Tables.{sequence_of, sequences_of, start_of};
+ghost use Rattle.document_forms.specs.meaning.Tables.{sequence_of, sequences_of, start_of};
 
 use crate::number::whole;
 use call_forms::{NewNameReader, copied};
@@ -34,7 +34,7 @@ impl KeyedReader<DocSequence> for SequenceReader {
         copied(alloc, &item.name)
     }
 
-    #[tactic(auto, unfolding(crate::specs::Tables::sequence_of), using(json_form::proofs::Offered::others_stay))]
+    #[tactic(auto, unfolding(crate::specs::meaning::Tables::sequence_of), using(json_form::proofs::Offered::others_stay))]
     fn read(
         &self,
         alloc: Global,

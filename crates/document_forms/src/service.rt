@@ -2,8 +2,8 @@
 ghost use Rattle.std.specs.Prelude.{◌≡◌, IfOk, codes};
 ghost use Rattle.json_form.specs.Faults.{Gives};
 ghost use Rattle.json_form.specs.Objects.{members_at, without};
-ghost use Rattle.json_form.specs.Texts.{word_of};
-ghost use Rattle.document_forms.specs.Service.{failover_words, consistency_words, pool_of, keep_of, words_of, limits_of, shares_of, stores_of, standby_of, service_with as service_with_def, service_of, usual_service as usual_service_def};
+ghost use Rattle.json_form.specs.meaning.Texts.{word_of};
+ghost use Rattle.document_forms.specs.meaning.Service.{failover_words, consistency_words, pool_of, keep_of, words_of, limits_of, shares_of, stores_of, standby_of, service_with as service_with_def, service_of, usual_service as usual_service_def};
 
 use crate::built::{LateForm, require_built};
 use crate::number::whole;
@@ -90,7 +90,7 @@ struct PoolReader;
 impl Reader<PoolOf> for PoolReader {
     ghost reads = { λ s. pool_of };
 
-    #[tactic(auto, unfolding(crate::specs::Service::pool_of), using(json_form::proofs::Offered::others_stay))]
+    #[tactic(auto, unfolding(crate::specs::meaning::Service::pool_of), using(json_form::proofs::Offered::others_stay))]
     fn read(&self, alloc: Global, value: Json) -> Result<PoolOf, DocFault> {
         let mut members = object_with(alloc, value, &["max", "wait"])?;
         let max = members.optional(alloc, "max", &whole(Number::Slots), 4)?;
@@ -106,7 +106,7 @@ struct KeepReader;
 impl Reader<KeepOf> for KeepReader {
     ghost reads = { λ s. keep_of };
 
-    #[tactic(auto, unfolding(crate::specs::Service::keep_of), using(json_form::proofs::Offered::others_stay))]
+    #[tactic(auto, unfolding(crate::specs::meaning::Service::keep_of), using(json_form::proofs::Offered::others_stay))]
     fn read(&self, alloc: Global, value: Json) -> Result<KeepOf, DocFault> {
         let mut members = object_with(alloc, value, &["seq", "clock", "id"])?;
         let seq = members.optional(alloc, "seq", &Flag, false)?;
@@ -130,7 +130,7 @@ impl Reader<bool> for StandbyReader {
 }
 
 /// The limits among the members of the service, which are taken out.
-#[tactic(auto, unfolding(crate::specs::Service::limits_of), using(json_form::proofs::Offered::others_stay))]
+#[tactic(auto, unfolding(crate::specs::meaning::Service::limits_of), using(json_form::proofs::Offered::others_stay))]
 fn limits_from(alloc: Global, members: &mut Members) -> Result<Limits, DocFault>
     ensures read { Gives result (limits_of (members_at members.old)) }
     ensures left { IfOk result (λ _. members_at members.new ≡ without (codes "record") (without (codes "replays") (without (codes "timeout")
@@ -151,7 +151,7 @@ fn limits_from(alloc: Global, members: &mut Members) -> Result<Limits, DocFault>
 }
 
 /// What the drivers do at an outage, among the members of the service, which are taken out.
-#[tactic(auto, unfolding(crate::specs::Service::words_of), using(json_form::proofs::Offered::others_stay))]
+#[tactic(auto, unfolding(crate::specs::meaning::Service::words_of), using(json_form::proofs::Offered::others_stay))]
 fn words_from(alloc: Global, members: &mut Members) -> Result<Words, DocFault>
     ensures read { Gives result (words_of (members_at members.old)) }
     ensures left { IfOk result (λ _. members_at members.new ≡ without (codes "consistency") (without (codes "failover") (members_at members.old))) }
@@ -181,7 +181,7 @@ const USUAL_KEEP: KeepOf = KeepOf {
 };
 
 /// The pool and the draws that are kept, among the members of the service, which are taken out.
-#[tactic(auto, unfolding(crate::specs::Service::shares_of), using(json_form::proofs::Offered::others_stay))]
+#[tactic(auto, unfolding(crate::specs::meaning::Service::shares_of), using(json_form::proofs::Offered::others_stay))]
 fn shares_from(alloc: Global, members: &mut Members) -> Result<Shares, DocFault>
     ensures read { Gives result (shares_of (members_at members.old)) }
     ensures left { IfOk result (λ _. members_at members.new ≡ without (codes "keep") (without (codes "pool") (members_at members.old))) }
@@ -192,7 +192,7 @@ fn shares_from(alloc: Global, members: &mut Members) -> Result<Shares, DocFault>
 }
 
 /// What is said of the stores, among the members of the service, which are taken out.
-#[tactic(auto, unfolding(crate::specs::Service::stores_of), using(json_form::proofs::Offered::others_stay))]
+#[tactic(auto, unfolding(crate::specs::meaning::Service::stores_of), using(json_form::proofs::Offered::others_stay))]
 fn stores_from(alloc: Global, members: &mut Members) -> Result<Stores, DocFault>
     ensures { Gives result (stores_of (members_at members.old)) }
 {
@@ -266,7 +266,7 @@ pub struct ServiceReader;
 impl Reader<ServiceOf> for ServiceReader {
     ghost reads = { λ s. service_of };
 
-    #[tactic(auto, unfolding(crate::specs::Service::service_of), using(crate::proofs::Parts::parts_stay))]
+    #[tactic(auto, unfolding(crate::specs::meaning::Service::service_of), using(crate::proofs::Parts::parts_stay))]
     fn read(&self, alloc: Global, value: Json) -> Result<ServiceOf, DocFault> {
         let mut members = object_with(alloc, value, &MEMBERS)?;
         let words = words_from(alloc, &mut members)?;

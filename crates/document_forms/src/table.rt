@@ -2,11 +2,11 @@
 ghost use Rattle.std.specs.Prelude.{◌≡◌, ◌<◌, [], length, IfOk, IfErr, IfSome, string_bytes};
 ghost use Rattle.serde_json.specs.View.{view, items_view};
 ghost use Rattle.json_form.specs.Faults.{Gives, GivesBy};
-ghost use Rattle.json_form.specs.Arrays.{is_key, each_after};
-ghost use Rattle.json_form.specs.Texts.{word_of};
+ghost use Rattle.json_form.specs.meaning.Arrays.{is_key, each_after};
+ghost use Rattle.json_form.specs.meaning.Texts.{word_of};
 ghost use Rattle.json_form.specs.Streams.{Begins};
-ghost use Rattle.document_forms.specs.Tables.{column_of, columns_of, kind_words, field_of, fitting, row_of, rows_of, known_column as known_column_def, indexed_of, index_of, table_of, tables_of};
-ghost use Rattle.svc_values.specs.Schemas.{key_of as key_of_row};
+ghost use Rattle.document_forms.specs.meaning.Tables.{column_of, columns_of, kind_words, field_of, fitting, row_of, rows_of, known_column as known_column_def, indexed_of, index_of, table_of, tables_of};
+ghost use Rattle.svc_values.specs.meaning.Schemas.{key_of as key_of_row};
 ghost use Rattle.json_form.specs.declared.fault.DocFault.TheVariants.{NoMemory};
 
 use crate::built::{LateForm, require_built};
@@ -57,7 +57,7 @@ impl KeyedReader<Column> for ColumnReader {
         copied(alloc, &item.name)
     }
 
-    #[tactic(auto, unfolding(crate::specs::Tables::column_of), using(json_form::proofs::Offered::others_stay))]
+    #[tactic(auto, unfolding(crate::specs::meaning::Tables::column_of), using(json_form::proofs::Offered::others_stay))]
     fn read(&self, alloc: Global, taken: &Taken<Name>, value: Json) -> Result<Column, DocFault> {
         let mut parts = fixed(alloc, value, 2)?;
         let name = parts.read(alloc, 0, &NewNameReader { taken })?;
@@ -150,7 +150,7 @@ impl KeyedReader<Row> for RowReader<'_> {
         key_from(alloc, item.as_slice())
     }
 
-    #[tactic(auto, unfolding(crate::specs::Tables::row_of))]
+    #[tactic(auto, unfolding(crate::specs::meaning::Tables::row_of))]
     fn read(&self, alloc: Global, taken: &Taken<Value>, value: Json) -> Result<Row, DocFault> {
         let values = exact_from(alloc, value, self.columns.len())?;
         let fields = fields_from(alloc, taken, values)?;
@@ -226,7 +226,7 @@ impl KeyedReader<Name> for IndexedReader<'_> {
         copied(alloc, item)
     }
 
-    #[tactic(auto, unfolding(crate::specs::Tables::indexed_of))]
+    #[tactic(auto, unfolding(crate::specs::meaning::Tables::indexed_of))]
     fn read(&self, alloc: Global, taken: &Taken<Name>, value: Json) -> Result<Name, DocFault> {
         let text = text_from(alloc, value)?;
         let name = known_column(alloc, self.columns.as_slice(), text)?;
@@ -244,7 +244,7 @@ struct IndexReader<'a> {
 impl Reader<IndexColumns> for IndexReader<'_> {
     ghost reads = { λ s. index_of s.columns.now };
 
-    #[tactic(auto, unfolding(crate::specs::Tables::index_of))]
+    #[tactic(auto, unfolding(crate::specs::meaning::Tables::index_of))]
     fn read(&self, alloc: Global, value: Json) -> Result<IndexColumns, DocFault> {
         require_built(alloc, LateForm::Index)?;
         let columns = self.columns;
@@ -268,7 +268,7 @@ impl KeyedReader<DocTable> for TableReader {
         copied(alloc, &item.name)
     }
 
-    #[tactic(auto, unfolding(crate::specs::Tables::table_of), using(json_form::proofs::Offered::others_stay))]
+    #[tactic(auto, unfolding(crate::specs::meaning::Tables::table_of), using(json_form::proofs::Offered::others_stay))]
     fn read(&self, alloc: Global, taken: &Taken<Name>, value: Json) -> Result<DocTable, DocFault> {
         let mut members = object_with(alloc, value, &["name", "columns", "rows", "index"])?;
         let name = members.required(alloc, "name")?;

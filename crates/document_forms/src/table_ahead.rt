@@ -2,10 +2,10 @@
 ghost use Rattle.std.specs.Prelude.{◌≡◌, ◌<◌, ◌≤◌, length, List, ℕ, Bool, true, Some, None, IfSome, Ok, codes};
 ghost use Rattle.std.specs.Str.{bytes_eq};
 ghost use Rattle.serde_json.specs.Data.{Members as MemberData};
-ghost use Rattle.json_form.specs.Arrays.{is_key};
-ghost use Rattle.json_form.specs.Objects.{named, known, is_among};
+ghost use Rattle.json_form.specs.meaning.Arrays.{is_key};
+ghost use Rattle.json_form.specs.meaning.Objects.{named, known, is_among};
 ghost use Rattle.json_form.specs.Streams.{Begins, members_ahead as members_ahead_def};
-ghost use Rattle.document_forms.specs.Tables.{table_members, table_of};
+ghost use Rattle.document_forms.specs.meaning.Tables.{table_members, table_of};
 ghost use Rattle.document_forms.specs.TablesAhead.{IsTableRead, PassesMember};
 
 use crate::table::{columns_from, rows_ahead};

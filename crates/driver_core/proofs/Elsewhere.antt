@@ -8,10 +8,10 @@ use Rattle.svc_values.specs.declared.frame.Ahead.TheVariants as ahead
 use Rattle.svc_values.specs.declared.frame.Down.{Down}
 use Rattle.svc_values.specs.declared.frame.Down.TheVariants as down
 use Rattle.svc_values.specs.declared.memory.NoMemory.{NoMemory}
-use Rattle.client_model.specs.Terms.{Terms, Talk}
-use Rattle.client_model.specs.Terms as plain
-use Rattle.client_model.specs.States.{next_of}
-use Rattle.client_model.specs.Talk.{Step, next_call, on_reply, on_repeated, bad_peer, takes}
+use Rattle.client_model.specs.meaning.Terms.{Terms, Talk}
+use Rattle.client_model.specs.meaning.Terms as plain
+use Rattle.client_model.specs.meaning.States.{next_of}
+use Rattle.client_model.specs.meaning.Talk.{Step, next_call, on_reply, on_repeated, bad_peer, takes}
 use Rattle.replay_core.specs.declared.asked.Asked.{Asked}
 use Rattle.replay_core.specs.declared.live.Live.{Live}
 use Rattle.replay_core.specs.declared.lost.Lost.{Lost}

@@ -23,19 +23,19 @@ use Rattle.request_bounds.specs.declared.rule.Why.TheVariants as why
 use Rattle.request_bounds.specs.declared.rule.After.{After}
 use Rattle.request_bounds.specs.declared.rule.After.TheVariants as after
 use Rattle.request_bounds.specs.Limits.{IsPast}
-use Rattle.request_bounds.specs.Rules.{Rules}
+use Rattle.request_bounds.specs.meaning.Rules.{Rules}
 use Rattle.call_recorder.specs.declared.recorded.Recorded.{Recorded}
 use Rattle.client_model.specs.declared.track.Track.{Track}
-use Rattle.client_model.specs.Told as told
-use Rattle.client_model.specs.Told.{over, repeated, completed_on, is_late, uncommitted, told_of}
-use Rattle.client_model.specs.States.{Living, Losing, Asking, Repeating, asked_on, resumed, next_of}
-use Rattle.client_model.specs.Verifying.{submitted, verified_more, mismatch}
+use Rattle.client_model.specs.meaning.Told as told
+use Rattle.client_model.specs.meaning.Told.{over, repeated, completed_on, is_late, uncommitted, told_of}
+use Rattle.client_model.specs.meaning.States.{Living, Losing, Asking, Repeating, asked_on, resumed, next_of}
+use Rattle.client_model.specs.meaning.Verifying.{submitted, verified_more, mismatch}
 use Rattle.client_model.specs.declared.input.Input.{Input}
 use Rattle.client_model.specs.declared.input.Input.TheVariants.{Start, Waiting, Lent, Opened, TryFailed, Took, Gone}
 use Rattle.client_model.specs.declared.act.Shown.{Shown}
 use Rattle.client_model.specs.declared.act.Failed.TheVariants.{Disabled, Mismatch, Incomplete, Retries, ReplayTimeout, Replays, PoolWait, Unknown, BadPeer}
-use Rattle.client_model.specs.Terms.{Terms, Talk, Phase, Idle, Unbegun, Queued, Seeking, Greeting, Asked, Running, Replaying, unsubmitted}
-use Rattle.client_model.specs.Talk.{Step, stands, quiet, sending, if_alive, fails, begin_of, next_call, with_submitted, sends_call, sends_or_ends, goes_on, recorded_as, with_recorded, with_reply, with_counted, with_shown, talk_shown, tag_of, on_hello, on_reply, sends_marked, on_compared, on_repeated, after_completed, on_completed, on_told, takes, lost_of, loses, waits_from, with_tried, talk_step, wants_in, wants_of}
+use Rattle.client_model.specs.meaning.Terms.{Terms, Talk, Phase, Idle, Unbegun, Queued, Seeking, Greeting, Asked, Running, Replaying, unsubmitted}
+use Rattle.client_model.specs.meaning.Talk.{Step, stands, quiet, sending, if_alive, fails, begin_of, next_call, with_submitted, sends_call, sends_or_ends, goes_on, recorded_as, with_recorded, with_reply, with_counted, with_shown, talk_shown, tag_of, on_hello, on_reply, sends_marked, on_compared, on_repeated, after_completed, on_completed, on_told, takes, lost_of, loses, waits_from, with_tried, talk_step, wants_in, wants_of}
 use Rattle.client_model.specs.Conversation.{is_wanted, may_come}
 use Rattle.client_model.specs.Laws.{track_of}
 use Rattle.driver_core.specs.Driving.{Driving, terms_of, queued_at, ArePast, HasLtxids}

@@ -14,8 +14,8 @@ use Rattle.client_model.specs.declared.track.Track.{Track}
 use Rattle.client_model.specs.declared.act.Act.{Act}
 use Rattle.client_model.specs.declared.act.Shown.{Shown}
 use Rattle.client_model.specs.declared.act.Failed.{Failed}
-use Rattle.client_model.specs.Terms.{Terms, Talk, Phase, Idle, Unbegun, Queued, Seeking, Greeting, Asked, Running, Replaying}
-use Rattle.client_model.specs.Talk.{Step, stands, if_alive, closing, ending, fails, ends}
+use Rattle.client_model.specs.meaning.Terms.{Terms, Talk, Phase, Idle, Unbegun, Queued, Seeking, Greeting, Asked, Running, Replaying}
+use Rattle.client_model.specs.meaning.Talk.{Step, stands, if_alive, closing, ending, fails, ends}
 use Rattle.client_model.specs.Laws.{track_of}
 use Rattle.driver_core.specs.Driving.{queued_at, ArePast}
 use Rattle.driver_core.specs.InnerSound.{IsTracked, HoldsLtxids, HasTry, IsSound}

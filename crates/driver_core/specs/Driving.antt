@@ -2,15 +2,15 @@
 use Rattle.std.specs.Prelude.{◌≤◌, ℕ, Bool, [], Option, None}
 use Rattle.std.specs.Option.{option_and_then}
 use Rattle.sha2.specs.Sha256.{sha256}
-use Rattle.canon_bytes.specs.AnswerBytes.{spell_answers}
+use Rattle.canon_bytes.specs.meaning.AnswerBytes.{spell_answers}
 use Rattle.request_bounds.specs.declared.clocked.Clocked.{Clocked}
 use Rattle.request_bounds.specs.Limits.{IsPast}
-use Rattle.request_bounds.specs.Rules.{Rules}
+use Rattle.request_bounds.specs.meaning.Rules.{Rules}
 use Rattle.svc_values.specs.Identifiers.{IsLtxid}
 use Rattle.svc_values.specs.declared.frame.Down.TheVariants as down
 use Rattle.client_model.specs.declared.input.Input.{Input}
 use Rattle.client_model.specs.declared.input.Input.TheVariants.{Lent, Took}
-use Rattle.client_model.specs.Terms.{Terms, Talk, Phase, Idle, Queued}
+use Rattle.client_model.specs.meaning.Terms.{Terms, Talk, Phase, Idle, Queued}
 use Rattle.client_model.specs.Laws.{track_of}
 
 -- A driver: its rule, its limits, how many calls it records; the conversation of its request; and

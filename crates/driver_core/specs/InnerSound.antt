@@ -6,7 +6,7 @@ use Rattle.svc_values.specs.Identifiers.{IsLtxid}
 use Rattle.svc_values.specs.declared.call.Call.{Call}
 use Rattle.call_recorder.specs.declared.recorded.Recorded.{Recorded}
 use Rattle.client_model.specs.declared.track.Track.{Track}
-use Rattle.client_model.specs.Terms.{Talk, Phase, Idle, Seeking, Greeting, Asked, Running, Replaying}
+use Rattle.client_model.specs.meaning.Terms.{Talk, Phase, Idle, Seeking, Greeting, Asked, Running, Replaying}
 use Rattle.client_model.specs.Laws.{track_of}
 
 abbrev pub IsMadeRecorded : Recorded → Type 0

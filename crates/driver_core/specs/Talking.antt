@@ -1,13 +1,13 @@
 -- The fields of a driver as a conversation.
 use Rattle.std.specs.Prelude.{List, [], ◌∷◌, Option}
 use Rattle.svc_values.specs.declared.frame.Up.{Up}
-use Rattle.client_model.specs.States.{Losing}
-use Rattle.client_model.specs.Terms.{Talk}
-use Rattle.client_model.specs.Terms as plain
+use Rattle.client_model.specs.meaning.States.{Losing}
+use Rattle.client_model.specs.meaning.Terms.{Talk}
+use Rattle.client_model.specs.meaning.Terms as plain
 use Rattle.replay_core.specs.declared.lost.Lost.{Lost}
 use Rattle.driver_core.specs.declared.phase.Phase.{Phase}
 use Rattle.driver_core.specs.declared.phase.Phase.TheVariants as phase
-use Rattle.client_model.specs.Talk.{Step, stands, begin_of}
+use Rattle.client_model.specs.meaning.Talk.{Step, stands, begin_of}
 use Rattle.driver_core.specs.declared.request.Request.{Request}
 use Rattle.driver_core.specs.declared.turn.Turn.{Turn}
 use Rattle.driver_core.specs.declared.going.Before.{Before}

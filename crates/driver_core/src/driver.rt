@@ -2,9 +2,9 @@
 ghost use Rattle.std.specs.Prelude.{◌≡◌, ◌≤◌, false, length, IsTrue, IfOk, OnOk};
 ghost use Rattle.std.specs.List.{AllByRecursion};
 ghost use Rattle.svc_values.specs.Calls.{IsMade};
-ghost use Rattle.client_model.specs.Terms.{Idle, requested};
+ghost use Rattle.client_model.specs.meaning.Terms.{Idle, requested};
 ghost use Rattle.canon_bytes.specs.UpBytes.{IsMadeUp};
-ghost use Rattle.client_model.specs.Talk.{wants_of, talk_step};
+ghost use Rattle.client_model.specs.meaning.Talk.{wants_of, talk_step};
 ghost use Rattle.client_model.specs.Conversation.{may_come as may_come_def, is_gone as is_gone_def, is_gone_next as is_gone_next_def};
 ghost use Rattle.driver_core.specs.Driving.{terms_of, ArePast, StaysPast, HasLtxids, unasked};
 

@@ -1,6 +1,6 @@
 //! Frames that go out, and the tags of those that come.
 ghost use Rattle.std.specs.Prelude.{◌≡◌, [], ◌∷◌, IfOk};
-ghost use Rattle.client_model.specs.Talk.{if_alive as if_alive_def, tag_of as tag_of_def};
+ghost use Rattle.client_model.specs.meaning.Talk.{if_alive as if_alive_def, tag_of as tag_of_def};
 
 use client_model::Frames;
 use std::alloc::Global;

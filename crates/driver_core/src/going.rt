@@ -2,7 +2,7 @@
 ghost use Rattle.std.specs.Prelude.{◌≡◌, IfOk};
 ghost use Rattle.std.specs.List.{AllByRecursion};
 ghost use Rattle.svc_values.specs.Calls.{IsMade};
-ghost use Rattle.client_model.specs.Talk.{with_submitted, sends_call, goes_on};
+ghost use Rattle.client_model.specs.meaning.Talk.{with_submitted, sends_call, goes_on};
 ghost use Rattle.driver_core.specs.Driving.{terms_of};
 ghost use Rattle.driver_core.specs.Talking.{rest_of, step_in, frames_of};
 

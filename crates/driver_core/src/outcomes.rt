@@ -3,9 +3,9 @@ ghost use Rattle.std.specs.Prelude.{◌≡◌, ◌+◌, ◌<◌, ◌≤◌, ◌^
 ghost use Rattle.std.specs.List.{AllByRecursion};
 ghost use Rattle.svc_values.specs.Calls.{IsMade};
 ghost use Rattle.request_bounds.specs.Limits.{IsPast};
-ghost use Rattle.client_model.specs.States.{resumed};
-ghost use Rattle.client_model.specs.Told.{told_of};
-ghost use Rattle.client_model.specs.Talk.{next_call, on_told as on_told_def, on_completed as on_completed_def, after_completed};
+ghost use Rattle.client_model.specs.meaning.States.{resumed};
+ghost use Rattle.client_model.specs.meaning.Told.{told_of};
+ghost use Rattle.client_model.specs.meaning.Talk.{next_call, on_told as on_told_def, on_completed as on_completed_def, after_completed};
 ghost use Rattle.driver_core.specs.Driving.{terms_of};
 ghost use Rattle.driver_core.specs.Talking.{rest_of, step_in};
 

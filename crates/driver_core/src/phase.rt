@@ -1,6 +1,6 @@
 //! How far a request has come.
 ghost use Rattle.std.specs.Prelude.{◌≡◌};
-ghost use Rattle.client_model.specs.Talk.{loses, lost_of};
+ghost use Rattle.client_model.specs.meaning.Talk.{loses, lost_of};
 ghost use Rattle.driver_core.specs.Talking.{phase_of, losing_of};
 
 use replay_core::{Asked, Live, Lost, Replaying};

@@ -3,7 +3,7 @@ ghost use Rattle.std.specs.Prelude.{◌≡◌, ◌++◌, OnOk, IfSome, drop};
 ghost use Rattle.std.specs.List.{AllByRecursion};
 ghost use Rattle.svc_values.specs.Calls.{IsMade};
 ghost use Rattle.std.specs.Option.{option_copied};
-ghost use Rattle.client_model.specs.Talk.{next_call, set_by, sets_by, settled, settled_by, waits_after};
+ghost use Rattle.client_model.specs.meaning.Talk.{next_call, set_by, sets_by, settled, settled_by, waits_after};
 ghost use Rattle.driver_core.specs.Driving.{unasked};
 ghost use Rattle.driver_core.specs.Talking.{rest_of};
 

@@ -1,7 +1,7 @@
 //! A call that is shown: what the rule makes of its reply.
 ghost use Rattle.std.specs.Prelude.{◌≡◌, ◌+◌, ◌<◌, ◌^◌, IfOk};
 ghost use Rattle.svc_values.specs.Calls.{IsMade};
-ghost use Rattle.client_model.specs.Talk.{is_set, recorded_as, with_recorded, with_reply, with_counted};
+ghost use Rattle.client_model.specs.meaning.Talk.{is_set, recorded_as, with_recorded, with_reply, with_counted};
 ghost use Rattle.driver_core.specs.Driving.{terms_of};
 
 use crate::terms::Terms;

@@ -1,6 +1,6 @@
 //! Slots, and tries to open a connection.
 ghost use Rattle.std.specs.Prelude.{◌≡◌, ◌+◌, ◌<◌, ◌≤◌, ◌^◌, IfOk};
-ghost use Rattle.client_model.specs.Talk.{waits_from as waits_from_def, on_waiting as on_waiting_def, on_try_failed as on_try_failed_def};
+ghost use Rattle.client_model.specs.meaning.Talk.{waits_from as waits_from_def, on_waiting as on_waiting_def, on_try_failed as on_try_failed_def};
 ghost use Rattle.driver_core.specs.Driving.{terms_of};
 ghost use Rattle.driver_core.specs.Talking.{phase_of, talk_of, rest_of, step_in};
 

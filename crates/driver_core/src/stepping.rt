@@ -5,7 +5,7 @@ ghost use Rattle.std.specs.List.{AllByRecursion};
 ghost use Rattle.svc_values.specs.Calls.{IsMade};
 ghost use Rattle.request_bounds.specs.Limits.{IsPast};
 ghost use Rattle.client_model.specs.Laws.{track_of};
-ghost use Rattle.client_model.specs.Talk.{waits_from, talk_step};
+ghost use Rattle.client_model.specs.meaning.Talk.{waits_from, talk_step};
 ghost use Rattle.driver_core.specs.Driving.{terms_of};
 ghost use Rattle.driver_core.specs.Talking.{phase_of, talk_of, rest_of, step_in};
 

@@ -6,8 +6,8 @@ ghost use Rattle.svc_values.specs.Calls.{IsMade};
 ghost use Rattle.request_bounds.specs.Limits.{IsPast};
 ghost use Rattle.client_model.specs.Laws.{track_of};
 ghost use Rattle.svc_values.specs.declared.frame.Down.TheVariants.{OutcomeRefused};
-ghost use Rattle.client_model.specs.Terms.{Terms as WhatIsKept, Talk, Asked as AsksFor, unsubmitted as unsubmitted_def};
-ghost use Rattle.client_model.specs.Talk.{on_hello as on_hello_def, bad_peer as bad_peer_def, takes};
+ghost use Rattle.client_model.specs.meaning.Terms.{Terms as WhatIsKept, Talk, Asked as AsksFor, unsubmitted as unsubmitted_def};
+ghost use Rattle.client_model.specs.meaning.Talk.{on_hello as on_hello_def, bad_peer as bad_peer_def, takes};
 ghost use Rattle.driver_core.specs.Driving.{terms_of};
 ghost use Rattle.driver_core.specs.Talking.{losing_of, phase_of, talk_of, rest_of, step_in};
 

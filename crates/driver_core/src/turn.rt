@@ -1,6 +1,6 @@
 //! Where a step leads.
 ghost use Rattle.std.specs.Prelude.{◌≡◌, [], ◌∷◌, IfOk};
-ghost use Rattle.client_model.specs.Talk.{quiet as quiet_def, sending as sending_def, closing, ending};
+ghost use Rattle.client_model.specs.meaning.Talk.{quiet as quiet_def, sending as sending_def, closing, ending};
 ghost use Rattle.driver_core.specs.declared.phase.Phase.TheVariants.{Idle};
 
 use crate::frames::{if_alive, only};

@@ -3,8 +3,8 @@ use Rattle.std.proofs.Common.{◌≡◌, ℕ, zero, suc, ◌+◌, ◌<◌, ◌�
 use Rattle.std.specs.Int.{w64, from_be_bytes}
 use Rattle.std.proofs.lemmas.List.{append-nil, take-append-drop, drop-drop, length-take}
 use Rattle.std.proofs.lemmas.Nat.{be_bytes_8}
-use Rattle.canon_bytes.specs.Numbers.{spell_u64}
-use Rattle.canon_bytes.specs.TextBytes.{spell_bytes}
+use Rattle.canon_bytes.specs.meaning.Numbers.{spell_u64}
+use Rattle.canon_bytes.specs.meaning.TextBytes.{spell_bytes}
 use Rattle.canon_bytes.specs.declared.fault.Fault.{Fault}
 
 abbrev AreBytes : List ℕ → Type 0

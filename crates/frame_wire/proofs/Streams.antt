@@ -7,8 +7,8 @@ use Rattle.std.proofs.lemmas.Bool.{le-ltb, lt-ltb, leb-true}
 use Rattle.std.proofs.lemmas.Bool.Decides.{leb_tells}
 use Rattle.std.proofs.lemmas.List.{take_at, drop_at, length-append, length-take, take-append-le}
 use Rattle.std.proofs.lemmas.Nat.{from_be_bytes-to_be_bytes_8}
-use Rattle.canon_bytes.specs.Numbers.{spell_u64}
-use Rattle.canon_bytes.specs.TextBytes.{spell_bytes}
+use Rattle.canon_bytes.specs.meaning.Numbers.{spell_u64}
+use Rattle.canon_bytes.specs.meaning.TextBytes.{spell_bytes}
 use Rattle.canon_bytes.specs.declared.fault.Fault.{Fault}
 use Rattle.frame_wire.specs.declared.feed.FrameFault.{FrameFault}
 use Rattle.frame_wire.specs.declared.feed.FrameFault.TheVariants.{NoMemory, BadFrame}

@@ -1,7 +1,7 @@
 -- A feed over time: bytes are pushed, however they were cut, and frames are asked for.
 use Rattle.std.specs.Prelude.{◌≡◌, ℕ, ◌-◌, ◌<◌, ◌≤◌, ◌^◌, List, [], ◌∷◌, ◌++◌, length, take, Option, Some, None, Result, Ok}
 use Rattle.std.specs.List.{flat_map, AllByRecursion}
-use Rattle.canon_bytes.specs.TextBytes.{spell_bytes}
+use Rattle.canon_bytes.specs.meaning.TextBytes.{spell_bytes}
 use Rattle.frame_wire.specs.declared.feed.FrameFault.{FrameFault}
 use Rattle.frame_wire.specs.Stream.{Pending, with_bytes, with_first, first_payload, whole_front, IsNext}
 

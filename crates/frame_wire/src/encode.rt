@@ -1,15 +1,17 @@
 //! Frames, written whole.
 ghost use Rattle.std.specs.Prelude.{◌≡◌, ◌<◌, ◌^◌, length, OnOk, IfOk};
-ghost use Rattle.canon_bytes.specs.TextBytes.{spell_bytes};
-ghost use Rattle.canon_bytes.specs.UpBytes.{spell_up, up_frame, FitsUp, IsMadeUp};
-ghost use Rattle.canon_bytes.specs.DownBytes.{spell_down, down_frame, FitsDown, IsMadeDown};
+ghost use Rattle.canon_bytes.specs.meaning.TextBytes.{spell_bytes};
+ghost use Rattle.canon_bytes.specs.meaning.UpBytes.{spell_up, up_frame};
+ghost use Rattle.canon_bytes.specs.UpBytes.{FitsUp, IsMadeUp};
+ghost use Rattle.canon_bytes.specs.meaning.DownBytes.{spell_down, down_frame};
+ghost use Rattle.canon_bytes.specs.DownBytes.{FitsDown, IsMadeDown};
 
 use canon_bytes::PutMade;
 use std::alloc::Global;
 use svc_values::{Down, NoMemory, Up};
 
 /// The number of the payload's bytes, and the payload, which is made where it is sent from.
-#[tactic(auto, unfolding(canon_bytes::specs::TextBytes::spell_bytes, canon_bytes::specs::Numbers::spell_u64))]
+#[tactic(auto, unfolding(canon_bytes::specs::meaning::TextBytes::spell_bytes, canon_bytes::specs::meaning::Numbers::spell_u64))]
 fn encode<F: PutMade>(alloc: Global, frame: &F) -> Result<Vec<u8>, NoMemory>
     requires { F.made frame.now }
     ensures whole { IfOk result (λ bytes. bytes.items ≡ spell_bytes (F.spelling frame.now)) }

@@ -1,7 +1,7 @@
 //! Bytes that arrive in pieces, and the frames that stand in them.
 ghost use Rattle.std.specs.Prelude.{◌≡◌, ◌≢◌, ◌+◌, ◌<◌, ◌≤◌, ◌^◌, ◌++◌, length, drop, OnOk, OnErr, IfOk, IfSome, is_some};
 ghost use Rattle.std.specs.Option.{option_map};
-ghost use Rattle.canon_bytes.specs.TextBytes.{spell_bytes};
+ghost use Rattle.canon_bytes.specs.meaning.TextBytes.{spell_bytes};
 ghost use Rattle.frame_wire.specs.Stream.{nothing_pending, with_bytes, with_first, first_payload, IsNext};
 
 use bytes::BytesMut;
@@ -47,7 +47,7 @@ impl<F> Model for Feed<F> {
 }
 
 /// The payload of the frame that stands first, where it has arrived whole. Only the length is read.
-#[tactic(auto, unfolding(crate::specs::Stream::first_payload, canon_bytes::specs::TextBytes::spell_bytes, canon_bytes::specs::Numbers::spell_u64))]
+#[tactic(auto, unfolding(crate::specs::Stream::first_payload, canon_bytes::specs::meaning::TextBytes::spell_bytes, canon_bytes::specs::meaning::Numbers::spell_u64))]
 fn payload_of(bytes: &[u8]) -> Option<&[u8]>
     ensures exact { option_map (λ payload. payload.now) result ≡ first_payload bytes.now }
     ensures front { IfSome result (λ payload. bytes.now ≡ spell_bytes payload.now ++ drop (8 + length payload.now) bytes.now) }

@@ -4,11 +4,11 @@ use Rattle.std.specs.List.{list_any}
 use Rattle.std.proofs.lemmas.Bool.{and_parts, not-true, or_left, or_right}
 use Rattle.svc_values.specs.declared.draw.Draw.{Draw}
 use Rattle.svc_values.specs.declared.entry.SessionId.{SessionId}
-use Rattle.svc_values.specs.Identifiers.{same_session}
-use Rattle.server_model.specs.Base.{Base}
-use Rattle.server_model.specs.Fresh.{new_in, drawn_anew}
-use Rattle.server_model.specs.Items.{Item, Did, AskTold, AskStopped}
-use Rattle.server_model.specs.Walk.{Walk, Deed, deed_of, entered, after}
+use Rattle.svc_values.specs.meaning.Identifiers.{same_session}
+use Rattle.server_model.specs.meaning.Base.{Base}
+use Rattle.server_model.specs.meaning.Fresh.{new_in, drawn_anew}
+use Rattle.server_model.specs.meaning.Items.{Item, Did, AskTold, AskStopped}
+use Rattle.server_model.specs.meaning.Walk.{Walk, Deed, deed_of, entered, after}
 use Rattle.world_model.specs.Sames.{all_with}
 use Rattle.once_laws.proofs.Offered.{times, times_both}
 use Rattle.world_model.proofs.Offered.{same_session_is, not_both}

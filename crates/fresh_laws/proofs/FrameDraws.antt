@@ -8,18 +8,18 @@ use Rattle.svc_values.specs.declared.draw.Draw.{Draw}
 use Rattle.svc_values.specs.declared.entry.SessionId.{SessionId}
 use Rattle.svc_values.specs.declared.frame.Up.{Up}
 use Rattle.svc_values.specs.declared.frame.Up.TheVariants as up
-use Rattle.svc_values.specs.Endings.{ends_committed}
-use Rattle.svc_values.specs.Same.{same_draw}
-use Rattle.stmt_meaning.specs.Meaning.{Meant}
-use Rattle.stmt_meaning.specs.SerialTest.{is_nil}
+use Rattle.svc_values.specs.meaning.Endings.{ends_committed}
+use Rattle.svc_values.specs.meaning.Same.{same_draw}
+use Rattle.stmt_meaning.specs.meaning.Meaning.{Meant}
+use Rattle.stmt_meaning.specs.meaning.SerialTest.{is_nil}
 use Rattle.outage_schedule.specs.declared.item.Item.{Item as ItemTold}
 use Rattle.outage_schedule.specs.declared.item.Item.TheVariants as item
-use Rattle.server_model.specs.Base.{Base}
-use Rattle.server_model.specs.Fresh.{new_in}
-use Rattle.server_model.specs.Items.{Thing, Called, CallStopped, Did}
-use Rattle.server_model.specs.Legal.{answers_hold, is_free, stores, draws_hold, deed_holds, is_of_now, item_holds}
-use Rattle.server_model.specs.NewValues.{Numbers, Origin, Kept, New, origin_of, left_by, one_drawn, if_next, and_draws, drawn_by, kept_by, new_among}
-use Rattle.server_model.specs.Walk.{Walk, Performed, performed_by, meaning, deed, with_meaning, deed_of}
+use Rattle.server_model.specs.meaning.Base.{Base}
+use Rattle.server_model.specs.meaning.Fresh.{new_in}
+use Rattle.server_model.specs.meaning.Items.{Thing, Called, CallStopped, Did}
+use Rattle.server_model.specs.meaning.Legal.{answers_hold, is_free, stores, draws_hold, deed_holds, is_of_now, item_holds}
+use Rattle.server_model.specs.meaning.NewValues.{Numbers, Origin, Kept, New, origin_of, left_by, one_drawn, if_next, and_draws, drawn_by, kept_by, new_among}
+use Rattle.server_model.specs.meaning.Walk.{Walk, Performed, performed_by, meaning, deed, with_meaning, deed_of}
 use Rattle.world_model.specs.records.Number.{is_stopped_call}
 use Rattle.invariant_laws.specs.Same.{Ran as RanBy, did_all, with_call, ends_on_server, ran_item}
 use Rattle.world_model.specs.records.Wire.{counted_with}

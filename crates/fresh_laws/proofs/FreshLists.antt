@@ -9,19 +9,19 @@ use Rattle.svc_values.specs.declared.entry.Entry.{Entry}
 use Rattle.svc_values.specs.declared.entry.SessionId.{SessionId}
 use Rattle.svc_values.specs.declared.frame.Up.{Up}
 use Rattle.svc_values.specs.declared.frame.Up.TheVariants as up
-use Rattle.svc_values.specs.Identifiers.{same_session, session_of}
-use Rattle.svc_values.specs.Same.{same_draw}
+use Rattle.svc_values.specs.meaning.Identifiers.{same_session, session_of}
+use Rattle.svc_values.specs.meaning.Same.{same_draw}
 use Rattle.svc_values.specs.SameLaws.{same_draw_decides}
 use Rattle.outage_schedule.specs.declared.item.Item.{Item}
 use Rattle.outage_schedule.specs.declared.item.Item.TheVariants as item
-use Rattle.server_model.specs.Base.{Base}
-use Rattle.server_model.specs.Fresh.{draws_of}
-use Rattle.server_model.specs.NewValues.{Origin, Kept, New, origin_of, left_by, of_one_kind, and_before, if_new, new_among}
-use Rattle.world_model.specs.Crashing.{is_crashed_item}
-use Rattle.world_model.specs.Frames.{Handled}
+use Rattle.server_model.specs.meaning.Base.{Base}
+use Rattle.server_model.specs.meaning.Fresh.{draws_of}
+use Rattle.server_model.specs.meaning.NewValues.{Origin, Kept, New, origin_of, left_by, of_one_kind, and_before, if_new, new_among}
+use Rattle.world_model.specs.meaning.Crashing.{is_crashed_item}
+use Rattle.world_model.specs.meaning.Frames.{Handled}
 use Rattle.invariant_laws.specs.Once.{given}
 use Rattle.world_model.specs.Sames.{all_with, each_pair}
-use Rattle.world_model.specs.Serving.{is_item_of}
+use Rattle.world_model.specs.meaning.Serving.{is_item_of}
 use Rattle.fresh_laws.proofs.DrawnFor.{among}
 use Rattle.once_laws.proofs.Offered.{times, times_both, all_new, total, drawn as stored_drawn}
 use Rattle.fresh_laws.proofs.FrameDraws.{kept_with, anew, is_kept_first, are_drawn}

@@ -3,8 +3,8 @@ use Rattle.std.proofs.Common.{◌≡◌, sym, ap, ◌∙◌, true}
 use Rattle.std.specs.Prelude.{drop}
 use Rattle.outage_schedule.specs.declared.document.Document.{Document}
 use Rattle.outage_schedule.specs.declared.report.Report.{Report}
-use Rattle.run_clauses.specs.Fresh.{fresh as is_fresh}
-use Rattle.server_model.specs.Fresh.{fresh}
+use Rattle.run_clauses.specs.meaning.Fresh.{fresh as is_fresh}
+use Rattle.server_model.specs.meaning.Fresh.{fresh}
 use Rattle.server_model.specs.Runs.{Server}
 use Rattle.server_model.specs.Seen.{Seen}
 use Rattle.invariant_laws.specs.Invariant.{Invariant}

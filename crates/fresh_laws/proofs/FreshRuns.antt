@@ -10,7 +10,7 @@ use Rattle.svc_values.specs.declared.entry.Entry.{Entry}
 use Rattle.svc_values.specs.declared.entry.SessionId.{SessionId}
 use Rattle.svc_values.specs.declared.frame.Up.{Up}
 use Rattle.svc_values.specs.declared.frame.Up.TheVariants as up
-use Rattle.svc_values.specs.Identifiers.{same_session, session_of}
+use Rattle.svc_values.specs.meaning.Identifiers.{same_session, session_of}
 use Rattle.svc_values.specs.SameLaws.{same_draw_decides, same_draws_decide}
 use Rattle.outage_schedule.specs.declared.document.Document.{Document}
 use Rattle.outage_schedule.specs.declared.event.Event.{Event}
@@ -18,16 +18,16 @@ use Rattle.outage_schedule.specs.declared.item.Item.{Item}
 use Rattle.outage_schedule.specs.declared.item.Item.TheVariants as item
 use Rattle.outage_schedule.specs.declared.item.Served.{Served}
 use Rattle.outage_schedule.specs.declared.note.Note.{Note}
-use Rattle.server_model.specs.Fresh.{is_single, draws_of, fresh}
+use Rattle.server_model.specs.meaning.Fresh.{is_single, draws_of, fresh}
 use Rattle.server_model.specs.Items.{items_of}
 use Rattle.server_model.specs.Laws.{RunsLegal, RunsFreshNew}
-use Rattle.server_model.specs.NewValues.{grants, kept_by, new_among}
+use Rattle.server_model.specs.meaning.NewValues.{grants, kept_by, new_among}
 use Rattle.server_model.specs.Seen.{Seen}
-use Rattle.server_model.specs.Walk.{walk_of}
+use Rattle.server_model.specs.meaning.Walk.{walk_of}
 use Rattle.world_model.specs.records.Basic.{sessions_of}
-use Rattle.world_model.specs.Crashing.{is_crashed_item}
-use Rattle.world_model.specs.Frames.{Owner, Handled}
-use Rattle.world_model.specs.Links.{Link}
+use Rattle.world_model.specs.meaning.Crashing.{is_crashed_item}
+use Rattle.world_model.specs.meaning.Frames.{Owner, Handled}
+use Rattle.world_model.specs.meaning.Links.{Link}
 use Rattle.world_model.specs.records.Number.{is_of_run, is_known}
 use Rattle.invariant_laws.specs.Once.{stopped_draws, given}
 use Rattle.world_model.specs.Reached.{Reached}
@@ -35,7 +35,7 @@ use Rattle.world_model.specs.records.Ready.{all_requests_right}
 use Rattle.world_model.specs.RunLaws.{RunsAreOrderly}
 use Rattle.invariant_laws.specs.SameLaws.{RunsServe}
 use Rattle.world_model.specs.Sames.{all_with, each_pair, owned_by}
-use Rattle.world_model.specs.Serving.{is_item_of}
+use Rattle.world_model.specs.meaning.Serving.{is_item_of}
 use Rattle.world_model.specs.Traced.{Traced}
 use Rattle.world_model.specs.records.Wire.{handled_from}
 use Rattle.world_model.specs.Parts.{implies}

@@ -9,18 +9,18 @@ use Rattle.svc_values.specs.declared.call.Call.{Call}
 use Rattle.svc_values.specs.declared.draw.Draw.{Draw}
 use Rattle.svc_values.specs.declared.frame.Up.{Up}
 use Rattle.svc_values.specs.declared.frame.Up.TheVariants as up
-use Rattle.svc_values.specs.Same.{same_draw}
+use Rattle.svc_values.specs.meaning.Same.{same_draw}
 use Rattle.svc_values.specs.SameLaws.{same_draw_decides, same_draws_decide}
 use Rattle.outage_schedule.specs.declared.item.Item.{Item}
 use Rattle.outage_schedule.specs.declared.item.Item.TheVariants as item
-use Rattle.server_model.specs.Base.{Base}
-use Rattle.server_model.specs.NewValues.{Origin, Kept, New, origin_of, left_by, of_one_kind, and_before, grants, kept_by, if_new, new_among}
-use Rattle.world_model.specs.Crashing.{is_crashed_item}
-use Rattle.world_model.specs.Frames.{Owner, Handled}
-use Rattle.world_model.specs.Links.{Link}
+use Rattle.server_model.specs.meaning.Base.{Base}
+use Rattle.server_model.specs.meaning.NewValues.{Origin, Kept, New, origin_of, left_by, of_one_kind, and_before, grants, kept_by, if_new, new_among}
+use Rattle.world_model.specs.meaning.Crashing.{is_crashed_item}
+use Rattle.world_model.specs.meaning.Frames.{Owner, Handled}
+use Rattle.world_model.specs.meaning.Links.{Link}
 use Rattle.invariant_laws.specs.Once.{Given, given_as, stopped_draws, given_by, given_on, given}
 use Rattle.world_model.specs.Sames.{owned_by, same_owners}
-use Rattle.world_model.specs.Serving.{is_item_of}
+use Rattle.world_model.specs.meaning.Serving.{is_item_of}
 use Rattle.world_model.specs.Traced.{Traced}
 use Rattle.world_model.specs.records.Wire.{is_handled, counted_with, handled_from}
 use Rattle.once_laws.proofs.Offered.{times, times_both, is_origin, has_origin, firsts, firsts_both, gave_before, kept_given, repeats_given, gives_draws, gives_to, is_nothing, any_served}

@@ -10,14 +10,14 @@ use Rattle.svc_values.specs.declared.entry.SessionId.{SessionId}
 use Rattle.svc_values.specs.declared.frame.Down.{Down}
 use Rattle.svc_values.specs.declared.frame.Up.{Up}
 use Rattle.svc_values.specs.declared.frame.Up.TheVariants as up
-use Rattle.svc_values.specs.Identifiers.{session_of, ltxid_of, same_session}
-use Rattle.svc_values.specs.Same.{same_bool}
+use Rattle.svc_values.specs.meaning.Identifiers.{session_of, ltxid_of, same_session}
+use Rattle.svc_values.specs.meaning.Same.{same_bool}
 use Rattle.outage_schedule.specs.declared.item.Item.{Item}
 use Rattle.outage_schedule.specs.declared.item.Item.TheVariants as item
 use Rattle.world_model.specs.records.Basic.{is_connect, first_is_connect, is_named}
-use Rattle.world_model.specs.Crashing.{is_crashed_item}
-use Rattle.world_model.specs.Frames.{Reply, Handled}
-use Rattle.world_model.specs.Links.{Link}
+use Rattle.world_model.specs.meaning.Crashing.{is_crashed_item}
+use Rattle.world_model.specs.meaning.Frames.{Reply, Handled}
+use Rattle.world_model.specs.meaning.Links.{Link}
 use Rattle.world_model.specs.records.Number.{is_stopped_call, last_told}
 use Rattle.world_model.specs.Parts.{implies, is_answered, is_rep, served_reps, held_number}
 use Rattle.world_model.specs.Sames.{same_sent, same_reply, is_front}

@@ -11,22 +11,23 @@ use Rattle.svc_values.specs.declared.entry.Piece.{Piece}
 use Rattle.svc_values.specs.declared.entry.SessionId.{SessionId}
 use Rattle.svc_values.specs.declared.frame.Down.TheVariants as down
 use Rattle.svc_values.specs.declared.frame.Up.{Up}
-use Rattle.svc_values.specs.Calls.{has_commit}
-use Rattle.svc_values.specs.Identifiers.{same_ltxid, same_session, ltxid_of}
+use Rattle.svc_values.specs.meaning.Calls.{has_commit}
+use Rattle.svc_values.specs.meaning.Identifiers.{same_ltxid, same_session, ltxid_of}
 use Rattle.outage_schedule.specs.declared.item.Item.{Item as ItemTold}
 use Rattle.outage_schedule.specs.declared.item.Item.TheVariants as item
-use Rattle.server_model.specs.Base.{Base}
-use Rattle.server_model.specs.Fresh.{new_in}
-use Rattle.server_model.specs.Items.{Thing, CallStopped, Item, Did, thing_of, asked_of, items_from}
-use Rattle.server_model.specs.Legal.{deed_holds, is_of_now, item_holds, items_hold}
-use Rattle.server_model.specs.Outcomes.{Telling, Silent, Says, Stopped}
+use Rattle.server_model.specs.meaning.Base.{Base}
+use Rattle.server_model.specs.meaning.Fresh.{new_in}
+use Rattle.server_model.specs.meaning.Items.{Thing, CallStopped, Item, Did, thing_of, asked_of}
+use Rattle.server_model.specs.Items.{items_from}
+use Rattle.server_model.specs.meaning.Legal.{deed_holds, is_of_now, item_holds, items_hold}
+use Rattle.server_model.specs.meaning.Outcomes.{Telling, Silent, Says, Stopped}
 use Rattle.server_model.specs.Runs.{Happened, Served, Asked}
-use Rattle.server_model.specs.Walk.{Walk, next_of, number_of, Performed, stands, if_stands, performed_by, deed, deed_of, after_deed, after_thing, entered, after}
+use Rattle.server_model.specs.meaning.Walk.{Walk, next_of, number_of, Performed, stands, if_stands, performed_by, deed, deed_of, after_deed, after_thing, entered, after}
 use Rattle.world_model.specs.records.Basic.{is_stopped, none_behind}
-use Rattle.world_model.specs.Frames.{Handled}
+use Rattle.world_model.specs.meaning.Frames.{Handled}
 use Rattle.world_model.specs.records.Number.{is_stopped_call, numbered_after}
 use Rattle.invariant_laws.specs.Same.{Ran as RanBy, ran_item}
-use Rattle.world_model.specs.Serving.{is_last}
+use Rattle.world_model.specs.meaning.Serving.{is_last}
 use Rattle.invariant_laws.specs.SessionHistory.{served_in, told_with, told_of}
 use Rattle.invariant_laws.specs.Shown.{is_call}
 use Rattle.world_model.specs.records.Wire.{is_handled, counted_with, handled_from}
@@ -41,7 +42,7 @@ use Rattle.fresh_laws.proofs.SessionEntries.{its, open_in, same_its, same_open, 
 use Rattle.once_laws.specs.StoredOnce.{is_stored_next}
 use Rattle.fresh_laws.proofs.StoredCalls.{count_if, stored_times, IsSpent, Behind, going_spent, stop_spent, behind_spent}
 use Rattle.world_model.specs.Parts.{has_entry}
-use Rattle.server_model.specs.Fresh.{draws_of}
+use Rattle.server_model.specs.meaning.Fresh.{draws_of}
 
 -- A HISTORY ---------------------------------------------------------------------------------------
 

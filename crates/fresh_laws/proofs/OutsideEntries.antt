@@ -10,15 +10,16 @@ use Rattle.svc_values.specs.declared.entry.SessionId.{SessionId}
 use Rattle.svc_values.specs.declared.frame.Down.TheVariants as down
 use Rattle.svc_values.specs.declared.frame.Up.{Up}
 use Rattle.svc_values.specs.declared.frame.Up.TheVariants as up
-use Rattle.svc_values.specs.Endings.{ends_committed}
-use Rattle.svc_values.specs.Identifiers.{same_session}
-use Rattle.server_model.specs.Base.{Base}
-use Rattle.server_model.specs.Fresh.{draws_in, draws_of, new_in}
-use Rattle.server_model.specs.Items.{Thing, Connected, Began, Called, MetBlock, TellsOutcome, EndedRequest, Closed, Refused, CallStopped, OutcomeStopped, Item, Did, thing_of, asked_of, items_from}
-use Rattle.server_model.specs.Legal.{deed_holds, is_of_now, item_holds, items_hold}
-use Rattle.server_model.specs.Outcomes.{Telling, Silent, Says, Stopped}
+use Rattle.svc_values.specs.meaning.Endings.{ends_committed}
+use Rattle.svc_values.specs.meaning.Identifiers.{same_session}
+use Rattle.server_model.specs.meaning.Base.{Base}
+use Rattle.server_model.specs.meaning.Fresh.{draws_in, draws_of, new_in}
+use Rattle.server_model.specs.meaning.Items.{Thing, Connected, Began, Called, MetBlock, TellsOutcome, EndedRequest, Closed, Refused, CallStopped, OutcomeStopped, Item, Did, thing_of, asked_of}
+use Rattle.server_model.specs.Items.{items_from}
+use Rattle.server_model.specs.meaning.Legal.{deed_holds, is_of_now, item_holds, items_hold}
+use Rattle.server_model.specs.meaning.Outcomes.{Telling, Silent, Says, Stopped}
 use Rattle.server_model.specs.Runs.{Happened, Served, Asked}
-use Rattle.server_model.specs.Walk.{Transaction, begun, Walk, transaction_in, Performed, deed, deed_of, ends, entered, after}
+use Rattle.server_model.specs.meaning.Walk.{Transaction, begun, Walk, transaction_in, Performed, deed, deed_of, ends, entered, after}
 use Rattle.invariant_laws.specs.SessionHistory.{served_in}
 use Rattle.once_laws.proofs.Offered.{times, times_both, all_new}
 use Rattle.invariant_laws.proofs.Offered.{is_its, asked_same, both_hold, none_left, transaction_own, IsSameWalk, Moved, enters, thing_moved}

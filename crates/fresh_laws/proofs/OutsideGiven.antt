@@ -9,7 +9,7 @@ use Rattle.svc_values.specs.declared.draw.Draw.{Draw}
 use Rattle.svc_values.specs.declared.entry.SessionId.{SessionId}
 use Rattle.svc_values.specs.declared.frame.Down.TheVariants as down
 use Rattle.svc_values.specs.declared.frame.Up.TheVariants as up
-use Rattle.svc_values.specs.Identifiers.{same_session}
+use Rattle.svc_values.specs.meaning.Identifiers.{same_session}
 use Rattle.outage_schedule.specs.declared.document.Document.{Document}
 use Rattle.outage_schedule.specs.declared.event.Event.{Event}
 use Rattle.outage_schedule.specs.declared.event.Event.TheVariants as event
@@ -17,23 +17,24 @@ use Rattle.outage_schedule.specs.declared.item.Served.{Served as ServedItem}
 use Rattle.outage_schedule.specs.declared.note.Note.{Note}
 use Rattle.outage_schedule.specs.declared.note.Note.TheVariants as note
 use Rattle.outage_schedule.specs.declared.note.NoteRun.{NoteRun}
-use Rattle.server_model.specs.Base.{Base}
-use Rattle.server_model.specs.Fresh.{new_in}
-use Rattle.server_model.specs.Items.{Item, item_of, items_from}
-use Rattle.server_model.specs.Legal.{deed_holds, is_of_now, item_holds, items_hold}
-use Rattle.server_model.specs.Outcomes.{Says}
+use Rattle.server_model.specs.meaning.Base.{Base}
+use Rattle.server_model.specs.meaning.Fresh.{new_in}
+use Rattle.server_model.specs.meaning.Items.{Item}
+use Rattle.server_model.specs.Items.{item_of, items_from}
+use Rattle.server_model.specs.meaning.Legal.{deed_holds, is_of_now, item_holds, items_hold}
+use Rattle.server_model.specs.meaning.Outcomes.{Says}
 use Rattle.server_model.specs.Runs.{Happened, Served}
 use Rattle.server_model.specs.Seen.{Seen}
 use Rattle.server_model.specs.ServiceCalls.{RunsAre}
-use Rattle.server_model.specs.Walk.{Walk, Performed, Deed, deed, deed_of, entered, after}
+use Rattle.server_model.specs.meaning.Walk.{Walk, Performed, Deed, deed, deed_of, entered, after}
 use Rattle.service_calls.specs.Answers.{run_of}
-use Rattle.world_model.specs.Machines.{Machine, next_session}
+use Rattle.world_model.specs.meaning.Machines.{Machine, next_session}
 use Rattle.world_model.specs.OneEvent.{session_outside, drawn_outside}
 use Rattle.world_model.specs.Reached.{Reached, Begins, GoesOn}
 use Rattle.world_model.specs.ServiceDid.{ServiceDid}
-use Rattle.world_model.specs.Settings.{Setting}
+use Rattle.world_model.specs.meaning.Settings.{Setting}
 use Rattle.world_model.specs.Traced.{Traced}
-use Rattle.world_model.specs.Walking.{follow}
+use Rattle.world_model.specs.meaning.Walking.{follow}
 use Rattle.fresh_laws.proofs.DrawnFor.{is_by, new_by, drawn_for, among}
 use Rattle.once_laws.proofs.Offered.{times, times_both, all_new}
 use Rattle.fresh_laws.proofs.FrameDraws.{performed_drew}

@@ -5,7 +5,7 @@ use Rattle.std.proofs.lemmas.Bool.{and_parts, and_from, or_cases, not-true}
 use Rattle.std.proofs.lemmas.List.Folds.{list_all-append, list_any-append}
 use Rattle.svc_values.specs.declared.call.Call.{Call}
 use Rattle.svc_values.specs.declared.entry.SessionId.{SessionId}
-use Rattle.svc_values.specs.Identifiers.{same_session}
+use Rattle.svc_values.specs.meaning.Identifiers.{same_session}
 use Rattle.outage_schedule.specs.declared.document.Document.{Document}
 use Rattle.outage_schedule.specs.declared.event.Event.{Event}
 use Rattle.outage_schedule.specs.declared.event.Event.TheVariants as event
@@ -19,17 +19,18 @@ use Rattle.server_model.specs.ServiceCalls.{RunsAre}
 use Rattle.service_calls.specs.Answers.{run_of}
 use Rattle.world_model.specs.records.Basic.{is_made, sessions_of}
 use Rattle.world_model.specs.Orderly.{Orderly}
-use Rattle.world_model.specs.Machines.{Machine, next_session}
+use Rattle.world_model.specs.meaning.Machines.{Machine, next_session}
 use Rattle.world_model.specs.OneEvent.{OneEvent, session_outside}
 use Rattle.world_model.specs.Reached.{Reached, Begins, GoesOn}
 use Rattle.world_model.specs.records.Ready.{all_requests_right}
 use Rattle.world_model.specs.RunLaws.{RunsAreOrderly}
 use Rattle.world_model.specs.Sames.{each_pair}
-use Rattle.world_model.specs.ServiceDid.{ServiceDid, front_telling}
+use Rattle.world_model.specs.meaning.ServiceDid.{front_telling}
+use Rattle.world_model.specs.ServiceDid.{ServiceDid}
 use Rattle.invariant_laws.specs.SessionHistory.{served_in}
-use Rattle.world_model.specs.Settings.{Setting}
+use Rattle.world_model.specs.meaning.Settings.{Setting}
 use Rattle.world_model.specs.Traced.{Traced}
-use Rattle.world_model.specs.Walking.{follow}
+use Rattle.world_model.specs.meaning.Walking.{follow}
 use Rattle.fresh_laws.proofs.DrawnFor.{among}
 use Rattle.world_model.proofs.Offered.{session_in, made_before, same_session_is, not_both}
 use Rattle.fresh_laws.proofs.OutsideEntries.{plain_told, is_plain}

@@ -7,20 +7,20 @@ use Rattle.std.proofs.lemmas.List.Folds.{list_any-append}
 use Rattle.svc_values.specs.declared.draw.Draw.{Draw}
 use Rattle.svc_values.specs.declared.entry.Entry.{Entry}
 use Rattle.svc_values.specs.declared.entry.SessionId.{SessionId}
-use Rattle.svc_values.specs.Identifiers.{same_session, session_of}
-use Rattle.svc_values.specs.Same.{same_draw}
+use Rattle.svc_values.specs.meaning.Identifiers.{same_session, session_of}
+use Rattle.svc_values.specs.meaning.Same.{same_draw}
 use Rattle.svc_values.specs.SameLaws.{same_draw_decides}
 use Rattle.outage_schedule.specs.declared.document.Document.{Document}
 use Rattle.outage_schedule.specs.declared.event.Event.{Event}
 use Rattle.outage_schedule.specs.declared.item.Served.{Served}
 use Rattle.outage_schedule.specs.declared.note.Note.{Note}
 use Rattle.run_clauses.specs.Fresh.{is_given_again}
-use Rattle.server_model.specs.Fresh.{is_single, draws_of}
+use Rattle.server_model.specs.meaning.Fresh.{is_single, draws_of}
 use Rattle.server_model.specs.Items.{items_of}
 use Rattle.server_model.specs.Laws.{RunsLegal, RunsFreshNew}
-use Rattle.server_model.specs.Legal.{items_hold}
+use Rattle.server_model.specs.meaning.Legal.{items_hold}
 use Rattle.server_model.specs.Seen.{Seen}
-use Rattle.server_model.specs.Walk.{walk_of}
+use Rattle.server_model.specs.meaning.Walk.{walk_of}
 use Rattle.world_model.specs.records.Basic.{sessions_of}
 use Rattle.world_model.specs.Orderly.{Orderly}
 use Rattle.world_model.specs.records.Number.{is_of_run, is_known}

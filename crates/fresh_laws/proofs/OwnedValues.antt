@@ -7,24 +7,25 @@ use Rattle.std.proofs.lemmas.Bool.{and_parts, not-true}
 use Rattle.svc_values.specs.declared.draw.Draw.{Draw}
 use Rattle.svc_values.specs.declared.entry.Entry.{Entry}
 use Rattle.svc_values.specs.declared.entry.SessionId.{SessionId}
-use Rattle.svc_values.specs.Identifiers.{same_session, ltxid_of}
-use Rattle.svc_values.specs.Same.{same_bool}
+use Rattle.svc_values.specs.meaning.Identifiers.{same_session, ltxid_of}
+use Rattle.svc_values.specs.meaning.Same.{same_bool}
 use Rattle.outage_schedule.specs.declared.document.Document.{Document}
 use Rattle.outage_schedule.specs.declared.event.Event.{Event}
 use Rattle.outage_schedule.specs.declared.item.Served.{Served}
 use Rattle.outage_schedule.specs.declared.note.Note.{Note}
-use Rattle.server_model.specs.Base.{Base}
-use Rattle.server_model.specs.Fresh.{drawn_anew}
-use Rattle.server_model.specs.Items.{Item as Plain, items_of}
+use Rattle.server_model.specs.meaning.Base.{Base}
+use Rattle.server_model.specs.meaning.Fresh.{drawn_anew}
+use Rattle.server_model.specs.meaning.Items.{Item as Plain}
+use Rattle.server_model.specs.Items.{items_of}
 use Rattle.server_model.specs.Laws.{RunsLegal, RunsFreshNew}
-use Rattle.server_model.specs.Legal.{items_hold, lines_of, lines_stand}
+use Rattle.server_model.specs.meaning.Legal.{items_hold, lines_of, lines_stand}
 use Rattle.server_model.specs.Seen.{Seen}
-use Rattle.server_model.specs.Walk.{Walk, walk_of}
+use Rattle.server_model.specs.meaning.Walk.{Walk, walk_of}
 use Rattle.world_model.specs.records.Basic.{is_named, first_is_connect, none_behind, lives_rightly, sessions_of}
 use Rattle.world_model.specs.Coupled.{Coupled}
-use Rattle.world_model.specs.Frames.{Handled}
+use Rattle.world_model.specs.meaning.Frames.{Handled}
 use Rattle.world_model.specs.Orderly.{Orderly}
-use Rattle.world_model.specs.Links.{Link, link_at}
+use Rattle.world_model.specs.meaning.Links.{Link, link_at}
 use Rattle.world_model.specs.records.Number.{numbered_after}
 use Rattle.invariant_laws.specs.Once.{Given, stopped_draws, given_by, given_on, given, owned}
 use Rattle.world_model.specs.Parts.{has_entry, implies}

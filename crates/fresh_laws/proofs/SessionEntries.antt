@@ -9,14 +9,15 @@ use Rattle.svc_values.specs.declared.entry.Entry.{Entry}
 use Rattle.svc_values.specs.declared.entry.Ltxid.{Ltxid}
 use Rattle.svc_values.specs.declared.entry.Piece.{Piece}
 use Rattle.svc_values.specs.declared.entry.SessionId.{SessionId}
-use Rattle.svc_values.specs.Endings.{ends_committed, last_answer}
-use Rattle.svc_values.specs.Identifiers.{is_of, same_session}
-use Rattle.server_model.specs.Base.{Base}
-use Rattle.server_model.specs.Fresh.{draws_in, draws_of}
-use Rattle.server_model.specs.Items.{Thing, Began, Called, CallStopped, Item, Did, thing_of, asked_of, items_from}
-use Rattle.server_model.specs.Legal.{items_hold}
+use Rattle.svc_values.specs.meaning.Endings.{ends_committed, last_answer}
+use Rattle.svc_values.specs.meaning.Identifiers.{is_of, same_session}
+use Rattle.server_model.specs.meaning.Base.{Base}
+use Rattle.server_model.specs.meaning.Fresh.{draws_in, draws_of}
+use Rattle.server_model.specs.meaning.Items.{Thing, Began, Called, CallStopped, Item, Did, thing_of, asked_of}
+use Rattle.server_model.specs.Items.{items_from}
+use Rattle.server_model.specs.meaning.Legal.{items_hold}
 use Rattle.server_model.specs.Runs.{Happened, Served, Asked}
-use Rattle.server_model.specs.Walk.{Transaction, Walk, transaction_in, deed_of, ends, if_ended, entered, after}
+use Rattle.server_model.specs.meaning.Walk.{Transaction, Walk, transaction_in, deed_of, ends, if_ended, entered, after}
 use Rattle.invariant_laws.specs.SessionHistory.{served_in}
 use Rattle.once_laws.proofs.Offered.{times, times_both}
 use Rattle.invariant_laws.proofs.Offered.{asked_same, both_hold, none_left, moved_others, transaction_own, IsSameWalk, Stores, Takes, Keeps, Calls, IsStored, IsNothing, Moved, enters, thing_moved, ran_walks_committed_ends as committed_ends, is_its}

@@ -11,9 +11,9 @@ use Rattle.svc_values.specs.declared.entry.Entry.{Entry}
 use Rattle.svc_values.specs.declared.entry.Ltxid.{Ltxid}
 use Rattle.svc_values.specs.declared.entry.Piece.{Piece}
 use Rattle.svc_values.specs.declared.entry.SessionId.{SessionId}
-use Rattle.svc_values.specs.Identifiers.{same_ltxid, session_of, is_of_session, ltxid_of}
+use Rattle.svc_values.specs.meaning.Identifiers.{same_ltxid, session_of, is_of_session, ltxid_of}
 use Rattle.svc_values.specs.SameLaws.{same_ltxid_decides}
-use Rattle.run_clauses.specs.EntryEvents.{entries_of}
+use Rattle.run_clauses.specs.meaning.EntryEvents.{entries_of}
 use Rattle.world_model.specs.records.Number.{numbered_after}
 use Rattle.invariant_laws.specs.Once.{last_draws}
 use Rattle.world_model.specs.Parts.{implies}

@@ -12,15 +12,15 @@ use Rattle.svc_values.specs.declared.entry.Ltxid.{Ltxid}
 use Rattle.svc_values.specs.declared.entry.Piece.{Piece}
 use Rattle.svc_values.specs.declared.entry.SessionId.{SessionId}
 use Rattle.svc_values.specs.declared.frame.Up.{Up}
-use Rattle.svc_values.specs.Endings.{ends_committed}
-use Rattle.svc_values.specs.Identifiers.{same_ltxid}
+use Rattle.svc_values.specs.meaning.Endings.{ends_committed}
+use Rattle.svc_values.specs.meaning.Identifiers.{same_ltxid}
 use Rattle.svc_values.specs.SameLaws.{same_ltxid_decides}
 use Rattle.outage_schedule.specs.declared.item.Item.{Item as ItemTold}
 use Rattle.outage_schedule.specs.declared.item.Item.TheVariants as item
-use Rattle.server_model.specs.Fresh.{draws_in, draws_of}
-use Rattle.server_model.specs.Items.{Thing}
-use Rattle.server_model.specs.Walk.{Transaction, begun, Walk, transaction_in, next_of, ends}
-use Rattle.world_model.specs.Frames.{Handled}
+use Rattle.server_model.specs.meaning.Fresh.{draws_in, draws_of}
+use Rattle.server_model.specs.meaning.Items.{Thing}
+use Rattle.server_model.specs.meaning.Walk.{Transaction, begun, Walk, transaction_in, next_of, ends}
+use Rattle.world_model.specs.meaning.Frames.{Handled}
 use Rattle.world_model.specs.records.Number.{is_stopped_call, numbered_after}
 use Rattle.world_model.specs.Parts.{has_entry}
 use Rattle.once_laws.specs.StoredOnce.{goes, is_stored_next, is_call, stored_of, given_in, given_to}

@@ -4,7 +4,7 @@ use Rattle.outage_schedule.specs.declared.document.Document.{Document}
 use Rattle.outage_schedule.specs.declared.event.Event.{Event}
 use Rattle.outage_schedule.specs.declared.item.Served.{Served}
 use Rattle.outage_schedule.specs.declared.note.Note.{Note}
-use Rattle.server_model.specs.Fresh.{fresh}
+use Rattle.server_model.specs.meaning.Fresh.{fresh}
 use Rattle.server_model.specs.Seen.{Seen}
 use Rattle.invariant_laws.specs.Once.{owned, none_foreign}
 use Rattle.world_model.specs.Parts.{implies}

@@ -3,8 +3,8 @@ use Rattle.std.specs.Prelude.{◌&&◌, Bool, true, not, List, [], ◌∷◌, �
 use Rattle.std.specs.List.{list_all}
 use Rattle.svc_values.specs.declared.frame.Up.{Up}
 use Rattle.svc_values.specs.declared.frame.Up.TheVariants as up
-use Rattle.world_model.specs.Frames.{Owner, Sent}
-use Rattle.world_model.specs.Links.{Link}
+use Rattle.world_model.specs.meaning.Frames.{Owner, Sent}
+use Rattle.world_model.specs.meaning.Links.{Link}
 use Rattle.world_model.specs.Sames.{same_owners}
 use Rattle.invariant_laws.specs.Shown.{is_call}
 use Rattle.world_model.specs.Traced.{Traced}

@@ -10,7 +10,7 @@ use Rattle.world_model.specs.records.Ready.{all_requests_right}
 use Rattle.world_model.specs.Orderly.{Orderly}
 use Rattle.invariant_laws.specs.Invariant.{Invariant}
 use Rattle.world_model.specs.OneEvent.{OneEvent}
-use Rattle.world_model.specs.Finishing.{Place}
+use Rattle.world_model.specs.meaning.Finishing.{Place}
 use Rattle.world_model.specs.Reached.{traced_start, Reached, IsFinishing, IsRun}
 
 -- a test of the state, kept where it held before and what is orderly did

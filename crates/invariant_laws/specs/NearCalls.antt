@@ -3,8 +3,8 @@ use Rattle.std.specs.Prelude.{◌||◌, Bool, false, nat_le, List, length}
 use Rattle.std.specs.List.{list_all}
 use Rattle.std.specs.Option.{option_map_or}
 use Rattle.outage_schedule.specs.declared.request.ShownCall.{ShownCall}
-use Rattle.world_model.specs.Frames.{Sent}
-use Rattle.world_model.specs.Links.{link_at}
+use Rattle.world_model.specs.meaning.Frames.{Sent}
+use Rattle.world_model.specs.meaning.Links.{link_at}
 use Rattle.invariant_laws.specs.Shown.{calls_on, is_marked}
 use Rattle.world_model.specs.Traced.{Traced, Course, courses_of}
 use Rattle.world_model.specs.Words.{held_in}

@@ -9,9 +9,9 @@ use Rattle.svc_values.specs.declared.draw.Draw.{Draw}
 use Rattle.svc_values.specs.declared.entry.Ltxid.{Ltxid}
 use Rattle.svc_values.specs.declared.entry.Entry.{Entry}
 use Rattle.svc_values.specs.declared.entry.Piece.{Piece}
-use Rattle.svc_values.specs.Calls.{is_lone_commit}
-use Rattle.svc_values.specs.Endings.{ends_committed, ends_transaction}
-use Rattle.svc_values.specs.Identifiers.{same_ltxid, is_of_session}
+use Rattle.svc_values.specs.meaning.Calls.{is_lone_commit}
+use Rattle.svc_values.specs.meaning.Endings.{ends_committed, ends_transaction}
+use Rattle.svc_values.specs.meaning.Identifiers.{same_ltxid, is_of_session}
 use Rattle.outage_schedule.specs.declared.failure.Failure.{Failure}
 use Rattle.outage_schedule.specs.declared.failure.Failure.TheVariants as failure
 use Rattle.outage_schedule.specs.declared.item.Item.{Item}
@@ -19,18 +19,19 @@ use Rattle.outage_schedule.specs.declared.item.Item.TheVariants as item
 use Rattle.outage_schedule.specs.declared.request.Outcome.{Outcome}
 use Rattle.outage_schedule.specs.declared.request.ShownCall.{ShownCall}
 use Rattle.outage_schedule.specs.declared.request.RequestReport.{RequestReport}
-use Rattle.svc_values.specs.Same.{same_answers, same_bool, same_call}
-use Rattle.client_model.specs.Tried.{Sending as Noted, Trying, trying_of}
-use Rattle.run_clauses.specs.Tried.{Sending as Tried, is_tried, ids_tried, ids_differ, holds}
-use Rattle.run_clauses.specs.Once.{request_ends, copies_have_one, entries_in}
-use Rattle.run_clauses.specs.Copies.{copies_of}
+use Rattle.svc_values.specs.meaning.Same.{same_answers, same_bool, same_call}
+use Rattle.client_model.specs.meaning.Tried.{Sending as Noted, Trying, trying_of}
+use Rattle.run_clauses.specs.meaning.Tried.{ids_tried, ids_differ, holds}
+use Rattle.run_clauses.specs.Tried.{Sending as Tried, is_tried}
+use Rattle.run_clauses.specs.meaning.Once.{request_ends, copies_have_one, entries_in}
+use Rattle.run_clauses.specs.meaning.Copies.{copies_of}
 use Rattle.run_clauses.specs.Fresh.{is_given_again}
-use Rattle.server_model.specs.Fresh.{draws_of}
+use Rattle.server_model.specs.meaning.Fresh.{draws_of}
 use Rattle.svc_values.specs.declared.frame.Down.{Down}
 use Rattle.svc_values.specs.declared.frame.Down.TheVariants as down
-use Rattle.world_model.specs.Frames.{Owner, Sent, Handled}
-use Rattle.world_model.specs.Links.{Link, link_at}
-use Rattle.world_model.specs.Clients.{Client, script_at}
+use Rattle.world_model.specs.meaning.Frames.{Owner, Sent, Handled}
+use Rattle.world_model.specs.meaning.Links.{Link, link_at}
+use Rattle.world_model.specs.meaning.Clients.{Client, script_at}
 use Rattle.world_model.specs.Traced.{Traced, Course, courses_of}
 use Rattle.invariant_laws.specs.Lost.{lost_links}
 use Rattle.world_model.specs.Words.{dones_of, held_in}

@@ -11,11 +11,11 @@ use Rattle.outage_schedule.specs.declared.request.ShownCall.{ShownCall}
 use Rattle.server_model.specs.Seen.{Seen}
 use Rattle.client_model.specs.declared.input.Input.{Input}
 use Rattle.client_model.specs.declared.input.Input.TheVariants.{Opened}
-use Rattle.client_model.specs.Terms.{Terms}
-use Rattle.run_clauses.specs.Reports.{report_of}
-use Rattle.world_model.specs.Clients.{Step}
-use Rattle.world_model.specs.Frames.{Sent}
-use Rattle.world_model.specs.Links.{Link, link_at}
+use Rattle.client_model.specs.meaning.Terms.{Terms}
+use Rattle.run_clauses.specs.meaning.Reports.{report_of}
+use Rattle.world_model.specs.meaning.Clients.{Step}
+use Rattle.world_model.specs.meaning.Frames.{Sent}
+use Rattle.world_model.specs.meaning.Links.{Link, link_at}
 use Rattle.world_model.specs.Parts.{implies}
 use Rattle.world_model.specs.Reached.{Reached}
 use Rattle.world_model.specs.records.Ready.{all_requests_right}

@@ -10,20 +10,20 @@ use Rattle.svc_values.specs.declared.value.Value.{Value}
 use Rattle.svc_values.specs.declared.entry.Entry.{Entry}
 use Rattle.svc_values.specs.declared.entry.Piece.{Piece}
 use Rattle.svc_values.specs.declared.call.Call.TheVariants as call
-use Rattle.svc_values.specs.SettingsList.{same_settings, put_setting, with_sets}
-use Rattle.svc_values.specs.Endings.{ends_with, ends_committed, ends_transaction}
-use Rattle.svc_values.specs.Identifiers.{same_ltxid}
-use Rattle.svc_values.specs.Same.{same_answers, same_call, same_calls, same_draws, same_piece}
+use Rattle.svc_values.specs.meaning.SettingsList.{same_settings, put_setting, with_sets}
+use Rattle.svc_values.specs.meaning.Endings.{ends_with, ends_committed, ends_transaction}
+use Rattle.svc_values.specs.meaning.Identifiers.{same_ltxid}
+use Rattle.svc_values.specs.meaning.Same.{same_answers, same_call, same_calls, same_draws, same_piece}
 use Rattle.outage_schedule.specs.declared.document.Document.{Document}
 use Rattle.outage_schedule.specs.declared.item.Item.{Item}
 use Rattle.outage_schedule.specs.declared.item.Item.TheVariants as item
 use Rattle.outage_schedule.specs.declared.request.ShownCall.{ShownCall}
-use Rattle.server_model.specs.NewValues.{grants}
-use Rattle.run_clauses.specs.ServiceBase.{service_base}
-use Rattle.run_clauses.specs.Same.{is_same_request}
-use Rattle.client_model.specs.Terms.{Phase, Running, Replaying}
-use Rattle.world_model.specs.Frames.{Sent}
-use Rattle.world_model.specs.Links.{Link, link_at}
+use Rattle.server_model.specs.meaning.NewValues.{grants}
+use Rattle.run_clauses.specs.meaning.ServiceBase.{service_base}
+use Rattle.run_clauses.specs.meaning.Same.{is_same_request}
+use Rattle.client_model.specs.meaning.Terms.{Phase, Running, Replaying}
+use Rattle.world_model.specs.meaning.Frames.{Sent}
+use Rattle.world_model.specs.meaning.Links.{Link, link_at}
 use Rattle.world_model.specs.Traced.{Traced, Course, courses_of}
 use Rattle.world_model.specs.Sames.{owned_by}
 use Rattle.invariant_laws.specs.Lost.{lost_links, is_pending, submitted_on}

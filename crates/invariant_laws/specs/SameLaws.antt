@@ -1,22 +1,22 @@
 -- What a run's connections served is what the service's history has of their sessions, and what they ran is what the entries have.
 use Rattle.std.specs.Prelude.{◌≡◌, ℕ, ◌+◌, Bool, IsTrue, List, take, drop, Some}
 use Rattle.svc_values.specs.declared.entry.SessionId.{SessionId}
-use Rattle.svc_values.specs.SettingsList.{with_sets}
+use Rattle.svc_values.specs.meaning.SettingsList.{with_sets}
 use Rattle.outage_schedule.specs.declared.document.Document.{Document}
 use Rattle.outage_schedule.specs.declared.document.Request.{Request}
 use Rattle.outage_schedule.specs.declared.event.Event.{Event}
 use Rattle.outage_schedule.specs.declared.item.Served.{Served}
 use Rattle.outage_schedule.specs.declared.note.Note.{Note}
 use Rattle.outage_schedule.specs.declared.report.Report.{Report}
-use Rattle.run_clauses.specs.NoClash.{no_clash}
-use Rattle.run_clauses.specs.Same.{same}
+use Rattle.run_clauses.specs.meaning.NoClash.{no_clash}
+use Rattle.run_clauses.specs.meaning.Same.{same}
 use Rattle.server_model.specs.Runs.{Server}
 use Rattle.server_model.specs.Seen.{Seen}
 use Rattle.invariant_laws.specs.Begins.{settings_before}
 use Rattle.svc_values.specs.declared.draw.Draw.{Draw}
 use Rattle.invariant_laws.specs.EntryParts.{drew_so, ends_answered, goes_on, inside_answered, of_entries, starts_one}
 use Rattle.invariant_laws.specs.Invariant.{Invariant}
-use Rattle.world_model.specs.Links.{Link, link_at}
+use Rattle.world_model.specs.meaning.Links.{Link, link_at}
 use Rattle.world_model.specs.Reached.{IsRun, Reached}
 use Rattle.world_model.specs.records.Ready.{all_requests_right}
 use Rattle.invariant_laws.specs.Same.{committed_entries_known, entries_follow_scripts, entries_ran, entries_started, granted_by, over_same}

@@ -3,8 +3,8 @@ use Rattle.std.specs.Prelude.{Bool, List, fold, Option, None}
 use Rattle.std.specs.List.{list_all}
 use Rattle.std.specs.Option.{option_or}
 use Rattle.invariant_laws.specs.Begins.{is_begin_frame}
-use Rattle.world_model.specs.Frames.{Owner, Sent}
-use Rattle.world_model.specs.Links.{Link}
+use Rattle.world_model.specs.meaning.Frames.{Owner, Sent}
+use Rattle.world_model.specs.meaning.Links.{Link}
 use Rattle.world_model.specs.Parts.{implies}
 use Rattle.world_model.specs.Sames.{same_owners}
 use Rattle.world_model.specs.Traced.{Traced}

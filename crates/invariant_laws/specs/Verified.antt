@@ -5,13 +5,13 @@ use Rattle.std.specs.List.{list_all, list_any, last_or}
 use Rattle.std.specs.Option.{option_map_or}
 use Rattle.std.specs.Str.{bytes_eq}
 use Rattle.svc_values.specs.declared.answer.Answer.{Answer}
-use Rattle.svc_values.specs.Endings.{ends_committed, ends_transaction}
-use Rattle.svc_values.specs.Same.{same_answers, same_draws}
+use Rattle.svc_values.specs.meaning.Endings.{ends_committed, ends_transaction}
+use Rattle.svc_values.specs.meaning.Same.{same_answers, same_draws}
 use Rattle.outage_schedule.specs.declared.item.Item.{Item}
 use Rattle.outage_schedule.specs.declared.item.Item.TheVariants as item
 use Rattle.outage_schedule.specs.declared.request.ShownCall.{ShownCall}
-use Rattle.world_model.specs.Frames.{Handled}
-use Rattle.world_model.specs.Links.{Link, link_at}
+use Rattle.world_model.specs.meaning.Frames.{Handled}
+use Rattle.world_model.specs.meaning.Links.{Link, link_at}
 use Rattle.world_model.specs.Parts.{Sending, commit_sendings, implies}
 use Rattle.invariant_laws.specs.Same.{ServedCall, ran_by}
 use Rattle.world_model.specs.Sames.{owned_by}

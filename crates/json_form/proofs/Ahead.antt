@@ -11,8 +11,8 @@ use Rattle.serde_json.specs.Events.{items_len}
 use Rattle.serde_json.specs.Read.{of_json, of_items, of_members, converted, read as read_text, max_depth}
 use Rattle.serde_json.specs.View.{view, items_view}
 use Rattle.serde_json.specs.declared.value.Value.{Value}
-use Rattle.json_form.specs.Faults.{Fault, ◌>>=◌, within_item}
-use Rattle.json_form.specs.Arrays.{each_after, array_of}
+use Rattle.json_form.specs.meaning.Faults.{Fault, ◌>>=◌, within_item}
+use Rattle.json_form.specs.meaning.Arrays.{each_after, array_of}
 use Rattle.json_form.specs.Streams.{value_ahead}
 use Rattle.json_form.proofs.Readings.{each_long}
 

@@ -7,9 +7,9 @@ use Rattle.serde_json.specs.View.{items_view}
 use Rattle.serde_json.specs.declared.value.Value.{Value}
 use Rattle.serde_json.proofs.Views.{items_len-items_view}
 use Rattle.json_form.specs.declared.fault.DocCode.TheVariants.{WrongKind, Limit}
-use Rattle.json_form.specs.Faults.{Fault, ◌>>=◌, here}
-use Rattle.json_form.specs.Values.{items_of}
-use Rattle.json_form.specs.Arrays.{in_count, counted_of, exactly, exact_of}
+use Rattle.json_form.specs.meaning.Faults.{Fault, ◌>>=◌, here}
+use Rattle.json_form.specs.meaning.Values.{items_of}
+use Rattle.json_form.specs.meaning.Arrays.{in_count, counted_of, exactly, exact_of}
 
 -- the count is that of the values
 counted_is : (low high : ℕ) (d : Data) (vs : List Value) → items_of d ≡ Ok (items_view vs)

@@ -4,8 +4,9 @@ use Rattle.std.specs.List.{list_all, list_any}
 use Rattle.std.proofs.lemmas.Bool.{not-true, not_from_false}
 use Rattle.std.proofs.lemmas.List.Folds.{list_any-append}
 use Rattle.serde_json.specs.Data.{Data, Items}
-use Rattle.json_form.specs.Faults.{Fault}
-use Rattle.json_form.specs.Arrays.{is_key, distinct, have_distinct_keys}
+use Rattle.json_form.specs.meaning.Faults.{Fault}
+use Rattle.json_form.specs.meaning.Arrays.{is_key, distinct}
+use Rattle.json_form.specs.Arrays.{have_distinct_keys}
 use Rattle.json_form.proofs.Readings.{each_keeps, first_true, second_true, both_true, all_push}
 
 first_false : (a b : Bool) → (a || b) ≡ false → a ≡ false

@@ -3,7 +3,8 @@ use Rattle.std.proofs.Common.{◌≡◌, ℕ, List, Result, Err, ap, sym, ◌∙
 use Rattle.json_form.specs.declared.fault.DocCode.{DocCode}
 use Rattle.json_form.specs.declared.fault.DocFault.{DocFault}
 use Rattle.json_form.specs.declared.fault.DocFault.TheVariants.{NoMemory, At}
-use Rattle.json_form.specs.Faults.{Fault, Fails, IsUnder, under}
+use Rattle.json_form.specs.meaning.Faults.{Fault, under}
+use Rattle.json_form.specs.Faults.{Fails, IsUnder}
 
 pub Fails-under : {A : Type 0} (step : List ℕ) (code : DocCode) (path : List ℕ) (e : DocFault) (read : Result A Fault) → IsUnder step (At code path) e → read ≡ Err (under step (record { code = code; path = path })) → Fails e read
 Fails-under step code path NoMemory read is gives = tt

@@ -6,7 +6,7 @@ use Rattle.std.proofs.lemmas.List.Folds.{list_any-append}
 use Rattle.std.specs.Ordering.{is_eq}
 use Rattle.std.specs.declared.cmp.Ordering.{Ordering}
 use Rattle.std.specs.BTreeMap.{is_at}
-use Rattle.json_form.specs.Arrays.{is_key}
+use Rattle.json_form.specs.meaning.Arrays.{is_key}
 
 or_by_cases : (a b : Bool) → cond a true b ≡ (b || a)
 or_by_cases true true = refl

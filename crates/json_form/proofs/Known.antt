@@ -4,9 +4,9 @@ use Rattle.std.specs.List.{list_any}
 use Rattle.serde_json.specs.View.{members_view}
 use Rattle.serde_json.proofs.Views.{Entry}
 use Rattle.json_form.specs.declared.fault.DocCode.TheVariants.{Unknown}
-use Rattle.json_form.specs.Faults.{here, under}
-use Rattle.json_form.specs.Pointers.{escaped}
-use Rattle.json_form.specs.Objects.{is_among, known}
+use Rattle.json_form.specs.meaning.Faults.{here, under}
+use Rattle.json_form.specs.meaning.Pointers.{escaped}
+use Rattle.json_form.specs.meaning.Objects.{is_among, known}
 
 pub list_any-map : {A B : Type 0} (p : B → Bool) (f : A → B) (xs : List A) → list_any p (map f xs) ≡ list_any (λ x. p (f x)) xs
 list_any-map p f [] = refl

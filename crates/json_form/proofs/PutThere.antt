@@ -11,9 +11,10 @@ use Rattle.serde_json.specs.View.{view, members_view}
 use Rattle.serde_json.specs.declared.value.Value.{Value}
 use Rattle.serde_json.proofs.Views.{Entry, members_view-insert_entry, get_member-put, get_member-put_other}
 use Rattle.json_form.specs.declared.fault.DocCode.TheVariants.{Unknown}
-use Rattle.json_form.specs.Faults.{here, under}
-use Rattle.json_form.specs.Pointers.{escaped}
-use Rattle.json_form.specs.Objects.{Named, named, is_among, known, without, putting}
+use Rattle.json_form.specs.meaning.Faults.{here, under}
+use Rattle.json_form.specs.meaning.Pointers.{escaped}
+use Rattle.json_form.specs.meaning.Objects.{Named, named, is_among, known}
+use Rattle.json_form.specs.Objects.{without, putting}
 use Rattle.json_form.proofs.Readings.{passed}
 
 put_by : (name q : List ℕ) (d : Data) (before after : Option Data) (b : Bool) → bytes_eq q name ≡ b → (q ≡ name → after ≡ Some d) → ((q ≡ name → ⊥) → after ≡ before) → after ≡ cond b (Some d) before

@@ -8,11 +8,11 @@ use Rattle.std.proofs.lemmas.List.Folds.{list_all-append}
 use Rattle.serde_json.specs.Data.{Data, Items, no_items, item}
 use Rattle.serde_json.specs.Events.{items_len}
 use Rattle.json_form.specs.declared.fault.DocCode.TheVariants.{Limit, Duplicate}
-use Rattle.json_form.specs.Faults.{Fault, ◌>>=◌, here, within_step, within_item}
-use Rattle.json_form.specs.Values.{items_of, expected}
-use Rattle.json_form.specs.Arrays.{Placed, each_after, each_of, in_count, counted_of, array_of, part, fresh}
-use Rattle.json_form.specs.Objects.{Named, read_or, optional}
-use Rattle.json_form.specs.Pointers.{escaped}
+use Rattle.json_form.specs.meaning.Faults.{Fault, ◌>>=◌, here, within_step, within_item}
+use Rattle.json_form.specs.meaning.Values.{items_of, expected}
+use Rattle.json_form.specs.meaning.Arrays.{Placed, each_after, each_of, in_count, counted_of, array_of, part, fresh}
+use Rattle.json_form.specs.meaning.Objects.{Named, read_or, optional}
+use Rattle.json_form.specs.meaning.Pointers.{escaped}
 
 -- both readings gave a value
 pub after : {A B : Type 0} (r : Result A Fault) (f : A → Result B Fault) (y : B) → (r >>= f) ≡ Ok y → (x : A) × (r ≡ Ok x) × (f x ≡ Ok y)

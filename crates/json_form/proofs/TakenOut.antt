@@ -14,9 +14,11 @@ use Rattle.serde_json.specs.Find.{get_member, get_item}
 use Rattle.serde_json.specs.View.{view, items_view, members_view}
 use Rattle.serde_json.specs.declared.value.Value.{Value, Null, the_lemmas}
 use Rattle.serde_json.proofs.Views.{Entry, view-lookup, member_later}
-use Rattle.json_form.specs.Faults.{Fault}
-use Rattle.json_form.specs.Objects.{Named, named, has, required, optional, member_in, without}
-use Rattle.json_form.specs.Arrays.{Placed, placed, part, taken_at}
+use Rattle.json_form.specs.meaning.Faults.{Fault}
+use Rattle.json_form.specs.meaning.Objects.{Named, named, has, required, optional}
+use Rattle.json_form.specs.Objects.{member_in, without}
+use Rattle.json_form.specs.meaning.Arrays.{Placed, placed, part}
+use Rattle.json_form.specs.Arrays.{taken_at}
 
 -- the entry of a name
 abbrev at_name : List ℕ → Entry → Bool

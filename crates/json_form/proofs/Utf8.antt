@@ -6,8 +6,8 @@ use Rattle.std.proofs.lemmas.Str.{IsUtf8-from_is_utf8, is_utf8-from_IsUtf8}
 use Rattle.serde_json.specs.Data.{Data}
 use Rattle.serde_json.specs.Read.{read}
 use Rattle.json_form.specs.declared.fault.DocCode.TheVariants.{NotJson}
-use Rattle.json_form.specs.Faults.{here}
-use Rattle.json_form.specs.Texts.{json_of}
+use Rattle.json_form.specs.meaning.Faults.{here}
+use Rattle.json_form.specs.meaning.Texts.{json_of}
 
 pub is_json : (bytes : List ℕ) (d : Data) → IsUtf8 bytes → read bytes ≡ Some d → json_of bytes ≡ Ok d
 is_json bytes d utf8 e = rw (is_utf8-from_IsUtf8 bytes utf8, e) refl

@@ -8,7 +8,7 @@ use Rattle.serde_json.specs.Data.{Data}
 use Rattle.serde_json.specs.View.{items_of}
 use Rattle.serde_json.specs.Written.{items_outline}
 use Rattle.json_form.specs.Tokens.{tokens_of}
-use Rattle.json_form.specs.Writing.{list_by}
+use Rattle.json_form.specs.meaning.Writing.{list_by}
 
 -- the items' tokens one after the other, and the bracket behind them
 pub each_written : {A : Type 0} (writes : A → Data) (xs : List A) → items_tokens (items_outline (items_of (map writes xs))) ≡ flat_map (λ x. tokens_of (writes x)) xs ++ end_array ∷ []

@@ -4,9 +4,6 @@ pub mod Faults
 pub mod Forms
 pub mod Numbers
 pub mod Objects
-pub mod Pointers
 pub mod Streams
-pub mod Texts
 pub mod Tokens
-pub mod Values
-pub mod Writing
+pub mod meaning

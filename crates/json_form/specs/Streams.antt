@@ -4,7 +4,7 @@ use Rattle.json.specs.Token.{Token}
 use Rattle.json.specs.Json.{parse_map, value, items, members}
 use Rattle.serde_json.specs.Data.{Data, Items, Members, no_members}
 use Rattle.serde_json.specs.Read.{of_json, of_items, of_members, converted}
-use Rattle.json_form.specs.Faults.{Fault}
+use Rattle.json_form.specs.meaning.Faults.{Fault}
 
 -- the value that the tokens begin with, nested no deeper than the number, and the tokens behind it
 abbrev pub value_ahead : ℕ → List Token → Option (Data × List Token)

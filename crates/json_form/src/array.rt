@@ -1,9 +1,10 @@
 //! Arrays whose items are read each by itself.
 ghost use Rattle.std.specs.Prelude.{◌≡◌, ◌≤◌, ◌<◌, Result, List, length, IfOk, IfSome};
 ghost use Rattle.serde_json.specs.View.{view, items_view};
-ghost use Rattle.json_form.specs.Faults.{Fault, GivesBy, within};
-ghost use Rattle.json_form.specs.Values.{items_of};
-ghost use Rattle.json_form.specs.Arrays.{each_of, counted_of, exact_of, array_of, list_of};
+ghost use Rattle.json_form.specs.meaning.Faults.{Fault, within};
+ghost use Rattle.json_form.specs.Faults.{GivesBy};
+ghost use Rattle.json_form.specs.meaning.Values.{items_of};
+ghost use Rattle.json_form.specs.meaning.Arrays.{each_of, counted_of, exact_of, array_of, list_of};
 ghost use Rattle.json_form.specs.Streams.{Begins};
 
 use crate::fault::{DocCode, DocFault};

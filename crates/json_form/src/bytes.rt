@@ -1,7 +1,7 @@
 //! From bytes to a JSON value.
 ghost use Rattle.serde_json.specs.View.{view};
 ghost use Rattle.json_form.specs.Faults.{GivesBy};
-ghost use Rattle.json_form.specs.Texts.{json_of, json_at};
+ghost use Rattle.json_form.specs.meaning.Texts.{json_of, json_at};
 
 use crate::fault::{DocCode, DocFault};
 use serde_json::Value;

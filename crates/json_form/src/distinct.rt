@@ -3,8 +3,9 @@ ghost use Rattle.std.specs.Prelude.{◌≡◌, map, ◌≤◌, ◌<◌, IfSome, 
 ghost use Rattle.std.specs.List.Sorted.{IsStrictlySortedBy};
 ghost use Rattle.std.specs.Ordering.{is_lt};
 ghost use Rattle.serde_json.specs.View.{view, items_view};
-ghost use Rattle.json_form.specs.Faults.{Fault, Gives, GivesBy, within_item as within_item_def};
-ghost use Rattle.json_form.specs.Arrays.{distinct, array_of, list_of, is_key};
+ghost use Rattle.json_form.specs.meaning.Faults.{Fault, within_item as within_item_def};
+ghost use Rattle.json_form.specs.Faults.{Gives, GivesBy};
+ghost use Rattle.json_form.specs.meaning.Arrays.{distinct, array_of, list_of, is_key};
 ghost use Rattle.json_form.specs.Streams.{Begins};
 
 use crate::array::{counted, items_from};
@@ -72,7 +73,7 @@ impl<K: Ord + Drop> Model for Taken<K> {
 }
 
 impl<K: Ord + Drop> Taken<K> {
-    ghost use Rattle.json_form.specs.Arrays.{fresh as fresh_def};
+    ghost use Rattle.json_form.specs.meaning.Arrays.{fresh as fresh_def};
 
     fn new(alloc: Global) -> Taken<K>
         ensures { result ≡ [] }

@@ -87,7 +87,7 @@ impl<T: Drop> From<AllocFailed<T>> for DocFault {
 
 impl DocFault {
     ghost use Rattle.std.specs.Prelude.{[], decimal};
-    ghost use Rattle.json_form.specs.Pointers.{escaped};
+    ghost use Rattle.json_form.specs.meaning.Pointers.{escaped};
     ghost use Rattle.json_form.specs.Faults.{IsUnder};
     ghost use Rattle.json_form.specs.declared.fault.DocFault.TheVariants.{At};
 

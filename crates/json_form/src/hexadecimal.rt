@@ -3,7 +3,7 @@ ghost use Rattle.std.specs.Prelude.{◌≡◌};
 ghost use Rattle.std.specs.List.{list_any};
 ghost use Rattle.serde_json.specs.View.{view};
 ghost use Rattle.json_form.specs.Faults.{GivesBy};
-ghost use Rattle.json_form.specs.Texts.{is_capital, octets_of, octets_in as octets_in_def, octets_by as octets_by_def};
+ghost use Rattle.json_form.specs.meaning.Texts.{is_capital, octets_of, octets_in as octets_in_def, octets_by as octets_by_def};
 
 use crate::fault::{DocCode, DocFault};
 use crate::word::text_from;

@@ -4,8 +4,9 @@ ghost use Rattle.std.specs.List.{list_any};
 ghost use Rattle.std.specs.Str.{bytes_eq};
 ghost use Rattle.serde_json.specs.View.{view, members_view};
 ghost use Rattle.json_form.specs.Faults.{Gives, GivesBy};
-ghost use Rattle.json_form.specs.Values.{members_of};
-ghost use Rattle.json_form.specs.Objects.{known as known_def, object_with as object_with_def, members_at};
+ghost use Rattle.json_form.specs.meaning.Values.{members_of};
+ghost use Rattle.json_form.specs.meaning.Objects.{known as known_def, object_with as object_with_def};
+ghost use Rattle.json_form.specs.Objects.{members_at};
 
 use crate::fault::{DocCode, DocFault};
 use crate::reader::Reader;
@@ -62,7 +63,8 @@ pub fn object_with(alloc: Global, value: Value, names: &[&str]) -> Result<Member
 
 impl Members {
     ghost use Rattle.std.specs.Prelude.{option_map};
-    ghost use Rattle.json_form.specs.Objects.{has as has_def, without, putting, all_there, member_in, required as required_def, optional as optional_def};
+    ghost use Rattle.json_form.specs.meaning.Objects.{has as has_def, required as required_def, optional as optional_def};
+    ghost use Rattle.json_form.specs.Objects.{without, putting, all_there, member_in};
 
     /// No members.
     pub fn new(alloc: Global) -> Members
@@ -83,7 +85,7 @@ impl Members {
     }
 
     /// Whether there is a member with this name.
-    #[tactic(auto, unfolding(crate::specs::Objects::has))]
+    #[tactic(auto, unfolding(crate::specs::meaning::Objects::has))]
     pub fn has(&self, name: &str) -> bool
         ensures { result ≡ has_def name.now (members_at self.now) }
     {
@@ -99,7 +101,7 @@ impl Members {
     }
 
     /// A member that has to be there, taken out.
-    #[tactic(auto, unfolding(crate::specs::Objects::required))]
+    #[tactic(auto, unfolding(crate::specs::meaning::Objects::required))]
     pub fn required(&mut self, alloc: Global, name: &str) -> Result<Value, DocFault>
         ensures read { GivesBy view result (required_def name.now (members_at self.old)) }
         ensures left { members_at self.new ≡ without name.now (members_at self.old) }
@@ -141,7 +143,7 @@ impl Members {
     }
 
     /// A member that may be missing, taken out and read. Where it is missing, `otherwise` stands for it.
-    #[tactic(auto, unfolding(crate::specs::Objects::optional))]
+    #[tactic(auto, unfolding(crate::specs::meaning::Objects::optional))]
     pub fn optional<T: Drop, R: Reader<T>>(
         &mut self,
         alloc: Global,

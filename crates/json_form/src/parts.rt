@@ -2,8 +2,9 @@
 ghost use Rattle.std.specs.Prelude.{◌≡◌, ◌==◌, IfOk, IfSome};
 ghost use Rattle.serde_json.specs.View.{view};
 ghost use Rattle.json_form.specs.Faults.{Gives, GivesBy};
-ghost use Rattle.json_form.specs.Values.{items_of};
-ghost use Rattle.json_form.specs.Arrays.{fixed as fixed_def, items_at, parts_at, count_at};
+ghost use Rattle.json_form.specs.meaning.Values.{items_of};
+ghost use Rattle.json_form.specs.meaning.Arrays.{fixed as fixed_def};
+ghost use Rattle.json_form.specs.Arrays.{items_at, parts_at, count_at};
 
 use crate::array::{exact_from, items_from};
 use crate::fault::{DocCode, DocFault};
@@ -38,7 +39,8 @@ pub fn parts_from(alloc: Global, value: Value) -> Result<Parts, DocFault>
 
 impl Parts {
     ghost use Rattle.std.specs.Prelude.{option_map};
-    ghost use Rattle.json_form.specs.Arrays.{taken_at, part as part_def};
+    ghost use Rattle.json_form.specs.meaning.Arrays.{part as part_def};
+    ghost use Rattle.json_form.specs.Arrays.{taken_at};
 
     /// Whether there are so many items, those that were taken out among them.
     pub fn has_count(&self, count: usize) -> bool
@@ -60,7 +62,7 @@ impl Parts {
     }
 
     /// The item at a position, taken out and read. A fault is placed there.
-    #[tactic(auto, unfolding(crate::specs::Arrays::part))]
+    #[tactic(auto, unfolding(crate::specs::meaning::Arrays::part))]
     pub fn read<T, R: Reader<T>>(
         &mut self,
         alloc: Global,

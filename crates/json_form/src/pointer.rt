@@ -1,7 +1,7 @@
 //! JSON Pointers (RFC 6901).
 ghost use Rattle.std.specs.Prelude.{◌≡◌, [], ◌∷◌, ◌++◌, IfOk, OnOk, string_bytes};
 ghost use Rattle.std.specs.Str.{chars};
-ghost use Rattle.json_form.specs.Pointers.{escaped, escaped_char};
+ghost use Rattle.json_form.specs.meaning.Pointers.{escaped, escaped_char};
 
 use std::alloc::{AllocError, Global};
 use std::fmt::{Display, Error, Formatter, Write};

@@ -2,8 +2,9 @@
 ghost use Rattle.std.specs.Prelude.{◌≡◌, ◌≤◌, Result, IfOk};
 ghost use Rattle.serde_json.specs.Data.{Data};
 ghost use Rattle.serde_json.specs.View.{view};
-ghost use Rattle.json_form.specs.Faults.{Fault, Gives};
-ghost use Rattle.json_form.specs.Values.{whole_of, integer_of, bool_of};
+ghost use Rattle.json_form.specs.meaning.Faults.{Fault};
+ghost use Rattle.json_form.specs.Faults.{Gives};
+ghost use Rattle.json_form.specs.meaning.Values.{whole_of, integer_of, bool_of};
 
 use crate::fault::{DocCode, DocFault};
 use serde_json::{Number, Value};
@@ -37,7 +38,7 @@ impl Whole {
 impl Reader<u64> for Whole {
     ghost reads = { λ s. whole_of s.low s.high };
 
-    #[tactic(auto, unfolding(crate::specs::Values::whole_of))]
+    #[tactic(auto, unfolding(crate::specs::meaning::Values::whole_of))]
     fn read(&self, alloc: Global, value: Value) -> Result<u64, DocFault>
         ensures read { Gives result (whole_of self.now.low self.now.high (view value)) }
         ensures most { IfOk result (λ number. number ≤ self.now.high) }
@@ -66,7 +67,7 @@ pub struct Integer;
 impl Reader<i64> for Integer {
     ghost reads = { λ s. integer_of };
 
-    #[tactic(auto, unfolding(crate::specs::Values::integer_of))]
+    #[tactic(auto, unfolding(crate::specs::meaning::Values::integer_of))]
     fn read(&self, alloc: Global, value: Value) -> Result<i64, DocFault> {
         let Some(number) = value.as_number().and_then(Number::as_i128) else {
             return Err(DocFault::here(alloc, DocCode::WrongKind));

@@ -1,6 +1,7 @@
 //! Readings of members and items, seen from the object or the array.
 ghost use Rattle.std.specs.Prelude.{◌≡◌, Result, Ok, IfOk};
-ghost use Rattle.json_form.specs.Faults.{Fault, Gives, within as within_def, within_item as within_item_def};
+ghost use Rattle.json_form.specs.meaning.Faults.{Fault, within as within_def, within_item as within_item_def};
+ghost use Rattle.json_form.specs.Faults.{Gives};
 
 use crate::fault::DocFault;
 use std::alloc::Global;

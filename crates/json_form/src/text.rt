@@ -43,7 +43,7 @@ impl TextWriter {
     ghost use Rattle.serde_json.specs.Read.{max_depth, read};
     ghost use Rattle.serde_json.specs.Written.{compact_text};
     ghost use Rattle.json_form.specs.Forms.{IsForm};
-    ghost use Rattle.json_form.specs.Writing.{text as text_def, whole as whole_def, integer as integer_def, flag as flag_def, null as null_def, list_by};
+    ghost use Rattle.json_form.specs.meaning.Writing.{text as text_def, whole as whole_def, integer as integer_def, flag as flag_def, null as null_def, list_by};
 
     /// A text of nothing. It takes no memory before the first token.
     pub fn new(alloc: Global) -> TextWriter

@@ -2,8 +2,8 @@
 ghost use Rattle.std.specs.Prelude.{map, string_bytes};
 ghost use Rattle.serde_json.specs.View.{view};
 ghost use Rattle.json_form.specs.Faults.{Gives, GivesBy};
-ghost use Rattle.json_form.specs.Values.{text_of};
-ghost use Rattle.json_form.specs.Texts.{chosen as chosen_def, word_of, head_of};
+ghost use Rattle.json_form.specs.meaning.Values.{text_of};
+ghost use Rattle.json_form.specs.meaning.Texts.{chosen as chosen_def, word_of, head_of};
 
 use crate::fault::{DocCode, DocFault};
 use serde_json::Value;

@@ -5,12 +5,12 @@ use Rattle.svc_values.specs.declared.call.Call.{Call}
 use Rattle.svc_values.specs.declared.draw.Draw.{Draw}
 use Rattle.svc_values.specs.declared.entry.Entry.{Entry}
 use Rattle.svc_values.specs.declared.entry.SessionId.{SessionId}
-use Rattle.stmt_meaning.specs.Meaning.{Meant}
-use Rattle.server_model.specs.Base.{Base}
-use Rattle.server_model.specs.Fresh.{new_in, drawn_anew, fresh_new, none_twice}
-use Rattle.server_model.specs.Items.{Thing, Called, Item, Did, AskTold, AskStopped}
-use Rattle.server_model.specs.Legal.{item_holds, items_hold, Line, line_in, lines_of, lines_stand, legal}
-use Rattle.server_model.specs.Walk.{Walk, Performed, walk_of, meaning, with_meaning, Deed, deed_of, entered, after}
+use Rattle.stmt_meaning.specs.meaning.Meaning.{Meant}
+use Rattle.server_model.specs.meaning.Base.{Base}
+use Rattle.server_model.specs.meaning.Fresh.{new_in, drawn_anew, fresh_new, none_twice}
+use Rattle.server_model.specs.meaning.Items.{Thing, Called, Item, Did, AskTold, AskStopped}
+use Rattle.server_model.specs.meaning.Legal.{item_holds, items_hold, Line, line_in, lines_of, lines_stand, legal}
+use Rattle.server_model.specs.meaning.Walk.{Walk, Performed, walk_of, meaning, with_meaning, Deed, deed_of, entered, after}
 
 -- what a call without the mark brings is dropped
 abbrev pub bare_thing : Thing → Thing

@@ -3,8 +3,8 @@ use Rattle.std.proofs.Common.{◌≡◌, refl, sym, ap, ◌∙◌, append_assoc,
 use Rattle.std.specs.Prelude.{drop, slice_get}
 use Rattle.std.proofs.lemmas.List.{length_push, length-reverse, reverse-append}
 use Rattle.outage_schedule.specs.declared.request.ShownCall.{ShownCall}
-use Rattle.shown_clauses.specs.KeptDraws.{if_decided, shown_since}
-use Rattle.shown_clauses.specs.Turns.{ends_decided}
+use Rattle.shown_clauses.specs.meaning.KeptDraws.{if_decided, shown_since}
+use Rattle.shown_clauses.specs.meaning.Turns.{ends_decided}
 use Rattle.world_model.specs.records.Script.{behind_decided, recorded_from}
 
 -- further on by so many

@@ -4,7 +4,7 @@ use Rattle.std.specs.Prelude.{◌==◌, option_and_then}
 use Rattle.std.proofs.lemmas.Bool.Decides.{nat_tests}
 use Rattle.svc_values.specs.declared.call.Call.{Call}
 use Rattle.svc_values.specs.declared.entry.Ltxid.{Ltxid}
-use Rattle.svc_values.specs.Identifiers.{same_ltxid, session_of}
+use Rattle.svc_values.specs.meaning.Identifiers.{same_ltxid, session_of}
 use Rattle.svc_values.specs.SameLaws.{same_ltxid_decides}
 use Rattle.outage_schedule.specs.declared.event.Event.{Event}
 use Rattle.outage_schedule.specs.declared.event.Event.TheVariants as event
@@ -12,19 +12,20 @@ use Rattle.outage_schedule.specs.declared.item.Served.{Served}
 use Rattle.outage_schedule.specs.declared.note.Note.{Note}
 use Rattle.outage_schedule.specs.declared.note.Note.TheVariants as note
 use Rattle.outage_schedule.specs.declared.note.OutsideNote.{OutsideNote}
-use Rattle.server_model.specs.Outcomes.{Says}
+use Rattle.server_model.specs.meaning.Outcomes.{Says}
 use Rattle.server_model.specs.Runs.{Happened, Asked}
-use Rattle.server_model.specs.ServiceCalls.{RunsAre, begins_outside, is_failover}
+use Rattle.server_model.specs.meaning.ServiceCalls.{is_failover}
+use Rattle.server_model.specs.ServiceCalls.{RunsAre, begins_outside}
 use Rattle.service_calls.specs.Answers.{runs_of}
-use Rattle.world_model.specs.Crashing.{crashes}
-use Rattle.world_model.specs.Machines.{Machine, next_session}
-use Rattle.world_model.specs.Matching.{Noted, ServedOn, Crashed, Asked as AskedOf}
-use Rattle.world_model.specs.Noting.{only_if}
-use Rattle.world_model.specs.Outside.{follow_outside}
+use Rattle.world_model.specs.meaning.Crashing.{crashes}
+use Rattle.world_model.specs.meaning.Machines.{Machine, next_session}
+use Rattle.world_model.specs.meaning.Matching.{Noted, ServedOn, Crashed, Asked as AskedOf}
+use Rattle.world_model.specs.meaning.Noting.{only_if}
+use Rattle.world_model.specs.meaning.Outside.{follow_outside}
 use Rattle.world_model.specs.ServiceDid.{ServiceDid, front_served}
-use Rattle.world_model.specs.Serving.{front_at, identifier, outcome_frame}
-use Rattle.world_model.specs.Settings.{Setting}
-use Rattle.world_model.specs.Walking.{by_kind, leaving, follow}
+use Rattle.world_model.specs.meaning.Serving.{front_at, identifier, outcome_frame}
+use Rattle.world_model.specs.meaning.Settings.{Setting}
+use Rattle.world_model.specs.meaning.Walking.{by_kind, leaving, follow}
 use Rattle.shown_laws.proofs.Offered.{at_event}
 
 -- calls were run outside, in the next session

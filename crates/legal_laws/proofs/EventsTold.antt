@@ -9,8 +9,8 @@ use Rattle.std.proofs.lemmas.List.Folds.{list_all-append}
 use Rattle.svc_values.specs.declared.call.Call.{Call}
 use Rattle.svc_values.specs.declared.entry.SessionId.{SessionId}
 use Rattle.svc_values.specs.declared.frame.Down.{Down}
-use Rattle.svc_values.specs.Calls.{sequences_in}
-use Rattle.svc_values.specs.Identifiers.{session_of}
+use Rattle.svc_values.specs.meaning.Calls.{sequences_in}
+use Rattle.svc_values.specs.meaning.Identifiers.{session_of}
 use Rattle.outage_schedule.specs.declared.event.Event.{Event}
 use Rattle.outage_schedule.specs.declared.event.Event.TheVariants as event
 use Rattle.outage_schedule.specs.declared.item.Served.{Served}
@@ -20,26 +20,28 @@ use Rattle.outage_schedule.specs.declared.note.Note.{Note}
 use Rattle.outage_schedule.specs.declared.note.Note.TheVariants as note
 use Rattle.outage_schedule.specs.declared.note.NoteRun.{NoteRun}
 use Rattle.outage_schedule.specs.declared.note.OutsideNote.{OutsideNote}
-use Rattle.run_clauses.specs.Moments.{HappenedAt, Happened as Moment, RanOutside, Asked as AskedAt, moment_of_note, moments_of_notes, in_order}
-use Rattle.server_model.specs.Items.{Thing, Connected, Began, Called, Item, Did, AskTold, item_of as item_did, thing_of}
-use Rattle.server_model.specs.Outcomes.{Says}
+use Rattle.run_clauses.specs.meaning.Moments.{HappenedAt, Happened as Moment, RanOutside, Asked as AskedAt, moment_of_note, moments_of_notes, in_order}
+use Rattle.server_model.specs.meaning.Items.{Thing, Connected, Began, Called, Item, Did, AskTold, thing_of}
+use Rattle.server_model.specs.Items.{item_of as item_did}
+use Rattle.server_model.specs.meaning.Outcomes.{Says}
 use Rattle.server_model.specs.Runs.{Happened, Served as ServedFrame, Asked}
 use Rattle.server_model.specs.ServiceCalls.{RunsAre}
 use Rattle.service_calls.specs.Answers.{run_of}
-use Rattle.shown_clauses.specs.Fronts.{first_item}
-use Rattle.shown_clauses.specs.KeptDraws.{is_marked_item, kept_at}
-use Rattle.shown_clauses.specs.LegalItems.{kept_if, item_of, calls_of, things_of, all_did, outside_fits, runs_fit, items_at, after_moment, items_from}
-use Rattle.shown_clauses.specs.Links.{after_item, after_happening}
-use Rattle.shown_clauses.specs.Parts.{Part}
-use Rattle.shown_clauses.specs.Places.{Front, with_note, reach, tick_at, noted_at, after_served}
-use Rattle.shown_clauses.specs.Things.{outcome_of, thing_of as thing_told}
-use Rattle.world_model.specs.Crashing.{is_crashed_item, is_stopped, fallen_link}
-use Rattle.world_model.specs.Frames.{Handled}
-use Rattle.world_model.specs.Links.{Link, link_at, with_link}
-use Rattle.world_model.specs.Machines.{Machine, next_session}
-use Rattle.world_model.specs.ServiceDid.{front_served, front_telling}
-use Rattle.world_model.specs.Serving.{Front as FrameFront, front_at, is_blocked, is_item_of, is_served_by, is_of_front, is_ordinary, outcome_frame, reply_of, commits_after, handled}
-use Rattle.world_model.specs.Settings.{Setting}
+use Rattle.shown_clauses.specs.meaning.Fronts.{first_item}
+use Rattle.shown_clauses.specs.meaning.KeptDraws.{is_marked_item, kept_at}
+use Rattle.shown_clauses.specs.meaning.LegalItems.{kept_if, item_of, calls_of, things_of, all_did, outside_fits, runs_fit, items_at, after_moment, items_from}
+use Rattle.shown_clauses.specs.meaning.Links.{after_item, after_happening}
+use Rattle.shown_clauses.specs.meaning.Parts.{Part}
+use Rattle.shown_clauses.specs.meaning.Places.{Front, with_note, reach, tick_at, noted_at, after_served}
+use Rattle.shown_clauses.specs.meaning.Things.{outcome_of, thing_of as thing_told}
+use Rattle.world_model.specs.meaning.Crashing.{is_crashed_item, is_stopped, fallen_link}
+use Rattle.world_model.specs.meaning.Frames.{Handled}
+use Rattle.world_model.specs.meaning.Links.{Link, link_at, with_link}
+use Rattle.world_model.specs.meaning.Machines.{Machine, next_session}
+use Rattle.world_model.specs.meaning.ServiceDid.{front_telling}
+use Rattle.world_model.specs.ServiceDid.{front_served}
+use Rattle.world_model.specs.meaning.Serving.{Front as FrameFront, front_at, is_blocked, is_item_of, is_served_by, is_of_front, is_ordinary, outcome_frame, reply_of, commits_after, handled}
+use Rattle.world_model.specs.meaning.Settings.{Setting}
 use Rattle.invariant_laws.specs.Shown.{is_marked}
 use Rattle.shown_laws.specs.Growth.{next_told}
 use Rattle.shown_laws.specs.ServedSent.{none_blocked}

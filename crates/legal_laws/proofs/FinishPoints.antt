@@ -10,13 +10,13 @@ use Rattle.outage_schedule.specs.declared.event.Event.TheVariants as event
 use Rattle.outage_schedule.specs.declared.item.Served.{Served}
 use Rattle.outage_schedule.specs.declared.note.Note.{Note}
 use Rattle.server_model.specs.Seen.{Seen}
-use Rattle.shown_clauses.specs.Fronts.{first_item, rest_items}
-use Rattle.world_model.specs.Clients.{is_unfinished}
-use Rattle.world_model.specs.Finishing.{Place, AtServer, AtOrphans, AtRound, AtClients, AtLinks, Next, first_behind, serves_or_ticks, goes_or_serves, next_round, reaps_or_goes, opens_or_reaps, next_finish}
-use Rattle.world_model.specs.Links.{is_orphan}
-use Rattle.world_model.specs.Machines.{Machine}
+use Rattle.shown_clauses.specs.meaning.Fronts.{first_item, rest_items}
+use Rattle.world_model.specs.meaning.Clients.{is_unfinished}
+use Rattle.world_model.specs.meaning.Finishing.{Place, AtServer, AtOrphans, AtRound, AtClients, AtLinks, Next, first_behind, serves_or_ticks, goes_or_serves, next_round, reaps_or_goes, opens_or_reaps, next_finish}
+use Rattle.world_model.specs.meaning.Links.{is_orphan}
+use Rattle.world_model.specs.meaning.Machines.{Machine}
 use Rattle.world_model.specs.Reached.{Reached, GoesOn, IsFinishing, Scheduled, Finishes}
-use Rattle.world_model.specs.Serving.{front_of}
+use Rattle.world_model.specs.meaning.Serving.{front_of}
 use Rattle.world_model.specs.Traced.{Traced}
 use Rattle.legal_laws.proofs.EventsTold.{IsScheduled}
 

@@ -8,10 +8,10 @@ use Rattle.std.proofs.lemmas.List.Sums.{fold-append}
 use Rattle.outage_schedule.specs.declared.event.Event.{Event}
 use Rattle.outage_schedule.specs.declared.item.Served.{Served}
 use Rattle.outage_schedule.specs.declared.note.Note.{Note}
-use Rattle.shown_clauses.specs.Fronts.{rest_items}
-use Rattle.shown_clauses.specs.Happenings.{tick_after}
-use Rattle.shown_clauses.specs.Links.{Seen}
-use Rattle.shown_clauses.specs.Places.{Place, Front, with_note, behind, reach_from, reach, tick_if, tick_at, noted_if, noted_at, with_seen}
+use Rattle.shown_clauses.specs.meaning.Fronts.{rest_items}
+use Rattle.shown_clauses.specs.meaning.Happenings.{tick_after}
+use Rattle.shown_clauses.specs.meaning.Links.{Seen}
+use Rattle.shown_clauses.specs.meaning.Places.{Place, Front, with_note, behind, reach_from, reach, tick_if, tick_at, noted_if, noted_at, with_seen}
 use Rattle.shown_laws.specs.Telling.{seen_told, ticks_told}
 
 -- NUMBERS -----------------------------------------------------------------------------------------

@@ -8,14 +8,14 @@ use Rattle.outage_schedule.specs.declared.document.Document.{Document}
 use Rattle.outage_schedule.specs.declared.event.Event.{Event}
 use Rattle.outage_schedule.specs.declared.item.Served.{Served}
 use Rattle.outage_schedule.specs.declared.note.Note.{Note}
-use Rattle.server_model.specs.Items.{Item}
+use Rattle.server_model.specs.meaning.Items.{Item}
 use Rattle.server_model.specs.Runs.{Happened}
 use Rattle.server_model.specs.Seen.{Seen}
-use Rattle.run_clauses.specs.Moments.{moments_of_notes, in_order}
-use Rattle.shown_clauses.specs.Fronts.{first_item, rest_items}
-use Rattle.shown_clauses.specs.LegalItems.{outside_fits, outsides_fit, items_from}
-use Rattle.shown_clauses.specs.Parts.{Part}
-use Rattle.shown_clauses.specs.Places.{Front}
+use Rattle.run_clauses.specs.meaning.Moments.{moments_of_notes, in_order}
+use Rattle.shown_clauses.specs.meaning.Fronts.{first_item, rest_items}
+use Rattle.shown_clauses.specs.meaning.LegalItems.{outside_fits, outsides_fit, items_from}
+use Rattle.shown_clauses.specs.meaning.Parts.{Part}
+use Rattle.shown_clauses.specs.meaning.Places.{Front}
 use Rattle.world_model.specs.OneEvent.{OneEvent}
 use Rattle.world_model.specs.Reached.{Reached, Begins, GoesOn, traced_start}
 use Rattle.world_model.specs.records.Ready.{all_requests_right}

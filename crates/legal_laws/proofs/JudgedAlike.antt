@@ -3,13 +3,14 @@ use Rattle.std.proofs.Common.{◌≡◌, refl, ap, ◌∙◌, ℕ, ◌+◌, ◌&
 use Rattle.svc_values.specs.declared.entry.Entry.{Entry}
 use Rattle.svc_values.specs.declared.entry.Ltxid.{Ltxid}
 use Rattle.svc_values.specs.declared.frame.Down.TheVariants as down
-use Rattle.server_model.specs.Base.{Base}
-use Rattle.server_model.specs.Fresh.{new_in, drawn_anew, fresh_new, none_twice}
-use Rattle.server_model.specs.Items.{Item, Did, AskTold, AskStopped, asked_of, item_of, items_from}
-use Rattle.server_model.specs.Legal.{item_holds, items_hold, Line, line_in, lines_of, lines_stand, legal}
-use Rattle.server_model.specs.Outcomes.{Telling, Silent, Says, Stopped}
+use Rattle.server_model.specs.meaning.Base.{Base}
+use Rattle.server_model.specs.meaning.Fresh.{new_in, drawn_anew, fresh_new, none_twice}
+use Rattle.server_model.specs.meaning.Items.{Item, Did, AskTold, AskStopped, asked_of}
+use Rattle.server_model.specs.Items.{item_of, items_from}
+use Rattle.server_model.specs.meaning.Legal.{item_holds, items_hold, Line, line_in, lines_of, lines_stand, legal}
+use Rattle.server_model.specs.meaning.Outcomes.{Telling, Silent, Says, Stopped}
 use Rattle.server_model.specs.Runs.{Happened, Served, Asked}
-use Rattle.server_model.specs.Walk.{Walk, walk_of, deed_of, entered, after}
+use Rattle.server_model.specs.meaning.Walk.{Walk, walk_of, deed_of, entered, after}
 
 -- the item without its number
 abbrev pub plain : Item → Item

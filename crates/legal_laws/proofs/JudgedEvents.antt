@@ -10,19 +10,20 @@ use Rattle.outage_schedule.specs.declared.note.FrameName.{FrameName}
 use Rattle.outage_schedule.specs.declared.note.Note.{Note}
 use Rattle.outage_schedule.specs.declared.note.Note.TheVariants as note
 use Rattle.outage_schedule.specs.declared.note.NoteRun.{NoteRun}
-use Rattle.server_model.specs.Items.{Connected, Began, Called, Item, Did, asked_of}
-use Rattle.server_model.specs.Outcomes.{Says}
+use Rattle.server_model.specs.meaning.Items.{Connected, Began, Called, Item, Did, asked_of}
+use Rattle.server_model.specs.meaning.Outcomes.{Says}
 use Rattle.server_model.specs.Runs.{Happened, Asked}
-use Rattle.server_model.specs.ServiceCalls.{RunsAre, is_failover}
+use Rattle.server_model.specs.meaning.ServiceCalls.{is_failover}
+use Rattle.server_model.specs.ServiceCalls.{RunsAre}
 use Rattle.service_calls.specs.Answers.{run_of}
-use Rattle.world_model.specs.Crashing.{serves_last, falls, crashes}
-use Rattle.world_model.specs.Judged.{front_items, things_outside, next_items}
-use Rattle.world_model.specs.Machines.{Machine, next_session}
-use Rattle.world_model.specs.Matching.{ServedOn, Crashed}
+use Rattle.world_model.specs.meaning.Crashing.{serves_last, falls, crashes}
+use Rattle.world_model.specs.meaning.Judged.{front_items, things_outside, next_items}
+use Rattle.world_model.specs.meaning.Machines.{Machine, next_session}
+use Rattle.world_model.specs.meaning.Matching.{ServedOn, Crashed}
 use Rattle.world_model.specs.ServiceDid.{ServiceDid, front_served}
-use Rattle.world_model.specs.Serving.{Front, front_at, serves, outcome_frame}
-use Rattle.world_model.specs.Settings.{Setting}
-use Rattle.world_model.specs.Walking.{After, follow}
+use Rattle.world_model.specs.meaning.Serving.{Front, front_at, serves, outcome_frame}
+use Rattle.world_model.specs.meaning.Settings.{Setting}
+use Rattle.world_model.specs.meaning.Walking.{After, follow}
 use Rattle.world_model.proofs.Offered.{at_event, reaches_if, mapped}
 use Rattle.legal_laws.proofs.JudgedAlike.{plain_items, plain_of, asked_plain}
 use Rattle.invariant_laws.proofs.Offered.{noted_kind}

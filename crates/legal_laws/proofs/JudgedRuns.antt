@@ -9,26 +9,29 @@ use Rattle.outage_schedule.specs.declared.event.Event.{Event}
 use Rattle.outage_schedule.specs.declared.item.Served.{Served}
 use Rattle.outage_schedule.specs.declared.note.Note.{Note}
 use Rattle.outage_schedule.specs.declared.report.Report.{Report}
-use Rattle.run_clauses.specs.ServiceBase.{service_base}
-use Rattle.server_model.specs.Base.{Base, IsSound}
-use Rattle.server_model.specs.Fresh.{drawn_anew, fresh_new}
-use Rattle.server_model.specs.Items.{Item, items_of}
+use Rattle.run_clauses.specs.meaning.ServiceBase.{service_base}
+use Rattle.server_model.specs.meaning.Base.{Base}
+use Rattle.server_model.specs.Base.{IsSound}
+use Rattle.server_model.specs.meaning.Fresh.{drawn_anew, fresh_new}
+use Rattle.server_model.specs.meaning.Items.{Item}
+use Rattle.server_model.specs.Items.{items_of}
 use Rattle.server_model.specs.Laws.{RunsLegal, RunsFreshNew, RunsSetAside}
-use Rattle.server_model.specs.Legal.{legal}
+use Rattle.server_model.specs.meaning.Legal.{legal}
 use Rattle.server_model.specs.Runs.{Happened, Server}
-use Rattle.server_model.specs.SetAside.{SetAside, ends_of}
-use Rattle.server_model.specs.Walk.{Walk, walk_of}
+use Rattle.server_model.specs.meaning.SetAside.{SetAside}
+use Rattle.server_model.specs.SetAside.{ends_of}
+use Rattle.server_model.specs.meaning.Walk.{Walk, walk_of}
 use Rattle.server_model.specs.Seen.{Seen}
 use Rattle.world_model.specs.Coupled.{Coupled}
-use Rattle.world_model.specs.Finishing.{Place, AtServer, next_finish}
-use Rattle.world_model.specs.Judged.{next_items, walk_items, finish_items, items_with, judged_items, drawn_in}
-use Rattle.world_model.specs.Machines.{Machine, start_of}
+use Rattle.world_model.specs.meaning.Finishing.{Place, AtServer, next_finish}
+use Rattle.world_model.specs.meaning.Judged.{next_items, walk_items, finish_items, items_with, judged_items, drawn_in}
+use Rattle.world_model.specs.meaning.Machines.{Machine, start_of}
 use Rattle.world_model.specs.Reached.{Reached, Begins, GoesOn, IsFinishing, Scheduled, Finishes}
 use Rattle.world_model.specs.Reported.{IsReported}
 use Rattle.legal_laws.specs.RunsJudged.{RunsAreLegal, RunsAreFreshNew, RunsAreSetAside}
-use Rattle.world_model.specs.Settings.{Setting, setting_of}
+use Rattle.world_model.specs.meaning.Settings.{Setting, setting_of}
 use Rattle.world_model.specs.Traced.{Traced}
-use Rattle.world_model.specs.Walking.{After, Walked, follow, walk}
+use Rattle.world_model.specs.meaning.Walking.{After, Walked, follow, walk}
 use Rattle.world_model.proofs.Offered.{follow_local, walk_more, finishing_start, finishing_coupled, reached_setting, reached_walk, finishing_setting}
 use Rattle.legal_laws.proofs.JudgedAlike.{plain_items, plain_of, history_plain, legal_plain, drawn_plain, fresh_plain}
 use Rattle.legal_laws.proofs.JudgedEvents.{event_takes, event_did}

@@ -9,20 +9,23 @@ use Rattle.outage_schedule.specs.declared.document.Document.{Document}
 use Rattle.outage_schedule.specs.declared.event.Event.{Event}
 use Rattle.outage_schedule.specs.declared.note.Note.{Note}
 use Rattle.outage_schedule.specs.declared.report.Report.{Report}
-use Rattle.run_clauses.specs.Moments.{moments_of_notes, in_order}
-use Rattle.run_clauses.specs.ServiceBase.{service_base}
-use Rattle.server_model.specs.Base.{Base, IsSound}
-use Rattle.server_model.specs.Fresh.{fresh_new}
-use Rattle.server_model.specs.Items.{Item, asked_of, items_from as items_in, items_of as items_of_history}
+use Rattle.run_clauses.specs.meaning.Moments.{moments_of_notes, in_order}
+use Rattle.run_clauses.specs.meaning.ServiceBase.{service_base}
+use Rattle.server_model.specs.meaning.Base.{Base}
+use Rattle.server_model.specs.Base.{IsSound}
+use Rattle.server_model.specs.meaning.Fresh.{fresh_new}
+use Rattle.server_model.specs.meaning.Items.{Item, asked_of}
+use Rattle.server_model.specs.Items.{items_from as items_in, items_of as items_of_history}
 use Rattle.server_model.specs.Laws.{RunsLegal, RunsFreshNew}
-use Rattle.server_model.specs.Legal.{legal}
-use Rattle.server_model.specs.Outcomes.{Telling, Silent, Says, Stopped}
+use Rattle.server_model.specs.meaning.Legal.{legal}
+use Rattle.server_model.specs.meaning.Outcomes.{Telling, Silent, Says, Stopped}
 use Rattle.server_model.specs.Runs.{Happened, Served as ServedFrame, Asked, Server}
 use Rattle.server_model.specs.Seen.{Seen}
-use Rattle.shown_clauses.specs.KeptDraws.{parts}
-use Rattle.shown_clauses.specs.Legal.{legal_of, fresh_new_of}
-use Rattle.shown_clauses.specs.LegalItems.{items_from, items_of, outsides_fit}
-use Rattle.shown_clauses.specs.Places.{first_front, reach}
+use Rattle.shown_clauses.specs.meaning.KeptDraws.{parts}
+use Rattle.shown_clauses.specs.meaning.Legal.{legal_of}
+use Rattle.shown_clauses.specs.Legal.{fresh_new_of}
+use Rattle.shown_clauses.specs.meaning.LegalItems.{items_from, items_of, outsides_fit}
+use Rattle.shown_clauses.specs.meaning.Places.{first_front, reach}
 use Rattle.world_model.specs.Coupled.{Coupled}
 use Rattle.world_model.specs.records.Ready.{all_requests_right}
 use Rattle.world_model.specs.Reached.{traced_start}

@@ -6,14 +6,14 @@ use Rattle.std.specs.Option.{option_map_or}
 use Rattle.std.proofs.lemmas.Bool.{and_parts}
 use Rattle.svc_values.specs.declared.draw.Draw.{Draw}
 use Rattle.svc_values.specs.declared.frame.Up.TheVariants as up
-use Rattle.svc_values.specs.Same.{same_draws}
+use Rattle.svc_values.specs.meaning.Same.{same_draws}
 use Rattle.svc_values.specs.SameLaws.{same_draws_decide}
 use Rattle.outage_schedule.specs.declared.request.ShownCall.{ShownCall}
-use Rattle.shown_clauses.specs.KeptDraws.{parts, shown_since, shown_before, place_in, draws_shown, kept_since, kept_in_turn, kept_on_link, kept_at}
-use Rattle.shown_clauses.specs.Links.{Acquired, Link as SeenLink, Turn}
-use Rattle.shown_clauses.specs.Parts.{Part}
-use Rattle.world_model.specs.Clients.{Step}
-use Rattle.world_model.specs.Frames.{Sent}
+use Rattle.shown_clauses.specs.meaning.KeptDraws.{parts, shown_since, shown_before, place_in, draws_shown, kept_since, kept_in_turn, kept_on_link, kept_at}
+use Rattle.shown_clauses.specs.meaning.Links.{Acquired, Link as SeenLink, Turn}
+use Rattle.shown_clauses.specs.meaning.Parts.{Part}
+use Rattle.world_model.specs.meaning.Clients.{Step}
+use Rattle.world_model.specs.meaning.Frames.{Sent}
 use Rattle.invariant_laws.specs.Invariant.{Invariant}
 use Rattle.invariant_laws.specs.KeptLaws.{RunsKeepInvariant}
 use Rattle.world_model.specs.Parts.{implies}

@@ -5,7 +5,7 @@ use Rattle.std.proofs.lemmas.Bool.Decides.{nat_tests}
 use Rattle.outage_schedule.specs.declared.item.Served.{Served}
 use Rattle.outage_schedule.specs.declared.note.Note.{Note}
 use Rattle.outage_schedule.specs.declared.note.Note.TheVariants as note
-use Rattle.run_clauses.specs.Moments.{HappenedAt, moments_of_notes, moment_of_item, before_event, from_event, in_order}
+use Rattle.run_clauses.specs.meaning.Moments.{HappenedAt, moments_of_notes, moment_of_item, before_event, from_event, in_order}
 use Rattle.legal_laws.proofs.FrontMoves.{below_is}
 
 -- each item is of an event behind this one

@@ -5,9 +5,9 @@ use Rattle.std.proofs.lemmas.List.Folds.{list_any-append}
 use Rattle.svc_values.specs.declared.draw.Draw.{Draw}
 use Rattle.outage_schedule.specs.declared.document.Document.{Document}
 use Rattle.outage_schedule.specs.declared.item.Served.{Served}
-use Rattle.shown_clauses.specs.KeptDraws.{has_marked, is_marked_item}
-use Rattle.world_model.specs.Clients.{Step}
-use Rattle.world_model.specs.Frames.{Owner}
+use Rattle.shown_clauses.specs.meaning.KeptDraws.{has_marked, is_marked_item}
+use Rattle.world_model.specs.meaning.Clients.{Step}
+use Rattle.world_model.specs.meaning.Frames.{Owner}
 use Rattle.world_model.specs.records.Ready.{all_requests_right}
 use Rattle.shown_laws.specs.ByPlace.{RequestSteps, IsRequestOf}
 use Rattle.shown_laws.specs.RequestsGrow.{GoesOnAs, RequestsGrow}

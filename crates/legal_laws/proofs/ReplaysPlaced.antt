@@ -9,23 +9,23 @@ use Rattle.svc_values.specs.declared.draw.Draw.{Draw}
 use Rattle.svc_values.specs.declared.entry.SessionId.{SessionId}
 use Rattle.svc_values.specs.declared.frame.Up.{Up}
 use Rattle.svc_values.specs.declared.frame.Up.TheVariants as up
-use Rattle.svc_values.specs.Identifiers.{same_session}
-use Rattle.svc_values.specs.Same.{same_call, same_draws}
+use Rattle.svc_values.specs.meaning.Identifiers.{same_session}
+use Rattle.svc_values.specs.meaning.Same.{same_call, same_draws}
 use Rattle.svc_values.specs.SameLaws.{same_call_decides, same_draws_decide, same_session_decides}
 use Rattle.outage_schedule.specs.declared.document.Document.{Document}
 use Rattle.outage_schedule.specs.declared.item.Served.{Served}
-use Rattle.shown_clauses.specs.Links.{Acquired, Link as SeenLink, Marked, Turn, link_of, link_of_session}
-use Rattle.shown_clauses.specs.Turns.{is_marked}
-use Rattle.world_model.specs.Clients.{Client}
-use Rattle.world_model.specs.Frames.{Owner, Sent}
+use Rattle.shown_clauses.specs.meaning.Links.{Acquired, Link as SeenLink, Marked, Turn, link_of, link_of_session}
+use Rattle.shown_clauses.specs.meaning.Turns.{is_marked}
+use Rattle.world_model.specs.meaning.Clients.{Client}
+use Rattle.world_model.specs.meaning.Frames.{Owner, Sent}
 use Rattle.invariant_laws.specs.Invariant.{Invariant}
 use Rattle.invariant_laws.specs.KeptLaws.{RunsKeepInvariant}
-use Rattle.world_model.specs.Links.{Link, link_at}
+use Rattle.world_model.specs.meaning.Links.{Link, link_at}
 use Rattle.world_model.specs.records.Ready.{all_requests_right}
 use Rattle.invariant_laws.specs.SameLaws.{HoldsInRuns}
 use Rattle.world_model.specs.Sames.{is_front, is_of, owned_by, same_owner, same_sent, same_up}
 use Rattle.world_model.specs.records.Script.{is_held_by, owned_rightly}
-use Rattle.world_model.specs.Serving.{is_item_of, is_of_front, is_served_by}
+use Rattle.world_model.specs.meaning.Serving.{is_item_of, is_of_front, is_served_by}
 use Rattle.invariant_laws.specs.Shown.{is_marked as is_marked_frame}
 use Rattle.world_model.specs.Traced.{Course, courses_of}
 use Rattle.world_model.specs.records.Wire.{New, handled_from, is_right, is_sent_front, stage_of, up_of}

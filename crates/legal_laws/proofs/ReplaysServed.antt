@@ -11,12 +11,12 @@ use Rattle.svc_values.specs.declared.frame.Up.TheVariants as up
 use Rattle.svc_values.specs.declared.value.Value.{Value}
 use Rattle.outage_schedule.specs.declared.item.Item.{Item}
 use Rattle.outage_schedule.specs.declared.item.Item.TheVariants as item
-use Rattle.shown_clauses.specs.Links.{Marked}
-use Rattle.shown_clauses.specs.Turns.{is_marked}
-use Rattle.world_model.specs.Crashing.{is_crashed_item}
-use Rattle.world_model.specs.Frames.{Owner, Sent, Handled}
+use Rattle.shown_clauses.specs.meaning.Links.{Marked}
+use Rattle.shown_clauses.specs.meaning.Turns.{is_marked}
+use Rattle.world_model.specs.meaning.Crashing.{is_crashed_item}
+use Rattle.world_model.specs.meaning.Frames.{Owner, Sent, Handled}
 use Rattle.world_model.specs.Sames.{is_front, same_owner, same_owners, same_sent, same_up}
-use Rattle.world_model.specs.Serving.{is_blocked, is_item_of, reply_of}
+use Rattle.world_model.specs.meaning.Serving.{is_blocked, is_item_of, reply_of}
 use Rattle.invariant_laws.specs.Shown.{is_marked as is_marked_frame}
 use Rattle.world_model.specs.records.Wire.{Stage, New, Greeted, Told, Repeated, Begun, Rested, Shut, Wrong, counted_with, handled_from, is_alter, is_handled, is_right, next_stage, same_replies, stage_if}
 use Rattle.shown_laws.specs.ServedSent.{none_blocked}

@@ -12,16 +12,16 @@ use Rattle.outage_schedule.specs.declared.report.Report.{Report}
 use Rattle.outage_schedule.specs.declared.request.RequestReport.{RequestReport}
 use Rattle.server_model.specs.Runs.{Server}
 use Rattle.server_model.specs.Seen.{Seen}
-use Rattle.shown_clauses.specs.Fronts.{first_of}
-use Rattle.shown_clauses.specs.KeptDraws.{parts, parts_if, is_step_of}
-use Rattle.shown_clauses.specs.Steps.{Step as StepTold}
-use Rattle.world_model.specs.Clients.{Step}
+use Rattle.shown_clauses.specs.meaning.Fronts.{first_of}
+use Rattle.shown_clauses.specs.meaning.KeptDraws.{parts, parts_if, is_step_of}
+use Rattle.shown_clauses.specs.meaning.Steps.{Step as StepTold}
+use Rattle.world_model.specs.meaning.Clients.{Step}
 use Rattle.invariant_laws.specs.KeptLaws.{RunsKeepInvariant, FinishesKeepInvariant}
 use Rattle.world_model.specs.records.Ready.{all_requests_right}
 use Rattle.invariant_laws.specs.Replayed.{shown_at, opens, before_opening, IsRepeat, RunsRepeatInOrder}
 use Rattle.world_model.specs.Reported.{IsReported}
 use Rattle.invariant_laws.specs.Shown.{is_marked}
-use Rattle.world_model.specs.Settings.{Setting}
+use Rattle.world_model.specs.meaning.Settings.{Setting}
 use Rattle.world_model.specs.Traced.{Traced, Course}
 use Rattle.shown_laws.specs.Growth.{RunsGrow}
 use Rattle.shown_laws.specs.RequestsGrow.{GoesOnAs, RequestsGrow}

@@ -4,9 +4,9 @@ use Rattle.std.specs.Cmp.Lexicographic.{pointwise}
 use Rattle.std.specs.Prelude.{nat_eq}
 use Rattle.std.proofs.lemmas.Bool.{and_parts}
 use Rattle.svc_values.specs.declared.value.Value.{Value}
-use Rattle.svc_values.specs.Same.{same_value}
+use Rattle.svc_values.specs.meaning.Same.{same_value}
 use Rattle.svc_values.specs.SameLaws.{bytes_decide, same_value_decides}
-use Rattle.svc_values.specs.SettingsList.{NamedValues, same_settings}
+use Rattle.svc_values.specs.meaning.SettingsList.{NamedValues, same_settings}
 
 pub settings_are : (a b : NamedValues) → same_settings a b ≡ true → a ≡ b
 settings_are [] [] is = refl

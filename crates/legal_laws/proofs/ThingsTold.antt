@@ -7,18 +7,18 @@ use Rattle.svc_values.specs.declared.draw.Draw.{Draw}
 use Rattle.svc_values.specs.declared.entry.SessionId.{SessionId}
 use Rattle.svc_values.specs.declared.frame.Up.{Up}
 use Rattle.svc_values.specs.declared.frame.Up.TheVariants as up
-use Rattle.svc_values.specs.Same.{same_bool, same_call}
+use Rattle.svc_values.specs.meaning.Same.{same_bool, same_call}
 use Rattle.svc_values.specs.SameLaws.{same_bool_decides, same_call_decides, same_ltxid_decides}
 use Rattle.outage_schedule.specs.declared.item.Item.{Item}
 use Rattle.outage_schedule.specs.declared.item.Item.TheVariants as item
 use Rattle.outage_schedule.specs.declared.note.AskResult.{AskResult}
 use Rattle.outage_schedule.specs.declared.note.AskResult.TheVariants as told
-use Rattle.server_model.specs.Items.{Began, Called, MetBlock, TellsOutcome, CallStopped, OutcomeStopped, of_outcome, thing_of}
-use Rattle.shown_clauses.specs.KeptDraws.{is_marked_item}
-use Rattle.shown_clauses.specs.Things.{outcome_of, thing_of as thing_told}
-use Rattle.world_model.specs.Crashing.{is_crashed_item}
-use Rattle.world_model.specs.ServiceDid.{item_telling}
-use Rattle.world_model.specs.Serving.{is_blocked, is_item_of, outcome_frame}
+use Rattle.server_model.specs.meaning.Items.{Began, Called, MetBlock, TellsOutcome, CallStopped, OutcomeStopped, of_outcome, thing_of}
+use Rattle.shown_clauses.specs.meaning.KeptDraws.{is_marked_item}
+use Rattle.shown_clauses.specs.meaning.Things.{outcome_of, thing_of as thing_told}
+use Rattle.world_model.specs.meaning.Crashing.{is_crashed_item}
+use Rattle.world_model.specs.meaning.ServiceDid.{item_telling}
+use Rattle.world_model.specs.meaning.Serving.{is_blocked, is_item_of, outcome_frame}
 use Rattle.invariant_laws.specs.Shown.{is_marked}
 use Rattle.legal_laws.proofs.BareItems.{bare_thing}
 use Rattle.legal_laws.proofs.SettingsSame.{settings_are}

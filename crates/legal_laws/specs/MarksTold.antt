@@ -10,12 +10,12 @@ use Rattle.outage_schedule.specs.declared.note.Note.{Note}
 use Rattle.outage_schedule.specs.declared.report.Report.{Report}
 use Rattle.server_model.specs.Runs.{Server}
 use Rattle.server_model.specs.Seen.{Seen}
-use Rattle.shown_clauses.specs.KeptDraws.{parts, is_marked_item, kept_at}
-use Rattle.shown_clauses.specs.Parts.{Part}
+use Rattle.shown_clauses.specs.meaning.KeptDraws.{parts, is_marked_item, kept_at}
+use Rattle.shown_clauses.specs.meaning.Parts.{Part}
 use Rattle.world_model.specs.OneEvent.{OneEvent}
 use Rattle.world_model.specs.records.Ready.{all_requests_right}
 use Rattle.world_model.specs.Reported.{IsReported}
-use Rattle.world_model.specs.Serving.{Front, front_at, is_ordinary}
+use Rattle.world_model.specs.meaning.Serving.{Front, front_at, is_ordinary}
 use Rattle.world_model.specs.Traced.{Traced}
 use Rattle.shown_laws.specs.Telling.{seen_told}
 use Rattle.legal_laws.specs.Points.{Point, IsPoint, next_point, LeadsTo}

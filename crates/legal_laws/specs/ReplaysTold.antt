@@ -9,12 +9,12 @@ use Rattle.outage_schedule.specs.declared.report.Report.{Report}
 use Rattle.outage_schedule.specs.declared.request.ShownCall.{ShownCall}
 use Rattle.server_model.specs.Runs.{Server}
 use Rattle.server_model.specs.Seen.{Seen}
-use Rattle.shown_clauses.specs.KeptDraws.{parts, shown_before, acquired_by, place_in}
-use Rattle.shown_clauses.specs.Links.{Acquired, Link as SeenLink, Turn, link_of, link_of_session}
-use Rattle.shown_clauses.specs.Parts.{Part}
-use Rattle.world_model.specs.Clients.{Step, Client}
-use Rattle.world_model.specs.Frames.{Owner, Sent}
-use Rattle.world_model.specs.Links.{Link, link_at}
+use Rattle.shown_clauses.specs.meaning.KeptDraws.{parts, shown_before, acquired_by, place_in}
+use Rattle.shown_clauses.specs.meaning.Links.{Acquired, Link as SeenLink, Turn, link_of, link_of_session}
+use Rattle.shown_clauses.specs.meaning.Parts.{Part}
+use Rattle.world_model.specs.meaning.Clients.{Step, Client}
+use Rattle.world_model.specs.meaning.Frames.{Owner, Sent}
+use Rattle.world_model.specs.meaning.Links.{Link, link_at}
 use Rattle.world_model.specs.records.Ready.{all_requests_right}
 use Rattle.invariant_laws.specs.Replayed.{shown_at, before_opening}
 use Rattle.world_model.specs.Reported.{IsReported}

@@ -2,11 +2,12 @@
 use Rattle.std.specs.Prelude.{IsTrue}
 use Rattle.outage_schedule.specs.declared.document.Document.{Document}
 use Rattle.outage_schedule.specs.declared.report.Report.{Report}
-use Rattle.run_clauses.specs.ServiceBase.{service_base}
+use Rattle.run_clauses.specs.meaning.ServiceBase.{service_base}
 use Rattle.server_model.specs.Runs.{Server}
-use Rattle.server_model.specs.SetAside.{SetAside, ends_of}
+use Rattle.server_model.specs.meaning.SetAside.{SetAside}
+use Rattle.server_model.specs.SetAside.{ends_of}
 use Rattle.server_model.specs.Seen.{Seen}
-use Rattle.world_model.specs.Judged.{drawn_in, is_legal, is_fresh_new}
+use Rattle.world_model.specs.meaning.Judged.{drawn_in, is_legal, is_fresh_new}
 use Rattle.world_model.specs.Traced.{Traced}
 use Rattle.world_model.specs.Reported.{IsReported}
 

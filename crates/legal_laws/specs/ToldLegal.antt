@@ -4,7 +4,8 @@ use Rattle.outage_schedule.specs.declared.document.Document.{Document}
 use Rattle.outage_schedule.specs.declared.report.Report.{Report}
 use Rattle.server_model.specs.Runs.{Server}
 use Rattle.server_model.specs.Seen.{Seen}
-use Rattle.shown_clauses.specs.Legal.{legal_of, fresh_new_of}
+use Rattle.shown_clauses.specs.meaning.Legal.{legal_of}
+use Rattle.shown_clauses.specs.Legal.{fresh_new_of}
 use Rattle.world_model.specs.records.Ready.{all_requests_right}
 use Rattle.world_model.specs.Reported.{IsReported}
 use Rattle.world_model.specs.Traced.{Traced}

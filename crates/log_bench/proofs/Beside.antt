@@ -3,13 +3,14 @@ use Rattle.std.proofs.Common.{◌≡◌, ℕ, Bool, ◌&&◌, List, [], ◌∷�
 use Rattle.std.specs.Prelude.{IsTrue, nat_le, Ok}
 use Rattle.svc_values.specs.declared.entry.Entry.{Entry}
 use Rattle.svc_values.specs.declared.entry.Write.{Write}
-use Rattle.svc_values.specs.Fitting.{writes_fit}
-use Rattle.ltxid_book.specs.Sessions.{Contents, sessions_in, may_commit as may_note, after_commit}
+use Rattle.svc_values.specs.meaning.Fitting.{writes_fit}
+use Rattle.ltxid_book.specs.meaning.Sessions.{may_commit as may_note}
+use Rattle.ltxid_book.specs.Sessions.{Contents, sessions_in, after_commit}
 use Rattle.commit_log.specs.declared.journal.Journal.{Journal}
 use Rattle.commit_log.specs.declared.records.Record.TheVariants as kept
-use Rattle.commit_log.specs.Bases.{schemas_of}
-use Rattle.commit_log.specs.Rules.{with_record, may_commit}
-use Rattle.commit_log.specs.Journals.{journal_of}
+use Rattle.commit_log.specs.meaning.Bases.{schemas_of}
+use Rattle.commit_log.specs.meaning.Rules.{with_record, may_commit}
+use Rattle.commit_log.specs.meaning.Journals.{journal_of}
 use Rattle.commit_log.specs.Growth.{with_records}
 use Rattle.commit_log.proofs.Offered.{may_beside, notes_commit}
 use Rattle.log_bench.specs.Following.{IsPlain, Follows, IsFollowed}

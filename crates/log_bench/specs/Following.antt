@@ -3,7 +3,7 @@ use Rattle.std.specs.Prelude.{◌≡◌, ℕ, List, [], Ok}
 use Rattle.svc_values.specs.declared.entry.Entry.{Entry}
 use Rattle.ltxid_book.specs.Sessions.{Contents}
 use Rattle.commit_log.specs.declared.journal.Journal.{Journal}
-use Rattle.commit_log.specs.Journals.{journal_of}
+use Rattle.commit_log.specs.meaning.Journals.{journal_of}
 use Rattle.commit_log.specs.Judging.{IsBookFor}
 
 -- a commit of the first opening that writes no row

@@ -11,7 +11,7 @@ use ltxid_book::Book;
 use std::alloc::Global;
 use svc_values::{Entry, Ltxid, Pieces, Settings, Writes};
 
-#[tactic(auto, unfolding(commit_log::specs::Bases::is_base))]
+#[tactic(auto, unfolding(commit_log::specs::meaning::Bases::is_base))]
 fn no_tables(alloc: Global) -> Base
     ensures { IsBase result }
 {

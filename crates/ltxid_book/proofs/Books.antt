@@ -3,9 +3,10 @@ use Rattle.std.proofs.Common.{◌≡◌, ◌≤◌, ℕ, ◌+◌, ◌==◌, Bool
 use Rattle.std.specs.Prelude.{nat_lt}
 use Rattle.std.proofs.lemmas.Bool.Decides.{nat_tests}
 use Rattle.svc_values.specs.declared.entry.Ltxid.{Ltxid}
-use Rattle.svc_values.specs.Identifiers.{is_of}
+use Rattle.svc_values.specs.meaning.Identifiers.{is_of}
 use Rattle.ltxid_book.specs.declared.State.{State}
-use Rattle.ltxid_book.specs.Sessions.{Contents, Sessions, state_in, sessions_in, known_from, with_state}
+use Rattle.ltxid_book.specs.meaning.Sessions.{Sessions, known_from}
+use Rattle.ltxid_book.specs.Sessions.{Contents, state_in, sessions_in, with_state}
 use Rattle.ltxid_book.specs.InnerMaking.{counted, marked}
 use Rattle.ltxid_book.proofs.Known.{known_with}
 

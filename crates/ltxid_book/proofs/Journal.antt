@@ -7,9 +7,11 @@ use Rattle.std.proofs.Math.Bool.{or-true, or-false}
 use Rattle.std.specs.Prelude.{nat_lt}
 use Rattle.svc_values.specs.declared.entry.Ltxid.{Ltxid}
 use Rattle.ltxid_book.specs.declared.State.{State}
-use Rattle.svc_values.specs.Identifiers.{is_of, same_ltxid}
-use Rattle.ltxid_book.specs.Sessions.{untouched, with_state}
-use Rattle.ltxid_book.specs.Journal.{Committed, commits_of, last_completed, is_blocked, next_ltxid, state_of, book_of, BlocksStand}
+use Rattle.svc_values.specs.meaning.Identifiers.{is_of, same_ltxid}
+use Rattle.ltxid_book.specs.meaning.Sessions.{untouched}
+use Rattle.ltxid_book.specs.Sessions.{with_state}
+use Rattle.ltxid_book.specs.meaning.Journal.{Committed, commits_of, last_completed, is_blocked, next_ltxid, state_of, book_of}
+use Rattle.ltxid_book.specs.Journal.{BlocksStand}
 use Rattle.ltxid_book.specs.Laws.{BeginsUntouched, FollowsCommits, FollowsBlocks, FollowsForgetting, TellsBlocks}
 use Rattle.ltxid_book.proofs.Known.{May, may_known, known_with, known_again, never_below}
 

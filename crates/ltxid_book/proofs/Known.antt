@@ -4,9 +4,10 @@ use Rattle.std.proofs.Math.Path.{fun_ext}
 use Rattle.std.proofs.lemmas.Bool.Decides.{nat_tests}
 use Rattle.std.specs.Prelude.{nat_lt, max}
 use Rattle.svc_values.specs.declared.entry.Ltxid.{Ltxid}
-use Rattle.svc_values.specs.Identifiers.{is_of}
+use Rattle.svc_values.specs.meaning.Identifiers.{is_of}
 use Rattle.ltxid_book.specs.declared.State.{State}
-use Rattle.ltxid_book.specs.Sessions.{Sessions, untouched, none_yet, known_from, with_state, may_commit, after_forgetting}
+use Rattle.ltxid_book.specs.meaning.Sessions.{Sessions, untouched, known_from, may_commit}
+use Rattle.ltxid_book.specs.Sessions.{none_yet, with_state, after_forgetting}
 
 -- an identifier that may commit, by its session's state
 pub record May (x : Ltxid) (state : State) : Type 0 where

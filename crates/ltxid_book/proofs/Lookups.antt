@@ -10,7 +10,8 @@ use Rattle.std.specs.Ordering.{nat_cmp, ordering_then, is_eq}
 use Rattle.std.specs.Cmp.{tied_then}
 use Rattle.std.specs.declared.cmp.Ordering.{Ordering}
 use Rattle.ltxid_book.specs.declared.State.{State}
-use Rattle.ltxid_book.specs.Sessions.{state_in, untouched}
+use Rattle.ltxid_book.specs.meaning.Sessions.{untouched}
+use Rattle.ltxid_book.specs.Sessions.{state_in}
 
 -- the order of the keys
 abbrev pub key_cmp : (ℕ × ℕ) → (ℕ × ℕ) → Ordering

@@ -3,10 +3,11 @@ use Rattle.std.proofs.Common.{◌≡◌, ◌≤◌, ℕ, ◌+◌, ◌==◌, ◌&
 use Rattle.std.specs.Prelude.{nat_lt}
 use Rattle.std.proofs.Math.Bool.{or-true, or-false}
 use Rattle.svc_values.specs.declared.entry.Ltxid.{Ltxid}
-use Rattle.svc_values.specs.Identifiers.{is_of, same_ltxid}
+use Rattle.svc_values.specs.meaning.Identifiers.{is_of, same_ltxid}
 use Rattle.ltxid_book.specs.declared.State.{State}
-use Rattle.ltxid_book.specs.Sessions.{untouched, with_state}
-use Rattle.ltxid_book.specs.Journal.{Committed, commits_of, last_completed, is_blocked, next_ltxid, state_of, book_of}
+use Rattle.ltxid_book.specs.meaning.Sessions.{untouched}
+use Rattle.ltxid_book.specs.Sessions.{with_state}
+use Rattle.ltxid_book.specs.meaning.Journal.{Committed, commits_of, last_completed, is_blocked, next_ltxid, state_of, book_of}
 use Rattle.ltxid_book.specs.InnerMaking.{counted, marked}
 use Rattle.ltxid_book.proofs.Known.{known_with, known_alike, known_step, apart}
 use Rattle.ltxid_book.proofs.Journal.{parts_of, state_parts, is_blocked-push, commits_of-same, commits_of-push, last_completed-push}

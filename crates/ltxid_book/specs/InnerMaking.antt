@@ -1,8 +1,9 @@
 -- A book under way to that of a journal: commits and blocks that are taken as they come, whatever their numbers.
 use Rattle.std.specs.Prelude.{◌+◌, ◌==◌, true, if◌then◌else◌}
 use Rattle.svc_values.specs.declared.entry.Ltxid.{Ltxid}
-use Rattle.ltxid_book.specs.Sessions.{Sessions, is_forgotten, with_state}
-use Rattle.ltxid_book.specs.Journal.{Committed}
+use Rattle.ltxid_book.specs.meaning.Sessions.{Sessions, is_forgotten}
+use Rattle.ltxid_book.specs.Sessions.{with_state}
+use Rattle.ltxid_book.specs.meaning.Journal.{Committed}
 
 -- its session has one commit more
 abbrev pub counted : Sessions → Committed → Sessions

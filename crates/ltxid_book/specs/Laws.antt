@@ -1,8 +1,10 @@
 -- A book that is kept beside a journal says what the journal says.
 use Rattle.std.specs.Prelude.{◌≡◌, ℕ, IsTrue, false, max, List, [], ◌∷◌, ◌++◌}
 use Rattle.svc_values.specs.declared.entry.Ltxid.{Ltxid}
-use Rattle.ltxid_book.specs.Sessions.{none_yet, is_forgotten, may_commit, after_commit, after_block, after_forgetting}
-use Rattle.ltxid_book.specs.Journal.{Committed, is_blocked, book_of, BlocksStand}
+use Rattle.ltxid_book.specs.meaning.Sessions.{is_forgotten, may_commit}
+use Rattle.ltxid_book.specs.Sessions.{none_yet, after_commit, after_block, after_forgetting}
+use Rattle.ltxid_book.specs.meaning.Journal.{Committed, is_blocked, book_of}
+use Rattle.ltxid_book.specs.Journal.{BlocksStand}
 
 -- the book in which each session is untouched is that of the empty journal
 abbrev pub BeginsUntouched : Type 0

@@ -1,5 +1,5 @@
 pub mod InnerMaking
 pub mod Journal
 pub mod Laws
-pub mod Outcomes
 pub mod Sessions
+pub mod meaning

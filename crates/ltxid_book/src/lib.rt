@@ -7,8 +7,9 @@
 
 ghost use Rattle.std.specs.Prelude.{◌≡◌, ◌<◌, ◌≤◌, ◌+◌, ◌^◌, ℕ, IsTrue, IfOk, OnOk, OnErr, map};
 ghost use Rattle.svc_values.specs.Identifiers.{IsLtxid};
-ghost use Rattle.ltxid_book.specs.Sessions.{state_in, sessions_in, none_yet, can_commit as can_commit_def, may_commit as may_commit_def, after_commit, after_block, after_forgetting};
-ghost use Rattle.ltxid_book.specs.Journal.{committed_of, book_of};
+ghost use Rattle.ltxid_book.specs.meaning.Sessions.{can_commit as can_commit_def, may_commit as may_commit_def};
+ghost use Rattle.ltxid_book.specs.Sessions.{state_in, sessions_in, none_yet, after_commit, after_block, after_forgetting};
+ghost use Rattle.ltxid_book.specs.meaning.Journal.{committed_of, book_of};
 ghost use Rattle.ltxid_book.specs.InnerMaking.{counted, marked};
 
 pub mod laws;

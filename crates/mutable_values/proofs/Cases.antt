@@ -6,10 +6,12 @@ use Rattle.svc_values.specs.declared.draw.Draw.{Draw}
 use Rattle.svc_values.specs.declared.draw.Draw.TheVariants as draw
 use Rattle.svc_values.specs.declared.draw.DrawKind.{DrawKind}
 use Rattle.svc_values.specs.declared.draw.DrawKind.TheVariants as kind
-use Rattle.svc_values.specs.Draws.{is_there, is_of_kind}
+use Rattle.svc_values.specs.meaning.Draws.{is_of_kind}
+use Rattle.svc_values.specs.Draws.{is_there}
 use Rattle.mutable_values.specs.declared.source.SeqState.{SeqState}
 use Rattle.mutable_values.specs.declared.source.Drawn.TheVariants as drawn
-use Rattle.mutable_values.specs.Sources.{Opening, DrawnFrom, changed, draw_from, draw_of, first_kept, identifier, names_of, new_draw, new_value, next_value, reservation_size, sequence_of, without_first}
+use Rattle.mutable_values.specs.meaning.Sources.{identifier}
+use Rattle.mutable_values.specs.Sources.{Opening, DrawnFrom, changed, draw_from, draw_of, first_kept, names_of, new_draw, new_value, next_value, reservation_size, sequence_of, without_first}
 use Rattle.mutable_values.proofs.Histories.{found_name}
 use Rattle.mutable_values.proofs.Places.{there_is}
 

@@ -10,8 +10,9 @@ use Rattle.svc_values.specs.declared.draw.Draw.{Draw}
 use Rattle.svc_values.specs.declared.draw.Draw.TheVariants as draw
 use Rattle.svc_values.specs.declared.draw.DrawKind.{DrawKind}
 use Rattle.svc_values.specs.declared.draw.DrawKind.TheVariants as kind
-use Rattle.svc_values.specs.Draws.{is_of_kind, is_there}
-use Rattle.svc_values.specs.Names.{names_differ}
+use Rattle.svc_values.specs.meaning.Draws.{is_of_kind}
+use Rattle.svc_values.specs.Draws.{is_there}
+use Rattle.svc_values.specs.meaning.Names.{names_differ}
 use Rattle.mutable_values.specs.declared.source.SeqState.{SeqState}
 use Rattle.mutable_values.specs.declared.source.Drawn.{Drawn}
 use Rattle.mutable_values.specs.declared.source.Drawn.TheVariants as drawn

@@ -10,7 +10,8 @@ use Rattle.svc_values.specs.declared.draw.DrawKind.{DrawKind}
 use Rattle.svc_values.specs.declared.draw.DrawKind.TheVariants as kind
 use Rattle.svc_values.specs.Draws.{is_there}
 use Rattle.mutable_values.specs.declared.source.SeqState.{SeqState}
-use Rattle.mutable_values.specs.Sources.{Opening, DrawnFrom, changed, draw_from, draw_of, first_kept, identifier, names_of, new_draw, new_value, next_value, reserved_to, sequence_of}
+use Rattle.mutable_values.specs.meaning.Sources.{identifier}
+use Rattle.mutable_values.specs.Sources.{Opening, DrawnFrom, changed, draw_from, draw_of, first_kept, names_of, new_draw, new_value, next_value, reserved_to, sequence_of}
 use Rattle.mutable_values.specs.History.{Did, Drew, Reserved, after_one, all_anew, anew, counted, drawn_anew, identified, identifiers_of, identifier_of, opening_after, value_of, values_of}
 use Rattle.mutable_values.specs.Laws.{CountsIdentifiers, CountsValues}
 use Rattle.mutable_values.proofs.Places.{change_of, same_bytes}

@@ -7,7 +7,8 @@ use Rattle.std.proofs.lemmas.List.Kept.{AllPairs-cons}
 use Rattle.std.specs.Int.{from_be_bytes, to_be_bytes, w64}
 use Rattle.std.specs.List.{All, AllPairs}
 use Rattle.svc_values.specs.declared.draw.Draw.{Draw}
-use Rattle.mutable_values.specs.Sources.{Opening, identifier}
+use Rattle.mutable_values.specs.meaning.Sources.{identifier}
+use Rattle.mutable_values.specs.Sources.{Opening}
 use Rattle.mutable_values.specs.History.{Did, after_one, after_all, all_anew, drawn_anew, identified, identifiers_of}
 use Rattle.mutable_values.specs.Epochs.{Epoch, last_of, IsEpoch, FollowsIf, AreEpochs, anew_over}
 use Rattle.mutable_values.specs.Laws.{IdentifiersDiffer}

@@ -8,7 +8,7 @@ use Rattle.std.specs.Prelude.{Some, position}
 use Rattle.std.specs.Option.{is_some}
 use Rattle.std.specs.List.{list_all}
 use Rattle.std.specs.Str.{bytes_eq}
-use Rattle.svc_values.specs.Names.{is_name_of, names_differ}
+use Rattle.svc_values.specs.meaning.Names.{is_name_of, names_differ}
 use Rattle.mutable_values.specs.declared.source.SeqState.{SeqState}
 use Rattle.mutable_values.specs.Sources.{are_sequences, changed, is_within, names_of, sequence_of}
 

@@ -8,7 +8,7 @@ use Rattle.std.specs.List.{All, AllPairs, list_all}
 use Rattle.std.specs.Option.{option_map}
 use Rattle.std.specs.Str.{bytes_eq}
 use Rattle.svc_values.specs.declared.draw.Draw.{Draw}
-use Rattle.svc_values.specs.Names.{names_differ}
+use Rattle.svc_values.specs.meaning.Names.{names_differ}
 use Rattle.mutable_values.specs.declared.source.SeqState.{SeqState}
 use Rattle.mutable_values.specs.Sources.{Opening, are_sequences, is_within, names_of, sequence_of}
 use Rattle.mutable_values.specs.History.{Did, MayDoAll, after_one, after_all, all_anew, drawn_anew, values_of}

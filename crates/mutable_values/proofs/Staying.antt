@@ -6,7 +6,7 @@ use Rattle.std.specs.List.{list_all}
 use Rattle.std.specs.Str.{bytes_eq}
 use Rattle.svc_values.specs.declared.draw.Draw.{Draw}
 use Rattle.svc_values.specs.declared.draw.DrawKind.{DrawKind}
-use Rattle.svc_values.specs.Names.{is_name_of, names_differ}
+use Rattle.svc_values.specs.meaning.Names.{is_name_of, names_differ}
 use Rattle.mutable_values.specs.declared.source.SeqState.{SeqState}
 use Rattle.mutable_values.specs.Sources.{Opening, DrawnFrom, are_sequences, changed, draw_of, ends_next, has_room, is_within, names_of, next_value, reservation_size, reserved_to, sequence_of}
 use Rattle.mutable_values.specs.History.{Drew, Reserved, after_one, opening_after}

@@ -1,21 +1,10 @@
 -- Which of the values that a call drew are kept for a replay of it.
-use Rattle.std.specs.Prelude.{ℕ, Bool, ◌&&◌, List, filter}
-use Rattle.std.specs.List.{list_any}
-use Rattle.std.specs.Str.{bytes_eq}
+-- Here is what contracts and proofs say of it besides.
+use Rattle.std.specs.Prelude.{List, filter}
 use Rattle.svc_values.specs.declared.draw.Draw.{Draw}
-use Rattle.svc_values.specs.declared.draw.Draw.TheVariants as draw
 use Rattle.mutable_values.specs.declared.grants.Grants.{Grants}
 use Rattle.mutable_values.specs.declared.source.SeqState.{SeqState}
-
--- a sequence of this name is there, and its values are kept
-abbrev pub is_kept_sequence : List SeqState → List ℕ → Bool
-is_kept_sequence sequences name = list_any (λ sequence. bytes_eq sequence.name name && sequence.keep) sequences
-
--- a value is kept where its kind is, and one of a sequence where the sequence is too
-abbrev pub is_granted : Grants → List SeqState → Draw → Bool
-is_granted grants sequences (draw.Seq name value) = grants.seq && is_kept_sequence sequences name
-is_granted grants sequences (draw.Clock tick) = grants.clock
-is_granted grants sequences (draw.Id id) = grants.id
+use Rattle.mutable_values.specs.meaning.Granting.{is_granted}
 
 -- the draws that are kept, in order
 abbrev pub granted_of : Grants → List SeqState → List Draw → List Draw

@@ -6,7 +6,8 @@ use Rattle.svc_values.specs.declared.draw.Draw.TheVariants as draw
 use Rattle.svc_values.specs.declared.draw.DrawKind.{DrawKind}
 use Rattle.mutable_values.specs.declared.source.Drawn.{Drawn}
 use Rattle.mutable_values.specs.declared.source.Drawn.TheVariants as drawn
-use Rattle.mutable_values.specs.Sources.{Opening, DrawnFrom, first_kept, draw_of, may_reserve, reserved_to, identifier}
+use Rattle.mutable_values.specs.meaning.Sources.{identifier}
+use Rattle.mutable_values.specs.Sources.{Opening, DrawnFrom, first_kept, draw_of, may_reserve, reserved_to}
 
 -- what is done to a source
 pub data Did : Type 0 where

@@ -4,7 +4,7 @@ use Rattle.std.specs.List.{AllPairs, list_all}
 use Rattle.svc_values.specs.declared.draw.Draw.{Draw}
 use Rattle.svc_values.specs.declared.draw.Draw.TheVariants as draw
 use Rattle.svc_values.specs.declared.draw.DrawKind.{DrawKind}
-use Rattle.svc_values.specs.Draws.{is_of_kind}
+use Rattle.svc_values.specs.meaning.Draws.{is_of_kind}
 use Rattle.mutable_values.specs.declared.source.SeqState.{SeqState}
 use Rattle.mutable_values.specs.declared.source.Drawn.TheVariants as drawn
 use Rattle.mutable_values.specs.Sources.{Opening, are_sequences, draw_of, first_kept, has_room, may_reserve, reserved_to, sequence_of}

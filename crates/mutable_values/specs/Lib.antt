@@ -3,3 +3,4 @@ pub mod Granting
 pub mod History
 pub mod Epochs
 pub mod Laws
+pub mod meaning

@@ -1,8 +1,8 @@
 -- What a source gives: the first kept draw left of the kind and name that is asked for, and else a
 -- new one.
-use Rattle.std.specs.Prelude.{ℕ, ℤ, pos, ◌+ℤ◌, ◌+◌, ◌^◌, ◌<◌, Bool, false, ◌&&◌, IsTrue, ◌-◌, int_le, List, [], ◌∷◌, ◌++◌, map, Option, Some, None, if◌then◌else◌}
+-- Here is what contracts and proofs say of it besides.
+use Rattle.std.specs.Prelude.{ℕ, ℤ, pos, ◌+ℤ◌, ◌+◌, ◌^◌, ◌<◌, Bool, false, ◌&&◌, IsTrue, ◌-◌, int_le, List, [], ◌∷◌, map, Option, Some, None, if◌then◌else◌}
 use Rattle.std.specs.Option.{option_map}
-use Rattle.std.specs.Int.{to_be_bytes, w64}
 use Rattle.std.specs.Ordering.{int_eq}
 use Rattle.std.specs.List.{list_all}
 use Rattle.std.specs.Str.{bytes_eq}
@@ -10,11 +10,13 @@ use Rattle.svc_values.specs.declared.draw.Draw.{Draw}
 use Rattle.svc_values.specs.declared.draw.Draw.TheVariants as draw
 use Rattle.svc_values.specs.declared.draw.DrawKind.{DrawKind}
 use Rattle.svc_values.specs.declared.draw.DrawKind.TheVariants as kind
-use Rattle.svc_values.specs.Draws.{is_of_kind, is_there}
-use Rattle.svc_values.specs.Names.{names_differ}
+use Rattle.svc_values.specs.meaning.Draws.{is_of_kind}
+use Rattle.svc_values.specs.Draws.{is_there}
+use Rattle.svc_values.specs.meaning.Names.{names_differ}
 use Rattle.mutable_values.specs.declared.source.SeqState.{SeqState}
 use Rattle.mutable_values.specs.declared.source.Drawn.{Drawn}
 use Rattle.mutable_values.specs.declared.source.Drawn.TheVariants as drawn
+use Rattle.mutable_values.specs.meaning.Sources.{identifier}
 
 -- One opening of a store: its incarnation, how many identifiers were drawn in it, and its
 -- sequences.
@@ -61,10 +63,6 @@ first_kept asked (one ∷ rest) = if is_of_kind asked one then Some one else fir
 abbrev pub without_first : DrawKind → List Draw → List Draw
 without_first asked [] = []
 without_first asked (one ∷ rest) = if is_of_kind asked one then rest else one ∷ without_first asked rest
-
--- the value of a new identifier: the incarnation and a counter in it, each as eight bytes
-abbrev pub identifier : ℕ → ℕ → List ℕ
-identifier incarnation counter = to_be_bytes w64 incarnation ++ to_be_bytes w64 counter
 
 -- What a draw tells, and what is left of the opening and of the kept draws.
 pub record DrawnFrom : Type 0 where

@@ -1,6 +1,6 @@
 //! Draws that are kept for a replay of their call.
 ghost use Rattle.std.specs.Prelude.{◌≡◌, ◌<◌, [], IfSome, length, position};
-ghost use Rattle.svc_values.specs.Draws.{is_of_kind as is_of_kind_def};
+ghost use Rattle.svc_values.specs.meaning.Draws.{is_of_kind as is_of_kind_def};
 ghost use Rattle.mutable_values.specs.Sources.{first_kept, without_first};
 
 use std::alloc::Global;

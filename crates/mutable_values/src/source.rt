@@ -6,8 +6,10 @@ ghost use Rattle.svc_values.specs.declared.draw.Draw.{Draw as One};
 ghost use Rattle.svc_values.specs.declared.draw.Draw.TheVariants as draw;
 ghost use Rattle.svc_values.specs.declared.draw.DrawKind.TheVariants as kind;
 ghost use Rattle.svc_values.specs.Draws.{is_there as is_there_def};
-ghost use Rattle.mutable_values.specs.Granting.{granted_of, is_granted as is_granted_def, is_kept_sequence as is_kept_sequence_def};
-ghost use Rattle.mutable_values.specs.Sources.{HasRoom, are_sequences, draw_of, has_room, identifier as identifier_def, may_reserve, names_of, new_draw, next_value, reservation_size, reserved_to, sequence_of};
+ghost use Rattle.mutable_values.specs.meaning.Granting.{is_granted as is_granted_def, is_kept_sequence as is_kept_sequence_def};
+ghost use Rattle.mutable_values.specs.Granting.{granted_of};
+ghost use Rattle.mutable_values.specs.meaning.Sources.{identifier as identifier_def};
+ghost use Rattle.mutable_values.specs.Sources.{HasRoom, are_sequences, draw_of, has_room, may_reserve, names_of, new_draw, next_value, reservation_size, reserved_to, sequence_of};
 
 use crate::grants::Grants;
 use crate::kept::Kept;

@@ -8,12 +8,12 @@ use Rattle.svc_values.specs.declared.answer.Answer.TheVariants as answer
 use Rattle.svc_values.specs.declared.call.Call.{Call}
 use Rattle.svc_values.specs.declared.entry.Entry.{Entry}
 use Rattle.svc_values.specs.declared.entry.Piece.{Piece}
-use Rattle.svc_values.specs.Calls.{is_lone_commit}
-use Rattle.svc_values.specs.Endings.{ends_with}
-use Rattle.svc_values.specs.Same.{same_answers}
+use Rattle.svc_values.specs.meaning.Calls.{is_lone_commit}
+use Rattle.svc_values.specs.meaning.Endings.{ends_with}
+use Rattle.svc_values.specs.meaning.Same.{same_answers}
 use Rattle.outage_schedule.specs.declared.item.Item.{Item}
 use Rattle.outage_schedule.specs.declared.item.Item.TheVariants as item
-use Rattle.world_model.specs.Links.{Link}
+use Rattle.world_model.specs.meaning.Links.{Link}
 use Rattle.world_model.specs.Parts.{implies}
 use Rattle.invariant_laws.specs.Same.{is_no_commit}
 use Rattle.world_model.specs.Traced.{Traced}

@@ -2,7 +2,7 @@
 use Rattle.std.specs.Prelude.{IsTrue}
 use Rattle.outage_schedule.specs.declared.document.Document.{Document}
 use Rattle.outage_schedule.specs.declared.report.Report.{Report}
-use Rattle.run_clauses.specs.Once.{once}
+use Rattle.run_clauses.specs.meaning.Once.{once}
 use Rattle.server_model.specs.Runs.{Server}
 use Rattle.server_model.specs.Seen.{Seen}
 use Rattle.world_model.specs.records.Ready.{all_requests_right}
@@ -13,7 +13,7 @@ use Rattle.outage_schedule.specs.declared.item.Served.{Served}
 use Rattle.outage_schedule.specs.declared.note.Note.{Note}
 use Rattle.invariant_laws.specs.Once.{tell_tried}
 use Rattle.world_model.specs.Reached.{IsRun}
-use Rattle.run_clauses.specs.Stored.{kept_by, outcomes_stored}
+use Rattle.run_clauses.specs.meaning.Stored.{kept_by, outcomes_stored}
 
 -- Each transaction of the report of a whole run stands in its journal at most once.
 abbrev pub ReportsAreOnce : Type 0

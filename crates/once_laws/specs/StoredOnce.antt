@@ -3,12 +3,12 @@ use Rattle.std.specs.Prelude.{◌==◌, ◌&&◌, Bool, true, false, not, List, 
 use Rattle.std.specs.Option.{option_map_or}
 use Rattle.svc_values.specs.declared.draw.Draw.{Draw}
 use Rattle.svc_values.specs.declared.entry.Ltxid.{Ltxid}
-use Rattle.svc_values.specs.Endings.{ends_committed}
+use Rattle.svc_values.specs.meaning.Endings.{ends_committed}
 use Rattle.outage_schedule.specs.declared.item.Item.{Item as ItemTold}
 use Rattle.outage_schedule.specs.declared.item.Item.TheVariants as item
-use Rattle.server_model.specs.Walk.{ends}
-use Rattle.world_model.specs.Frames.{Handled}
-use Rattle.world_model.specs.Links.{Link}
+use Rattle.server_model.specs.meaning.Walk.{ends}
+use Rattle.world_model.specs.meaning.Frames.{Handled}
+use Rattle.world_model.specs.meaning.Links.{Link}
 use Rattle.invariant_laws.specs.Once.{stopped_draws}
 use Rattle.world_model.specs.Parts.{has_entry}
 use Rattle.world_model.specs.Sames.{each_pair, same_owners}

@@ -4,7 +4,7 @@
 ghost use Rattle.std.specs.Prelude.{◌≡◌};
 ghost use Rattle.svc_values.specs.Identifiers.{IsLtxid};
 ghost use Rattle.ltxid_book.specs.Sessions.{sessions_in};
-ghost use Rattle.ltxid_book.specs.Outcomes.{verdict_of};
+ghost use Rattle.ltxid_book.specs.meaning.Outcomes.{verdict_of};
 
 use ltxid_book::Book;
 pub use ltxid_book::Verdict;

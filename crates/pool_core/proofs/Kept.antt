@@ -4,7 +4,7 @@ use Rattle.std.proofs.lemmas.Bool.Decides.{nat_tests}
 use Rattle.std.proofs.Math.Bool.{or-true}
 use Rattle.pool_core.specs.declared.answers.Take.TheVariants as take
 use Rattle.pool_core.specs.declared.answers.Back.TheVariants as back
-use Rattle.pool_core.specs.Slots.{Slots, is_among, without, joined, has_to_wait, lends, take_answer, after_take, drains, give_back_answer, after_give_back}
+use Rattle.pool_core.specs.meaning.Slots.{Slots, is_among, without, joined, has_to_wait, lends, take_answer, after_take, drains, give_back_answer, after_give_back}
 use Rattle.pool_core.specs.History.{Did, Took, Opened, GaveBack, Lost, Gone, Left, Drained, is_grant, is_return, queue_step}
 use Rattle.pool_core.specs.Runs.{Step}
 use Rattle.pool_core.proofs.Lists.{all_differ, is_among-last, is_among-without, is_among-without_itself, without-absent, among_none, differ_first, differ_later, all_differ-without, all_differ-last}

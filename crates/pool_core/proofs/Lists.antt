@@ -4,7 +4,7 @@ use Rattle.std.specs.List.{list_any}
 use Rattle.std.proofs.lemmas.List.Folds.{list_any-append}
 use Rattle.std.proofs.lemmas.Bool.Decides.{nat_tests}
 use Rattle.std.proofs.Math.Bool.{or-false}
-use Rattle.pool_core.specs.Slots.{is_among, without}
+use Rattle.pool_core.specs.meaning.Slots.{is_among, without}
 
 -- no number stands twice
 abbrev pub all_differ : List ℕ → Bool

@@ -4,7 +4,7 @@ use Rattle.std.proofs.lemmas.Bool.Decides.{nat_tests}
 use Rattle.pool_core.specs.declared.answers.Take.{Take}
 use Rattle.pool_core.specs.declared.answers.Take.TheVariants as take
 use Rattle.pool_core.specs.declared.answers.Back.TheVariants as back
-use Rattle.pool_core.specs.Slots.{Slots, is_among, ahead_of, has_to_wait, lends, take_answer, drains, unused}
+use Rattle.pool_core.specs.meaning.Slots.{Slots, is_among, ahead_of, has_to_wait, lends, take_answer, drains, unused}
 use Rattle.pool_core.specs.History.{Did, Took, GaveBack, held_after, waiters_after, draining_in}
 use Rattle.pool_core.specs.Runs.{Step, Run}
 use Rattle.pool_core.specs.Laws.{IsFairTake, TakesFairly, ClosesDraining, HoldsWhatIsTold}

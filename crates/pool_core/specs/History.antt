@@ -5,7 +5,7 @@ use Rattle.pool_core.specs.declared.answers.Take.{Take}
 use Rattle.pool_core.specs.declared.answers.Take.TheVariants as take
 use Rattle.pool_core.specs.declared.answers.Back.{Back}
 use Rattle.pool_core.specs.declared.answers.Back.TheVariants as back
-use Rattle.pool_core.specs.Slots.{without, joined}
+use Rattle.pool_core.specs.meaning.Slots.{without, joined}
 
 -- a call of a pool with its answer; one that was refused memory changes nothing and is left out
 pub data Did : Type 0 where

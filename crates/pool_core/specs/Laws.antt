@@ -4,7 +4,7 @@ use Rattle.pool_core.specs.declared.answers.Take.{Take}
 use Rattle.pool_core.specs.declared.answers.Take.TheVariants as take
 use Rattle.pool_core.specs.declared.answers.Back.{Back}
 use Rattle.pool_core.specs.declared.answers.Back.TheVariants as back
-use Rattle.pool_core.specs.Slots.{Slots, is_among, ahead_of, unused}
+use Rattle.pool_core.specs.meaning.Slots.{Slots, is_among, ahead_of, unused}
 use Rattle.pool_core.specs.History.{Did, Took, GaveBack, held_after, waiters_after, idle_after, out_after, opened_in, draining_in}
 use Rattle.pool_core.specs.Runs.{Run}
 

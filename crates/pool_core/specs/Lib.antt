@@ -1,4 +1,4 @@
 pub mod History
 pub mod Laws
 pub mod Runs
-pub mod Slots
+pub mod meaning

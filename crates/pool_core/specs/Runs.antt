@@ -1,6 +1,6 @@
 -- Runs of a pool: lists of calls that it may be given, with its answers.
 use Rattle.std.specs.Prelude.{◌≡◌, ◌<◌, ◌≤◌, false, List, [], ◌∷◌}
-use Rattle.pool_core.specs.Slots.{Slots, is_among, take_answer, after_take, give_back_answer, after_give_back, after_opened, after_lost, after_gone, after_leave, after_drain}
+use Rattle.pool_core.specs.meaning.Slots.{Slots, is_among, take_answer, after_take, give_back_answer, after_give_back, after_opened, after_lost, after_gone, after_leave, after_drain}
 use Rattle.pool_core.specs.History.{Did, Took, Opened, GaveBack, Lost, Gone, Left, Drained}
 
 -- the pool gives this answer and stands so afterwards

@@ -1,6 +1,6 @@
 //! The pool.
 ghost use Rattle.std.specs.Prelude.{length, ◌≡◌, ◌<◌, ◌≤◌, false, IfOk, OnOk, OnErr, IsTrue};
-ghost use Rattle.pool_core.specs.Slots.{unused, is_among, without, ahead_of, has_to_wait, take_answer, after_take, drains, give_back_answer, after_give_back, after_opened, after_lost, after_gone, after_leave, after_drain};
+ghost use Rattle.pool_core.specs.meaning.Slots.{unused, is_among, without, ahead_of, has_to_wait, take_answer, after_take, drains, give_back_answer, after_give_back, after_opened, after_lost, after_gone, after_leave, after_drain};
 ghost use Rattle.pool_core.specs.Laws.{TakesFairly, ClosesDraining, HoldsWhatIsTold};
 
 use crate::answers::{Back, Take};
@@ -27,7 +27,7 @@ pub struct Pool {
 
 impl Model for Pool {
     ghost use Rattle.std.specs.Prelude.{length, ◌+◌, ◌≤◌};
-    ghost use Rattle.pool_core.specs.Slots.{Slots};
+    ghost use Rattle.pool_core.specs.meaning.Slots.{Slots};
 
     ghost Value = { Slots };
 

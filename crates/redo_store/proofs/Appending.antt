@@ -5,7 +5,8 @@ use Rattle.disk_model.specs.Disk.{DiskState, Meanwhile}
 use Rattle.disk_model.specs.declared.disk.DiskFault.{DiskFault}
 use Rattle.disk_model.specs.declared.disk.DiskFault.TheVariants.{Failed, NoMemory}
 use Rattle.disk_model.proofs.Offered.{then, weaker, torn_with_bytes}
-use Rattle.redo_store.specs.Records.{length_bytes, records_of}
+use Rattle.redo_store.specs.meaning.Records.{records_of}
+use Rattle.redo_store.specs.Records.{length_bytes}
 use Rattle.redo_store.specs.Store.{IsStore, IsOldOrNew}
 use Rattle.redo_store.proofs.Gates.{tail_within, same_records, behind_gate, old_or_new}
 

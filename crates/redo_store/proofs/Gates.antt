@@ -6,7 +6,8 @@ use Rattle.std.proofs.lemmas.List.Elements.{All-push}
 use Rattle.std.proofs.lemmas.Bool.{cases_eq}
 use Rattle.disk_model.specs.Moment.{Torn, with_bytes}
 use Rattle.disk_model.proofs.Offered.{torn_before, torn_behind, torn_with_bytes, length-with_bytes}
-use Rattle.redo_store.specs.Records.{magic, length_bytes, records_of, spelling_of, with_last, record_count}
+use Rattle.redo_store.specs.meaning.Records.{magic, records_of}
+use Rattle.redo_store.specs.Records.{length_bytes, spelling_of, with_last, record_count}
 use Rattle.redo_store.specs.Store.{IsStore, IsOldOrNew}
 use Rattle.redo_store.proofs.Grammar.{length-length_bytes, read_image}
 

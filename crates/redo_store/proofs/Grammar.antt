@@ -5,7 +5,8 @@ use Rattle.std.proofs.lemmas.List.{take_at, drop_at}
 use Rattle.std.proofs.lemmas.Nat.{from_be_bytes-to_be_bytes_8}
 use Rattle.std.proofs.lemmas.Bool.{le-leb, ne_eqb}
 use Rattle.std.proofs.lemmas.List.Elements.{All-head, All-tail}
-use Rattle.redo_store.specs.Records.{magic, length_bytes, length_of, with_first, records_from, records_of, spelling_of}
+use Rattle.redo_store.specs.meaning.Records.{magic, length_of, with_first, records_from, records_of}
+use Rattle.redo_store.specs.Records.{length_bytes, spelling_of}
 
 pub length-length_bytes : (n : ℕ) → length (length_bytes n) ≡ 8
 unfolding length_bytes

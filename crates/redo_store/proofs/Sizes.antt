@@ -2,7 +2,8 @@
 use Rattle.std.proofs.Common.{◌≡◌, ℕ, zero, suc, ◌+◌, ◌≤◌, Bool, true, false, List, [], ◌∷◌, ◌++◌, length, take, drop, refl, ap, arith, length-append, length-take, length-drop}
 use Rattle.std.specs.Prelude.{◌==◌, Result, Ok, Err, if◌then◌else◌}
 use Rattle.std.specs.Str.{bytes_eq}
-use Rattle.redo_store.specs.Records.{magic, length_bytes, length_of, is_whole, payload_of, with_first, records_from, records_of, spelling_of}
+use Rattle.redo_store.specs.meaning.Records.{magic, length_of, is_whole, payload_of, with_first, records_from, records_of}
+use Rattle.redo_store.specs.Records.{length_bytes, spelling_of}
 use Rattle.redo_store.proofs.Grammar.{length-length_bytes}
 
 pub length-spelling_of : (payload : List ℕ) (payloads : List (List ℕ)) → length (spelling_of (payload ∷ payloads)) ≡ 9 + length payload + length (spelling_of payloads)

@@ -5,7 +5,8 @@ use Rattle.std.proofs.lemmas.List.{take_at, drop_at, drop-drop}
 use Rattle.std.proofs.lemmas.List.Elements.{All-head, All-tail, All-take}
 use Rattle.disk_model.specs.Disk.{DiskState}
 use Rattle.redo_store.specs.declared.redo.Redo.{Redo}
-use Rattle.redo_store.specs.Records.{magic, length_bytes, records_of, spelling_of}
+use Rattle.redo_store.specs.meaning.Records.{magic, records_of}
+use Rattle.redo_store.specs.Records.{length_bytes, spelling_of}
 use Rattle.redo_store.specs.Redo.{CanAppend, tail_of}
 use Rattle.redo_store.specs.Store.{IsStore}
 use Rattle.redo_store.specs.Gate.{HasRecord}

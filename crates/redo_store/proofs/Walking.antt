@@ -8,7 +8,8 @@ use Rattle.std.proofs.lemmas.Slice.Eq.{bytes_eq-Decides}
 use Rattle.std.proofs.lemmas.Bool.{false_from_ne_true, lt-leb}
 use Rattle.std.proofs.lemmas.Bool.Decides.{nat_tests}
 use Rattle.std.proofs.lemmas.List.Elements.{All-push}
-use Rattle.redo_store.specs.Records.{magic, length_bytes, length_of, is_whole, payload_of, with_first, records_from, records_of, whole_from, whole_records, spelling_of}
+use Rattle.redo_store.specs.meaning.Records.{magic, length_of, is_whole, payload_of, with_first, records_from, records_of, whole_from, whole_records}
+use Rattle.redo_store.specs.Records.{length_bytes, spelling_of}
 use Rattle.redo_store.specs.Store.{IsStore}
 use Rattle.redo_store.specs.Gate.{HasRecord, HasClosedGate}
 use Rattle.redo_store.specs.Walk.{with_firsts, StandsBehind}

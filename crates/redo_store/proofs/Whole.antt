@@ -4,7 +4,8 @@ use Rattle.std.specs.Prelude.{◌==◌, Result, Ok, Err, if◌then◌else◌}
 use Rattle.std.specs.Str.{bytes_eq}
 use Rattle.std.proofs.lemmas.List.{take_at, drop_at}
 use Rattle.std.proofs.lemmas.Bool.{le-leb}
-use Rattle.redo_store.specs.Records.{magic, length_bytes, length_of, is_whole, payload_of, with_first, records_from, records_of, whole_from, whole_records}
+use Rattle.redo_store.specs.meaning.Records.{magic, length_of, is_whole, payload_of, with_first, records_from, records_of, whole_from, whole_records}
+use Rattle.redo_store.specs.Records.{length_bytes}
 use Rattle.redo_store.proofs.Grammar.{length-length_bytes, length_of-length_bytes}
 
 -- one gate that is read

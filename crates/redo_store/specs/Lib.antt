@@ -3,3 +3,4 @@ pub mod Store
 pub mod Redo
 pub mod Walk
 pub mod Gate
+pub mod meaning

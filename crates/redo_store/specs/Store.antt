@@ -1,6 +1,7 @@
 -- What stands in the bytes of a store, and what a crash leaves of it.
 use Rattle.std.specs.Prelude.{◌≡◌, ◌≢◌, ◌⊎◌, ℕ, ◌+◌, ◌^◌, ◌<◌, List, ◌∷◌, ◌++◌, length, All}
-use Rattle.redo_store.specs.Records.{magic, spelling_of, records_of, with_last}
+use Rattle.redo_store.specs.meaning.Records.{magic, records_of}
+use Rattle.redo_store.specs.Records.{spelling_of, with_last}
 
 -- the image is a store, the records of which end at the closed gate at the tail
 pub record IsStore (tail : ℕ) (image : List ℕ) : Type 0 where

@@ -1,7 +1,8 @@
 -- How far a walk over the records of a store has come.
 use Rattle.std.specs.Prelude.{◌≡◌, ℕ, ◌+◌, ◌^◌, ◌<◌, ◌≤◌, List, ◌++◌, length, drop, Result, Ok, Err, All}
 use Rattle.redo_store.specs.declared.walk.Walk.{Walk}
-use Rattle.redo_store.specs.Records.{magic, spelling_of, records_from, records_of, whole_from, whole_records}
+use Rattle.redo_store.specs.meaning.Records.{magic, records_from, records_of, whole_from, whole_records}
+use Rattle.redo_store.specs.Records.{spelling_of}
 
 -- the place of the gate that it stands at
 abbrev pub place_of : Walk → ℕ

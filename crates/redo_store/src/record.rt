@@ -1,7 +1,8 @@
 //! A record's bytes, written and read.
 ghost use Rattle.std.specs.Prelude.{◌≡◌, ◌+◌, ◌≤◌, ◌<◌, ◌^◌, ◌++◌, ◌∷◌, [], ℕ, length, take, drop, OnOk, IfOk, IsErrOf, Err, MatchOption};
 ghost use Rattle.disk_model.specs.Disk.{OnlyReads};
-ghost use Rattle.redo_store.specs.Records.{magic, length_bytes, length_of, payload_in, records_from, whole_from};
+ghost use Rattle.redo_store.specs.meaning.Records.{magic, length_of, records_from, whole_from};
+ghost use Rattle.redo_store.specs.Records.{length_bytes, payload_in};
 ghost use Rattle.redo_store.specs.Gate.{HasRecord, HasClosedGate};
 
 use crate::fault::RedoFault;
@@ -49,7 +50,7 @@ pub fn body_of(mut made: Vec<u8>) -> Result<Vec<u8>, AllocError>
 }
 
 // The length that eight bytes spell.
-#[tactic(auto, unfolding(crate::specs::Records::length_of))]
+#[tactic(auto, unfolding(crate::specs::meaning::Records::length_of))]
 fn length_in(spelling: &[u8; 8]) -> u64
     ensures length { result ≡ length_of spelling.now }
     ensures spelling { length_bytes result ≡ spelling.now }

@@ -2,7 +2,8 @@
 ghost use Rattle.std.specs.Prelude.{◌≡◌, ◌+◌, ◌≤◌, ◌<◌, ◌++◌, ◌∷◌, [], ℕ, List, length, OnOk, IfOk, IsErrOf, Ok, Err, map, false, true, MatchOption, IfSome, IfNone};
 ghost use Rattle.disk_model.specs.Moment.{Torn, with_bytes};
 ghost use Rattle.disk_model.specs.Disk.{Meanwhile, IsSettled, Lowers, Caused, OnlyReads};
-ghost use Rattle.redo_store.specs.Records.{magic, payload_in, records_of, whole_records, with_last};
+ghost use Rattle.redo_store.specs.meaning.Records.{magic, records_of, whole_records};
+ghost use Rattle.redo_store.specs.Records.{payload_in, with_last};
 ghost use Rattle.redo_store.specs.Store.{IsOldOrNew};
 
 use crate::fault::RedoFault;

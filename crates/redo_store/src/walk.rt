@@ -1,7 +1,7 @@
 //! A walk over the records of a store, one by one.
 ghost use Rattle.std.specs.Prelude.{◌≡◌, ◌+◌, ◌≤◌, ◌<◌, [], ◌∷◌, ◌++◌, ℕ, List, length, map, take, OnErr, IfOk, IfSome, IfNone, IsErrOf, Ok, Err};
 ghost use Rattle.disk_model.specs.Disk.{DiskState, IsSettled, OnlyReads};
-ghost use Rattle.redo_store.specs.Records.{magic, records_of, whole_records};
+ghost use Rattle.redo_store.specs.meaning.Records.{magic, records_of, whole_records};
 
 use crate::fault::RedoFault;
 use crate::record::{MAGIC, check_magic};

@@ -6,9 +6,9 @@ use Rattle.std.proofs.lemmas.List.{drop_all}
 use Rattle.std.proofs.lemmas.Option.{slice_get_within, get_or_from_slice_get}
 use Rattle.std.proofs.lemmas.Slice.Eq.{bytes_eq-Decides}
 use Rattle.call_recorder.specs.declared.recorded.Recorded.{Recorded}
-use Rattle.client_model.specs.States.{Repeating, next_of}
-use Rattle.client_model.specs.Told.{repeated}
-use Rattle.client_model.specs.Verifying.{verified_more}
+use Rattle.client_model.specs.meaning.States.{Repeating, next_of}
+use Rattle.client_model.specs.meaning.Told.{repeated}
+use Rattle.client_model.specs.meaning.Verifying.{verified_more}
 use Rattle.replay_core.specs.Verifying.{is_done, verify_next, verify_if, VerifiesAll}
 
 -- the digests of the calls from this place on

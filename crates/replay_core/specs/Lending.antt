@@ -4,7 +4,7 @@ use Rattle.client_model.specs.contracts.track.Track.{the_row as track_row}
 use Rattle.replay_core.specs.contracts.live.Live.{the_row as live_row}
 use Rattle.replay_core.specs.contracts.told.Fresh.{the_row as fresh_row}
 use Rattle.client_model.specs.declared.track.Track.{Track}
-use Rattle.client_model.specs.States.{Living, Resuming}
+use Rattle.client_model.specs.meaning.States.{Living, Resuming}
 
 -- the state with another track, and the same identifier
 abbrev pub with_track : Living → Track → Living

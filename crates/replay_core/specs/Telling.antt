@@ -1,5 +1,5 @@
 -- What an answer's type tells.
-use Rattle.client_model.specs.Told as plain
+use Rattle.client_model.specs.meaning.Told as plain
 use Rattle.replay_core.specs.declared.told.Told.{Told}
 use Rattle.replay_core.specs.declared.told.Told.TheVariants as told
 

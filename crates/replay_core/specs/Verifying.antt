@@ -2,9 +2,9 @@
 use Rattle.std.specs.Prelude.{ℕ, ◌≡◌, ◌==◌, Bool, true, List, [], ◌∷◌, map, length, Option, Some, None, Result, Ok, Err, if◌then◌else◌}
 use Rattle.std.specs.Str.{bytes_eq}
 use Rattle.call_recorder.specs.declared.recorded.Recorded.{Recorded}
-use Rattle.client_model.specs.States.{Living, Asking, Repeating, next_of}
-use Rattle.client_model.specs.Told.{repeated}
-use Rattle.client_model.specs.Verifying.{submitted, verified_more}
+use Rattle.client_model.specs.meaning.States.{Living, Asking, Repeating, next_of}
+use Rattle.client_model.specs.meaning.Told.{repeated}
+use Rattle.client_model.specs.meaning.Verifying.{submitted, verified_more}
 
 -- all recorded calls were verified
 abbrev pub is_done : Repeating → Bool

@@ -1,8 +1,8 @@
 //! A request that asked for an outcome.
 ghost use Rattle.std.specs.Prelude.{◌≡◌, ◌≤◌, length};
 ghost use Rattle.request_bounds.specs.Limits.{IsPast};
-ghost use Rattle.client_model.specs.States.{lost_again};
-ghost use Rattle.client_model.specs.Told.{over as over_def, is_late as is_late_def, uncommitted as uncommitted_def, told_of};
+ghost use Rattle.client_model.specs.meaning.States.{lost_again};
+ghost use Rattle.client_model.specs.meaning.Told.{over as over_def, is_late as is_late_def, uncommitted as uncommitted_def, told_of};
 ghost use Rattle.replay_core.specs.Telling.{as_told};
 
 use crate::lost::Lost;
@@ -24,7 +24,7 @@ pub struct Asked {
 }
 
 impl Model for Asked {
-    ghost use Rattle.client_model.specs.States.{Asking};
+    ghost use Rattle.client_model.specs.meaning.States.{Asking};
 
     ghost Value = { Asking };
 

@@ -1,7 +1,7 @@
 //! A request on a session.
 ghost use Rattle.std.specs.Prelude.{◌≡◌, []};
 ghost use Rattle.std.specs.Borrow.{sem};
-ghost use Rattle.client_model.specs.States.{lost_by};
+ghost use Rattle.client_model.specs.meaning.States.{lost_by};
 ghost use Rattle.replay_core.specs.Lending.{LiveLends};
 
 use crate::held::Held;
@@ -18,7 +18,7 @@ pub struct Live {
 }
 
 impl Model for Live {
-    ghost use Rattle.client_model.specs.States.{Living};
+    ghost use Rattle.client_model.specs.meaning.States.{Living};
 
     ghost Value = { Living };
 

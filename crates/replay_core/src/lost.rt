@@ -1,6 +1,6 @@
 //! A request without a session.
 ghost use Rattle.std.specs.Prelude.{◌≡◌};
-ghost use Rattle.client_model.specs.States.{asked_on};
+ghost use Rattle.client_model.specs.meaning.States.{asked_on};
 
 use crate::asked::Asked;
 use client_model::Track;
@@ -17,7 +17,7 @@ pub struct Lost {
 }
 
 impl Model for Lost {
-    ghost use Rattle.client_model.specs.States.{Losing};
+    ghost use Rattle.client_model.specs.meaning.States.{Losing};
 
     ghost Value = { Losing };
 

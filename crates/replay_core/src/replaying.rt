@@ -2,8 +2,9 @@
 ghost use Rattle.std.specs.Prelude.{◌≡◌, ◌≤◌, ◌<◌, ◌+◌, ◌^◌, ◌↔◌, length, Some, IsSome, IsNone, IsTrue};
 ghost use Rattle.std.specs.Option.{option_copied};
 ghost use Rattle.call_recorder.specs.declared.recorded.Recorded.{Recorded};
-ghost use Rattle.client_model.specs.States.{IsRepeating, next_of, lost_in_replay};
-ghost use Rattle.client_model.specs.Verifying.{compared};
+ghost use Rattle.client_model.specs.meaning.States.{next_of, lost_in_replay};
+ghost use Rattle.client_model.specs.States.{IsRepeating};
+ghost use Rattle.client_model.specs.meaning.Verifying.{compared};
 ghost use Rattle.replay_core.specs.Verifying.{is_done, ready_of, VerifiesAll};
 
 use crate::live::Live;
@@ -23,7 +24,8 @@ pub struct Replaying {
 }
 
 impl Model for Replaying {
-    ghost use Rattle.client_model.specs.States.{Repeating, IsRepeating};
+    ghost use Rattle.client_model.specs.meaning.States.{Repeating};
+    ghost use Rattle.client_model.specs.States.{IsRepeating};
 
     ghost Value = { Repeating };
 
@@ -40,7 +42,7 @@ pub struct Ready {
 }
 
 impl Model for Ready {
-    ghost use Rattle.client_model.specs.States.{Living};
+    ghost use Rattle.client_model.specs.meaning.States.{Living};
 
     ghost Value = { Living };
 

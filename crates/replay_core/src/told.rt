@@ -1,7 +1,7 @@
 //! What an outcome leads to.
 ghost use Rattle.std.specs.Prelude.{◌≡◌};
 ghost use Rattle.std.specs.Borrow.{sem};
-ghost use Rattle.client_model.specs.States.{resumed};
+ghost use Rattle.client_model.specs.meaning.States.{resumed};
 ghost use Rattle.replay_core.specs.Lending.{FreshLends};
 
 use crate::live::Live;
@@ -21,7 +21,7 @@ pub struct Fresh {
 }
 
 impl Model for Fresh {
-    ghost use Rattle.client_model.specs.States.{Resuming};
+    ghost use Rattle.client_model.specs.meaning.States.{Resuming};
 
     ghost Value = { Resuming };
 

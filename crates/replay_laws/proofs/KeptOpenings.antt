@@ -14,19 +14,19 @@ use Rattle.server_model.specs.Seen.{Seen}
 use Rattle.client_model.specs.declared.act.Hold.{Hold}
 use Rattle.client_model.specs.declared.input.Input.{Input}
 use Rattle.client_model.specs.declared.input.Input.TheVariants.{Start, Waiting, Lent, Opened, TryFailed, Took, Gone}
-use Rattle.world_model.specs.Clients.{Step, Doing, Client, begun, client_at}
+use Rattle.world_model.specs.meaning.Clients.{Step, Doing, Client, begun, client_at}
 use Rattle.world_model.specs.records.Conversing.{AllTalk}
-use Rattle.world_model.specs.Frames.{Sent}
+use Rattle.world_model.specs.meaning.Frames.{Sent}
 use Rattle.world_model.specs.Orderly.{Orderly}
-use Rattle.world_model.specs.Links.{Link}
-use Rattle.world_model.specs.Machines.{Machine}
+use Rattle.world_model.specs.meaning.Links.{Link}
+use Rattle.world_model.specs.meaning.Machines.{Machine}
 use Rattle.world_model.specs.OneEvent.{OneEvent}
 use Rattle.replay_laws.specs.OpenedOnce.{opens_above, last_opened, rise_within, opened_once}
-use Rattle.world_model.specs.Outside.{closed_by_drain}
+use Rattle.world_model.specs.meaning.Outside.{closed_by_drain}
 use Rattle.world_model.specs.Reached.{Begins, GoesOn}
 use Rattle.world_model.specs.RunLaws.{RunsAreOrderly}
 use Rattle.invariant_laws.specs.SameLaws.{HoldsAtEnds, HoldsInRuns}
-use Rattle.world_model.specs.Settings.{Setting, setting_of}
+use Rattle.world_model.specs.meaning.Settings.{Setting, setting_of}
 use Rattle.world_model.specs.Traced.{Traced, Course, courses_of_clients}
 use Rattle.world_model.specs.Words.{brought}
 use Rattle.world_model.proofs.Offered.{HasStepped, GoesOn as StepGoesOn, AtOnce, LostToo, ClientStepsGrows as Grows, ClientStepsAsBefore as AsBefore, ClientStepsOneMore as OneMore, Brings, NoneNew, IdleOne, NewOne, MayStep, Still, Closed, Stepped, happens_step, all_step, Followed, follow_happens, at_event, doing_course, resting_none, moves_next_number as next_number, sent_lists, spoken_at, spoken, first_step, first_doing, finishing_reached}

@@ -12,21 +12,21 @@ use Rattle.svc_values.specs.declared.frame.Up.{Up}
 use Rattle.svc_values.specs.declared.frame.Up.TheVariants as up
 use Rattle.outage_schedule.specs.declared.document.Request.{Request}
 use Rattle.outage_schedule.specs.declared.request.ShownCall.{ShownCall}
-use Rattle.client_model.specs.States.{Repeating}
-use Rattle.client_model.specs.Terms.{Terms, Phase, Idle, Unbegun, Queued, Seeking, Greeting, Asked, Running, Replaying}
-use Rattle.client_model.specs.Verifying.{index_of}
+use Rattle.client_model.specs.meaning.States.{Repeating}
+use Rattle.client_model.specs.meaning.Terms.{Terms, Phase, Idle, Unbegun, Queued, Seeking, Greeting, Asked, Running, Replaying}
+use Rattle.client_model.specs.meaning.Verifying.{index_of}
 use Rattle.client_model.proofs.Offered.{Fits}
-use Rattle.world_model.specs.Acting.{frames_of, sent_by, call_in, owner_at}
-use Rattle.world_model.specs.Clients.{Step, Doing, Client, begun, client_at, past_of}
+use Rattle.world_model.specs.meaning.Acting.{frames_of, sent_by, call_in, owner_at}
+use Rattle.world_model.specs.meaning.Clients.{Step, Doing, Client, begun, client_at, past_of}
 use Rattle.world_model.specs.records.Conversing.{AllTalk, Talks}
-use Rattle.world_model.specs.Frames.{Owner, Sent}
-use Rattle.world_model.specs.Links.{Link}
-use Rattle.world_model.specs.Machines.{Machine}
+use Rattle.world_model.specs.meaning.Frames.{Owner, Sent}
+use Rattle.world_model.specs.meaning.Links.{Link}
+use Rattle.world_model.specs.meaning.Machines.{Machine}
 use Rattle.world_model.specs.Parts.{implies}
 use Rattle.invariant_laws.specs.Replayed.{shown_at, is_repeated, opens, repeats_from, is_replayed, replays_on, replay_shown}
 use Rattle.world_model.specs.Sames.{owned_by, same_owner}
 use Rattle.world_model.specs.records.Script.{recorded_from, same_digests}
-use Rattle.world_model.specs.Settings.{Setting}
+use Rattle.world_model.specs.meaning.Settings.{Setting}
 use Rattle.invariant_laws.specs.Shown.{is_marked}
 use Rattle.world_model.specs.Traced.{Traced, Course, course_now, course_over, courses_of_clients, courses_of}
 use Rattle.world_model.proofs.Offered.{append_all, weaker_all, map_all, HasStepped, ClientStepsGrows as Grows, ClientStepsAsBefore as AsBefore, ClientStepsOneMore as OneMore, doing_strange, other_owner, records, IsRuled, sent_lists, spoken_at, spoken, account_now, first_step, first_doing, first_talks_on, first_fits, step_owner, request_after, behind_first, is_next, frame_fits, frames_fit, MayStep, Still, Closed, Stepped, happens_step, HasMore, all_step, Followed, follow_happens, at_event, doing_course, ruled, is_strange, FitsNow, finishing_reached}
@@ -36,15 +36,15 @@ use Rattle.outage_schedule.specs.declared.item.Served.{Served}
 use Rattle.outage_schedule.specs.declared.note.Note.{Note}
 use Rattle.server_model.specs.Seen.{Seen}
 use Rattle.client_model.specs.Laws.{track_of}
-use Rattle.run_clauses.specs.Reports.{shown_call}
+use Rattle.run_clauses.specs.meaning.Reports.{shown_call}
 use Rattle.world_model.specs.Orderly.{Orderly}
 use Rattle.world_model.specs.OneEvent.{OneEvent}
-use Rattle.world_model.specs.Outside.{closed_by_drain}
+use Rattle.world_model.specs.meaning.Outside.{closed_by_drain}
 use Rattle.world_model.specs.Reached.{traced_start, Begins, GoesOn}
 use Rattle.world_model.specs.RunLaws.{RunsAreOrderly}
 use Rattle.invariant_laws.specs.SameLaws.{HoldsAtEnds, HoldsInRuns}
 use Rattle.world_model.specs.records.Script.{owned_rightly}
-use Rattle.world_model.specs.Settings.{setting_of}
+use Rattle.world_model.specs.meaning.Settings.{setting_of}
 use Rattle.world_model.specs.Words.{held_in}
 use Rattle.replay_laws.proofs.ReplayPhases.{is_replay_phase}
 

@@ -8,9 +8,9 @@ use Rattle.std.proofs.lemmas.Bool.Decides.{nat_tests}
 use Rattle.outage_schedule.specs.declared.document.Request.{Request}
 use Rattle.client_model.specs.declared.input.Input.{Input}
 use Rattle.client_model.specs.declared.input.Input.TheVariants.{Start, Waiting, Lent, Opened, TryFailed, Took, Gone}
-use Rattle.client_model.specs.Terms.{Terms}
-use Rattle.world_model.specs.Clients.{Step}
-use Rattle.world_model.specs.Links.{Link, link_at}
+use Rattle.client_model.specs.meaning.Terms.{Terms}
+use Rattle.world_model.specs.meaning.Clients.{Step}
+use Rattle.world_model.specs.meaning.Links.{Link, link_at}
 use Rattle.replay_laws.specs.OpenedOnce.{opens_above, last_opened, rise_within, opened_once}
 use Rattle.world_model.specs.Parts.{implies}
 use Rattle.invariant_laws.specs.Replayed.{shown_at, is_repeated, opens, repeats_from, is_replayed, replays_on, replay_shown, before_opening, RunsReplayShown}

@@ -3,15 +3,16 @@ use Rattle.std.proofs.Common.{◌≡◌, refl, sym, ap, subst, ◌∙◌, append
 use Rattle.std.proofs.lemmas.List.{map-append}
 use Rattle.std.proofs.lemmas.List.Sums.{fold-append}
 use Rattle.outage_schedule.specs.declared.document.Request.{Request}
-use Rattle.client_model.specs.Account.{Account, account_of, unheard, hears, shows, after_step}
-use Rattle.client_model.specs.Conversation.{Done, done_at, steps_of, talk_after, talk_at}
+use Rattle.client_model.specs.meaning.Account.{Account, account_of, unheard, hears, shows, after_step}
+use Rattle.client_model.specs.meaning.Conversation.{Done, done_at, talk_at}
+use Rattle.client_model.specs.Conversation.{steps_of, talk_after}
 use Rattle.client_model.specs.declared.act.Shown.{Shown}
 use Rattle.client_model.specs.declared.input.Input.{Input}
 use Rattle.client_model.specs.declared.input.Input.TheVariants.{Opened}
-use Rattle.client_model.specs.Talk.{talk_step}
-use Rattle.client_model.specs.Terms.{Terms, Talk}
-use Rattle.run_clauses.specs.Reports.{shown_call}
-use Rattle.world_model.specs.Clients.{Step, Doing}
+use Rattle.client_model.specs.meaning.Talk.{talk_step}
+use Rattle.client_model.specs.meaning.Terms.{Terms, Talk}
+use Rattle.run_clauses.specs.meaning.Reports.{shown_call}
+use Rattle.world_model.specs.meaning.Clients.{Step, Doing}
 use Rattle.world_model.specs.records.Conversing.{Talks, connected, connection_after, first_talk, inputs_of, timed}
 use Rattle.invariant_laws.specs.Replayed.{shown_at}
 use Rattle.world_model.specs.Words.{dones_of}

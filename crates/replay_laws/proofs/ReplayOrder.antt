@@ -7,17 +7,17 @@ use Rattle.std.proofs.lemmas.Bool.{and_parts, or_cases}
 use Rattle.std.proofs.lemmas.Bool.Decides.{nat_tests}
 use Rattle.svc_values.specs.declared.frame.Up.{Up}
 use Rattle.svc_values.specs.declared.frame.Up.TheVariants as up
-use Rattle.svc_values.specs.Same.{same_bool}
+use Rattle.svc_values.specs.meaning.Same.{same_bool}
 use Rattle.svc_values.specs.SameLaws.{same_bool_decides}
 use Rattle.outage_schedule.specs.declared.request.RequestReport.{RequestReport}
 use Rattle.outage_schedule.specs.declared.request.ShownCall.{ShownCall}
 use Rattle.invariant_laws.specs.Begins.{is_begin_frame, begin_in, follows_begin, followed_at_once, begins_followed}
-use Rattle.world_model.specs.Clients.{Step}
+use Rattle.world_model.specs.meaning.Clients.{Step}
 use Rattle.invariant_laws.specs.FirstCalls.{is_behind_decided, begins_behind, begins_on}
-use Rattle.world_model.specs.Frames.{Sent}
+use Rattle.world_model.specs.meaning.Frames.{Sent}
 use Rattle.invariant_laws.specs.Invariant.{Invariant}
 use Rattle.invariant_laws.specs.KeptLaws.{RunsKeepInvariant}
-use Rattle.world_model.specs.Links.{Link, link_at}
+use Rattle.world_model.specs.meaning.Links.{Link, link_at}
 use Rattle.world_model.specs.Parts.{implies}
 use Rattle.invariant_laws.specs.Replayed.{shown_at, is_repeated, before_opening, is_from_opening, RunsReplayShown, IsRepeat, RunsRepeatInOrder}
 use Rattle.world_model.specs.Sames.{is_of, owned_by, same_owners}

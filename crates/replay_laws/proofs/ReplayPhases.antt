@@ -18,12 +18,12 @@ use Rattle.client_model.specs.declared.input.Input.{Input}
 use Rattle.client_model.specs.declared.input.Input.TheVariants.{Start, Waiting, Lent, Opened, TryFailed, Took, Gone}
 use Rattle.client_model.specs.declared.track.Mismatch.{Mismatch}
 use Rattle.client_model.specs.declared.track.Over.{Over}
-use Rattle.client_model.specs.States.{Living, Losing, Asking, Repeating, next_of, resumed}
-use Rattle.client_model.specs.Talk.{Step, begin_of, loses, talk_shown, with_shown, stands, quiet, fails, with_tried, lost_of, on_waiting, waits_from, on_try_failed, sends_or_ends, next_call, on_hello, on_reply, sends_marked, on_compared, on_repeated, after_completed, on_completed, on_told, takes, talk_step}
-use Rattle.client_model.specs.Terms.{Terms, Talk, unsubmitted, Phase, Idle, Unbegun, Queued, Seeking, Greeting, Asked, Running, Replaying}
-use Rattle.client_model.specs.Told.{Told, told_of}
-use Rattle.client_model.specs.Told as told
-use Rattle.client_model.specs.Verifying.{compared, submitted}
+use Rattle.client_model.specs.meaning.States.{Living, Losing, Asking, Repeating, next_of, resumed}
+use Rattle.client_model.specs.meaning.Talk.{Step, begin_of, loses, talk_shown, with_shown, stands, quiet, fails, with_tried, lost_of, on_waiting, waits_from, on_try_failed, sends_or_ends, next_call, on_hello, on_reply, sends_marked, on_compared, on_repeated, after_completed, on_completed, on_told, takes, talk_step}
+use Rattle.client_model.specs.meaning.Terms.{Terms, Talk, unsubmitted, Phase, Idle, Unbegun, Queued, Seeking, Greeting, Asked, Running, Replaying}
+use Rattle.client_model.specs.meaning.Told.{Told, told_of}
+use Rattle.client_model.specs.meaning.Told as told
+use Rattle.client_model.specs.meaning.Verifying.{compared, submitted}
 
 -- on the way to the calls that are repeated, or at them
 abbrev pub is_replay_phase : Phase → Bool

@@ -10,16 +10,16 @@ use Rattle.std.proofs.lemmas.List.{map-append}
 use Rattle.std.proofs.lemmas.List.Sums.{fold-append}
 use Rattle.svc_values.specs.declared.frame.Up.{Up}
 use Rattle.svc_values.specs.declared.frame.Up.TheVariants as up
-use Rattle.request_bounds.specs.Replies.{ends_decided}
+use Rattle.request_bounds.specs.meaning.Replies.{ends_decided}
 use Rattle.outage_schedule.specs.declared.document.Request.{Request}
 use Rattle.outage_schedule.specs.declared.request.ShownCall.{ShownCall}
-use Rattle.client_model.specs.Account.{Account, account_of, unheard, after_step}
-use Rattle.client_model.specs.Conversation.{Done}
-use Rattle.client_model.specs.Terms.{Terms}
-use Rattle.run_clauses.specs.Reports.{shown_call}
-use Rattle.world_model.specs.Clients.{Step}
+use Rattle.client_model.specs.meaning.Account.{Account, account_of, unheard, after_step}
+use Rattle.client_model.specs.meaning.Conversation.{Done}
+use Rattle.client_model.specs.meaning.Terms.{Terms}
+use Rattle.run_clauses.specs.meaning.Reports.{shown_call}
+use Rattle.world_model.specs.meaning.Clients.{Step}
 use Rattle.invariant_laws.specs.FirstCalls.{is_behind_decided}
-use Rattle.world_model.specs.Frames.{Owner, Sent}
+use Rattle.world_model.specs.meaning.Frames.{Owner, Sent}
 use Rattle.invariant_laws.specs.Replayed.{shown_at, opens, before_opening}
 use Rattle.world_model.specs.Sames.{is_of, owned_by}
 use Rattle.world_model.specs.records.Script.{behind_decided, recorded_from}

@@ -3,7 +3,7 @@ use Rattle.std.specs.Prelude.{ℕ, ◌&&◌, Bool, true, nat_le, nat_lt, List, [
 use Rattle.std.specs.List.{list_all}
 use Rattle.client_model.specs.declared.input.Input.{Input}
 use Rattle.client_model.specs.declared.input.Input.TheVariants.{Opened}
-use Rattle.world_model.specs.Clients.{Step}
+use Rattle.world_model.specs.meaning.Clients.{Step}
 use Rattle.world_model.specs.Traced.{Traced, courses_of}
 
 -- if a connection is opened, it is behind this one

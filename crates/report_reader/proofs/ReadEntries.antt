@@ -4,17 +4,18 @@ use Rattle.std.specs.Prelude.{⊤}
 use Rattle.std.specs.List.{list_all}
 use Rattle.serde_json.specs.Data.{Data}
 use Rattle.json_form.specs.declared.hexadecimal.Digits.TheVariants as digits
-use Rattle.json_form.specs.Faults.{Fault, ◌>>=◌, within}
-use Rattle.json_form.specs.Pointers.{escaped}
-use Rattle.json_form.specs.Values.{items_of, bool_of}
-use Rattle.json_form.specs.Arrays.{Placed, each_of, fixed, part}
-use Rattle.json_form.specs.Objects.{Named, object_with, all_there, required, member_in}
+use Rattle.json_form.specs.meaning.Faults.{Fault, ◌>>=◌, within}
+use Rattle.json_form.specs.meaning.Pointers.{escaped}
+use Rattle.json_form.specs.meaning.Values.{items_of, bool_of}
+use Rattle.json_form.specs.meaning.Arrays.{Placed, each_of, fixed, part}
+use Rattle.json_form.specs.meaning.Objects.{Named, object_with, required}
+use Rattle.json_form.specs.Objects.{all_there, member_in}
 use Rattle.svc_values.specs.declared.call.Call.{Call}
 use Rattle.svc_values.specs.declared.entry.Entry.{Entry}
 use Rattle.svc_values.specs.declared.entry.Ltxid.{Ltxid}
 use Rattle.svc_values.specs.declared.entry.Piece.{Piece}
-use Rattle.svc_values.specs.Calls.{is_made}
-use Rattle.svc_values.specs.SettingsList.{NamedValues}
+use Rattle.svc_values.specs.meaning.Calls.{is_made}
+use Rattle.svc_values.specs.meaning.SettingsList.{NamedValues}
 use Rattle.json_form.proofs.Offered.{after, ok_is, within_ok, part_read, all_read, both_true}
 use Rattle.call_forms.proofs.Offered.{call_read}
 use Rattle.report_reader.specs.Parts.{identifier_in, settings_in, call_in}

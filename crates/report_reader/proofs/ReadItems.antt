@@ -5,10 +5,10 @@ use Rattle.std.specs.Option.{option_map_or}
 use Rattle.serde_json.specs.Data.{Data, Items}
 use Rattle.serde_json.specs.Events.{items_len}
 use Rattle.json_form.specs.declared.fault.DocCode.TheVariants.{Rule}
-use Rattle.json_form.specs.Faults.{Fault, ◌>>=◌, here}
-use Rattle.json_form.specs.Values.{items_of, bool_of, whole_of}
-use Rattle.json_form.specs.Texts.{head_of, word_of}
-use Rattle.json_form.specs.Arrays.{Placed, placed, each_after, fixed, part}
+use Rattle.json_form.specs.meaning.Faults.{Fault, ◌>>=◌, here}
+use Rattle.json_form.specs.meaning.Values.{items_of, bool_of, whole_of}
+use Rattle.json_form.specs.meaning.Texts.{head_of, word_of}
+use Rattle.json_form.specs.meaning.Arrays.{Placed, placed, each_after, fixed, part}
 use Rattle.svc_values.specs.declared.call.Call.{Call}
 use Rattle.outage_schedule.specs.declared.item.Item.{Item}
 use Rattle.outage_schedule.specs.declared.item.Item.TheVariants as item

@@ -4,9 +4,11 @@ use Rattle.std.specs.Prelude.{IfOk}
 use Rattle.std.specs.List.{list_all}
 use Rattle.serde_json.specs.Data.{Data}
 use Rattle.json_form.specs.declared.fault.DocFault.{DocFault}
-use Rattle.json_form.specs.Faults.{Fault, Gives, ◌>>=◌}
-use Rattle.json_form.specs.Values.{whole_of}
-use Rattle.json_form.specs.Objects.{Named, member_in, optional}
+use Rattle.json_form.specs.meaning.Faults.{Fault, ◌>>=◌}
+use Rattle.json_form.specs.Faults.{Gives}
+use Rattle.json_form.specs.meaning.Values.{whole_of}
+use Rattle.json_form.specs.meaning.Objects.{Named, optional}
+use Rattle.json_form.specs.Objects.{member_in}
 use Rattle.outage_schedule.specs.declared.document.Document.{Document}
 use Rattle.outage_schedule.specs.declared.note.Note.{Note}
 use Rattle.outage_schedule.specs.declared.report.Report.{Report}

@@ -4,12 +4,13 @@ use Rattle.std.specs.List.{last_or}
 use Rattle.std.specs.Map.{keys_of}
 use Rattle.serde_json.specs.Data.{Data}
 use Rattle.json_form.specs.declared.fault.DocCode.TheVariants.{Rule}
-use Rattle.json_form.specs.Faults.{Fault, ◌>>=◌, here, within_item}
-use Rattle.json_form.specs.Values.{items_of}
-use Rattle.json_form.specs.Arrays.{Placed, each_after, fixed, part}
+use Rattle.json_form.specs.meaning.Faults.{Fault, ◌>>=◌, here, within_item}
+use Rattle.json_form.specs.meaning.Values.{items_of}
+use Rattle.json_form.specs.meaning.Arrays.{Placed, each_after, fixed, part}
 use Rattle.svc_values.specs.declared.value.Value.{Value}
-use Rattle.svc_values.specs.SettingsList.{NamedValues, rises, last_name}
-use Rattle.call_forms.specs.Values.{name_of}
+use Rattle.svc_values.specs.meaning.SettingsList.{NamedValues, rises}
+use Rattle.svc_values.specs.SettingsList.{last_name}
+use Rattle.call_forms.specs.meaning.Values.{name_of}
 use Rattle.json_form.proofs.Offered.{after, ok_is, within_ok, passed, each_keeps, first_true, second_true, both_true}
 use Rattle.report_reader.specs.Parts.{value_in, if_rising, setting_in, settings_in}
 use Rattle.report_reader.specs.Keeping.{names_rise}

@@ -3,9 +3,11 @@ use Rattle.std.proofs.Common.{◌≡◌, ℕ, List, [], ◌∷◌, ◌++◌, Boo
 use Rattle.std.specs.List.{last_or}
 use Rattle.std.specs.Option.{option_map_or}
 use Rattle.std.specs.Str.{bytes_eq}
-use Rattle.json_form.specs.Arrays.{Placed, taken_at}
-use Rattle.json_form.specs.Faults.{◌>>=◌}
-use Rattle.json_form.specs.Objects.{Named, without}
+use Rattle.json_form.specs.meaning.Arrays.{Placed}
+use Rattle.json_form.specs.Arrays.{taken_at}
+use Rattle.json_form.specs.meaning.Faults.{◌>>=◌}
+use Rattle.json_form.specs.meaning.Objects.{Named}
+use Rattle.json_form.specs.Objects.{without}
 use Rattle.json_form.proofs.Offered.{others_stay}
 use Rattle.outage_schedule.specs.declared.item.Served.{Served}
 use Rattle.report_reader.specs.declared.go.GoWord.{GoWord}

@@ -4,16 +4,16 @@ use Rattle.std.specs.Str.{bytes_eq}
 use Rattle.serde_json.specs.Data.{Data}
 use Rattle.serde_json.specs.Find.{as_str}
 use Rattle.json_form.specs.declared.fault.DocCode.TheVariants.{Unknown}
-use Rattle.json_form.specs.Faults.{Fault, ◌>>=◌, here, within}
-use Rattle.json_form.specs.Values.{members_of, whole_of, integer_of}
-use Rattle.json_form.specs.Texts.{chosen}
-use Rattle.json_form.specs.Arrays.{each_of, array_of, list_of}
+use Rattle.json_form.specs.meaning.Faults.{Fault, ◌>>=◌, here, within}
+use Rattle.json_form.specs.meaning.Values.{members_of, whole_of, integer_of}
+use Rattle.json_form.specs.meaning.Texts.{chosen}
+use Rattle.json_form.specs.meaning.Arrays.{each_of, array_of, list_of}
 use Rattle.svc_values.specs.declared.value.Value.{Value}
 use Rattle.svc_values.specs.declared.answer.Answer.{Answer}
 use Rattle.svc_values.specs.declared.answer.Answer.TheVariants as answer
 use Rattle.svc_values.specs.declared.answer.StatementFault.{StatementFault}
 use Rattle.svc_values.specs.declared.answer.StatementFault.TheVariants as fault
-use Rattle.call_forms.specs.Values.{only_member}
+use Rattle.call_forms.specs.meaning.Values.{only_member}
 use Rattle.report_reader.specs.declared.answer.AnswerWord.{AnswerWord}
 use Rattle.report_reader.specs.declared.answer.AnswerWord.TheVariants as word
 use Rattle.report_reader.specs.Parts.{number_in, row_in}

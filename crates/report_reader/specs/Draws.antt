@@ -1,13 +1,13 @@
 -- Values that calls drew.
 use Rattle.std.specs.Prelude.{ℕ, List, [], ◌∷◌, Result, Ok, codes}
 use Rattle.serde_json.specs.Data.{Data}
-use Rattle.json_form.specs.Faults.{Fault, ◌>>=◌}
-use Rattle.json_form.specs.Values.{integer_of}
-use Rattle.json_form.specs.Texts.{head_of}
-use Rattle.json_form.specs.Arrays.{each_of, list_of, fixed, part}
+use Rattle.json_form.specs.meaning.Faults.{Fault, ◌>>=◌}
+use Rattle.json_form.specs.meaning.Values.{integer_of}
+use Rattle.json_form.specs.meaning.Texts.{head_of}
+use Rattle.json_form.specs.meaning.Arrays.{each_of, list_of, fixed, part}
 use Rattle.svc_values.specs.declared.draw.Draw.{Draw}
 use Rattle.svc_values.specs.declared.draw.Draw.TheVariants as draw
-use Rattle.call_forms.specs.Values.{name_of}
+use Rattle.call_forms.specs.meaning.Values.{name_of}
 use Rattle.report_reader.specs.declared.draw.DrawWord.{DrawWord}
 use Rattle.report_reader.specs.declared.draw.DrawWord.TheVariants as word
 use Rattle.report_reader.specs.Parts.{number_in, octets_in}

@@ -5,10 +5,10 @@ use Rattle.std.specs.Option.{option_map_or}
 use Rattle.serde_json.specs.Data.{Data}
 use Rattle.serde_json.specs.Events.{items_len}
 use Rattle.json_form.specs.declared.fault.DocCode.TheVariants.{Rule}
-use Rattle.json_form.specs.Faults.{Fault, ◌>>=◌, here}
-use Rattle.json_form.specs.Values.{items_of, bool_of, whole_of}
-use Rattle.json_form.specs.Texts.{word_of, head_of}
-use Rattle.json_form.specs.Arrays.{Placed, placed, each_after, list_of, fixed, part}
+use Rattle.json_form.specs.meaning.Faults.{Fault, ◌>>=◌, here}
+use Rattle.json_form.specs.meaning.Values.{items_of, bool_of, whole_of}
+use Rattle.json_form.specs.meaning.Texts.{word_of, head_of}
+use Rattle.json_form.specs.meaning.Arrays.{Placed, placed, each_after, list_of, fixed, part}
 use Rattle.outage_schedule.specs.declared.item.Item.{Item}
 use Rattle.outage_schedule.specs.declared.item.Item.TheVariants as item
 use Rattle.outage_schedule.specs.declared.item.Served.{Served}

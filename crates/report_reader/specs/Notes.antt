@@ -4,10 +4,10 @@ use Rattle.std.specs.Prelude.{ℕ, ◌+◌, ◌==◌, Bool, true, false, not, Li
 use Rattle.serde_json.specs.Data.{Data}
 use Rattle.serde_json.specs.Find.{as_str}
 use Rattle.serde_json.specs.Events.{items_len}
-use Rattle.json_form.specs.Faults.{Fault, ◌>>=◌}
-use Rattle.json_form.specs.Values.{items_of, whole_of}
-use Rattle.json_form.specs.Texts.{word_of, head_of}
-use Rattle.json_form.specs.Arrays.{Placed, placed, each_of, list_of, fixed, part}
+use Rattle.json_form.specs.meaning.Faults.{Fault, ◌>>=◌}
+use Rattle.json_form.specs.meaning.Values.{items_of, whole_of}
+use Rattle.json_form.specs.meaning.Texts.{word_of, head_of}
+use Rattle.json_form.specs.meaning.Arrays.{Placed, placed, each_of, list_of, fixed, part}
 use Rattle.outage_schedule.specs.declared.note.FrameName.{FrameName}
 use Rattle.outage_schedule.specs.declared.note.FrameName.TheVariants as frame
 use Rattle.outage_schedule.specs.declared.note.GoNote.{GoNote}

@@ -3,17 +3,18 @@ use Rattle.std.specs.Prelude.{ℕ, ◌^◌, ◌-◌, ◌==◌, List, [], length,
 use Rattle.serde_json.specs.Data.{Data}
 use Rattle.json_form.specs.declared.fault.DocCode.TheVariants.{WrongKind, Rule}
 use Rattle.json_form.specs.declared.hexadecimal.Digits.TheVariants as digits
-use Rattle.json_form.specs.Faults.{Fault, ◌>>=◌, here, within_item}
-use Rattle.json_form.specs.Values.{whole_of}
-use Rattle.json_form.specs.Texts.{octets_of}
-use Rattle.json_form.specs.Arrays.{each_of, each_after, array_of, list_of, fixed, part}
+use Rattle.json_form.specs.meaning.Faults.{Fault, ◌>>=◌, here, within_item}
+use Rattle.json_form.specs.meaning.Values.{whole_of}
+use Rattle.json_form.specs.meaning.Texts.{octets_of}
+use Rattle.json_form.specs.meaning.Arrays.{each_of, each_after, array_of, list_of, fixed, part}
 use Rattle.svc_values.specs.declared.value.Value.{Value}
 use Rattle.svc_values.specs.declared.call.Call.{Call}
 use Rattle.svc_values.specs.declared.entry.Ltxid.{Ltxid}
 use Rattle.svc_values.specs.declared.entry.SessionId.{SessionId}
-use Rattle.svc_values.specs.SettingsList.{NamedValues, rises, last_name}
-use Rattle.call_forms.specs.Values.{in_limits, name_of, value_of}
-use Rattle.call_forms.specs.Calls.{call_of}
+use Rattle.svc_values.specs.meaning.SettingsList.{NamedValues, rises}
+use Rattle.svc_values.specs.SettingsList.{last_name}
+use Rattle.call_forms.specs.meaning.Values.{in_limits, name_of, value_of}
+use Rattle.call_forms.specs.meaning.Calls.{call_of}
 
 -- a number of 64 bits without a sign
 abbrev pub number_in : Data → Result ℕ Fault

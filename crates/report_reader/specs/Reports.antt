@@ -3,12 +3,13 @@ use Rattle.std.specs.Prelude.{ℕ, ◌^◌, ◌-◌, Bool, true, false, List, []
 use Rattle.serde_json.specs.Data.{Data}
 use Rattle.json_form.specs.declared.fault.DocCode.TheVariants.{BadReport}
 use Rattle.json_form.specs.declared.hexadecimal.Digits.TheVariants as digits
-use Rattle.json_form.specs.Faults.{Fault, ◌>>=◌}
-use Rattle.json_form.specs.Values.{whole_of}
-use Rattle.json_form.specs.Texts.{octets_of}
-use Rattle.json_form.specs.Arrays.{each_of, list_of}
-use Rattle.json_form.specs.Objects.{Named, object_with, all_there, member_in, optional}
-use Rattle.call_forms.specs.Values.{line_of}
+use Rattle.json_form.specs.meaning.Faults.{Fault, ◌>>=◌}
+use Rattle.json_form.specs.meaning.Values.{whole_of}
+use Rattle.json_form.specs.meaning.Texts.{octets_of}
+use Rattle.json_form.specs.meaning.Arrays.{each_of, list_of}
+use Rattle.json_form.specs.meaning.Objects.{Named, object_with, optional}
+use Rattle.json_form.specs.Objects.{all_there, member_in}
+use Rattle.call_forms.specs.meaning.Values.{line_of}
 use Rattle.outage_schedule.specs.declared.document.Document.{Document}
 use Rattle.outage_schedule.specs.declared.report.Report.{Report}
 use Rattle.report_reader.specs.declared.report.Front.{Front}

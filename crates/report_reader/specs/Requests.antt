@@ -1,10 +1,11 @@
 -- What the requests of clients were shown.
 use Rattle.std.specs.Prelude.{ℕ, List, [], ◌∷◌, Result, Ok, codes}
 use Rattle.serde_json.specs.Data.{Data}
-use Rattle.json_form.specs.Faults.{Fault, ◌>>=◌}
-use Rattle.json_form.specs.Values.{bool_of}
-use Rattle.json_form.specs.Arrays.{each_of, list_of, fixed, part}
-use Rattle.json_form.specs.Objects.{object_with, all_there, member_in}
+use Rattle.json_form.specs.meaning.Faults.{Fault, ◌>>=◌}
+use Rattle.json_form.specs.meaning.Values.{bool_of}
+use Rattle.json_form.specs.meaning.Arrays.{each_of, list_of, fixed, part}
+use Rattle.json_form.specs.meaning.Objects.{object_with}
+use Rattle.json_form.specs.Objects.{all_there, member_in}
 use Rattle.svc_values.specs.declared.entry.Ltxid.{Ltxid}
 use Rattle.outage_schedule.specs.declared.request.ShownCall.{ShownCall}
 use Rattle.outage_schedule.specs.declared.request.Outcome.{Outcome}

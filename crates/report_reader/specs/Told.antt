@@ -1,8 +1,8 @@
 -- What the outcome of an identifier is told to be.
 use Rattle.std.specs.Prelude.{ℕ, List, [], ◌∷◌, Option, Some, None, Result, Ok, codes}
-use Rattle.json_form.specs.Faults.{Fault, ◌>>=◌}
-use Rattle.json_form.specs.Values.{bool_of}
-use Rattle.json_form.specs.Arrays.{Placed, part}
+use Rattle.json_form.specs.meaning.Faults.{Fault, ◌>>=◌}
+use Rattle.json_form.specs.meaning.Values.{bool_of}
+use Rattle.json_form.specs.meaning.Arrays.{Placed, part}
 use Rattle.outage_schedule.specs.declared.note.AskResult.{AskResult}
 use Rattle.outage_schedule.specs.declared.note.AskResult.TheVariants as told
 use Rattle.report_reader.specs.declared.told.ToldWord.{ToldWord}

@@ -2,7 +2,7 @@
 ghost use Rattle.std.specs.Prelude.{◌≡◌};
 ghost use Rattle.serde_json.specs.View.{view};
 ghost use Rattle.json_form.specs.Faults.{Gives};
-ghost use Rattle.json_form.specs.Texts.{word_of};
+ghost use Rattle.json_form.specs.meaning.Texts.{word_of};
 ghost use Rattle.json_form.specs.Arrays.{parts_at};
 ghost use Rattle.report_reader.specs.Notes.{go_words, go_count, sent_by, go_by as go_by_def, go_in};
 

@@ -2,7 +2,8 @@
 ghost use Rattle.std.specs.Prelude.{◌≡◌, [], IfOk};
 ghost use Rattle.serde_json.specs.View.{view, items_view};
 ghost use Rattle.json_form.specs.Faults.{Gives, GivesBy};
-ghost use Rattle.json_form.specs.Arrays.{count_at, parts_at, taken_at, each_after};
+ghost use Rattle.json_form.specs.meaning.Arrays.{each_after};
+ghost use Rattle.json_form.specs.Arrays.{count_at, parts_at, taken_at};
 ghost use Rattle.report_reader.specs.Items.{is_of_frame as is_of_frame_def, may_stand as may_stand_def, fits_event as fits_event_def, last_event, event_in, place_in, served_at as served_at_def, bare_in, begin_in, answered_in, blocked_in, told_in, refused_in, stopped_outcome_in, stopped_call_in, crashed_in, served_by as served_by_def, one_served, served_in};
 
 use crate::answer::AnswersReader;
@@ -271,7 +272,7 @@ impl ServedReader<'_> {
 struct CauseReader;
 
 impl Reader<u8> for CauseReader {
-    ghost use Rattle.json_form.specs.Values.{whole_of};
+    ghost use Rattle.json_form.specs.meaning.Values.{whole_of};
 
     ghost reads = { λ s. whole_of 1 2 };
 

@@ -1,7 +1,7 @@
 //! Readers of notes: arrays that begin with a word.
 ghost use Rattle.serde_json.specs.View.{view};
 ghost use Rattle.json_form.specs.Faults.{Gives};
-ghost use Rattle.json_form.specs.Texts.{word_of};
+ghost use Rattle.json_form.specs.meaning.Texts.{word_of};
 ghost use Rattle.json_form.specs.Arrays.{count_at, parts_at};
 ghost use Rattle.report_reader.specs.Notes.{count_in, serve_words, serve_in, just, bytes_in, cut_in, with_word as with_word_def, reap_in, crash_in, incarnation_in, up_in, upcrash_in, tick_in, run_in, runs_in, ran_in, outside_in, ask_in, drain_in, note_by as note_by_def, note_in, notes_in};
 

@@ -2,7 +2,8 @@
 ghost use Rattle.std.specs.Prelude.{IfOk, []};
 ghost use Rattle.serde_json.specs.View.{view, items_view};
 ghost use Rattle.json_form.specs.Faults.{Gives};
-ghost use Rattle.json_form.specs.Arrays.{count_at, each_after};
+ghost use Rattle.json_form.specs.meaning.Arrays.{each_after};
+ghost use Rattle.json_form.specs.Arrays.{count_at};
 ghost use Rattle.svc_values.specs.SettingsList.{AllBelow};
 ghost use Rattle.report_reader.specs.Parts.{if_count as if_count_def, octets_in, identifier_in, identifiers_in, session_in, sessions_in, if_rising, setting_in, settings_in, row_in};
 

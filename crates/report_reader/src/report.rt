@@ -1,7 +1,8 @@
 //! Reader of the whole report.
 ghost use Rattle.std.specs.Prelude.{◌≡◌, Bool, Result, IfOk};
 ghost use Rattle.serde_json.specs.View.{view};
-ghost use Rattle.json_form.specs.Faults.{Fault, Gives, GivesBy};
+ghost use Rattle.json_form.specs.meaning.Faults.{Fault};
+ghost use Rattle.json_form.specs.Faults.{Gives, GivesBy};
 ghost use Rattle.json_form.specs.Objects.{members_at};
 ghost use Rattle.report_reader.specs.Keeping.{IsTold};
 ghost use Rattle.report_reader.specs.Reports.{alerts_in, image_bytes_in, image_in, front_in, middle_in, back_in, report_with as report_with_def, members_in, report_in, as_bad as as_bad_def, report_of};

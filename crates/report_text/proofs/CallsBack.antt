@@ -4,7 +4,7 @@ use Rattle.std.specs.Prelude.{◌||◌, if◌then◌else◌}
 use Rattle.std.specs.List.{AllByRecursion}
 use Rattle.std.specs.Str.{bytes_eq}
 use Rattle.serde_json.specs.Data.{Data}
-use Rattle.json_form.specs.Writing.{list_by}
+use Rattle.json_form.specs.meaning.Writing.{list_by}
 use Rattle.svc_values.specs.declared.value.Value.TheVariants as value
 use Rattle.svc_values.specs.declared.draw.DrawKind.TheVariants as kind
 use Rattle.svc_values.specs.declared.statement.Operand.{Operand}
@@ -17,8 +17,8 @@ use Rattle.svc_values.specs.declared.statement.Statement.{Statement}
 use Rattle.svc_values.specs.declared.statement.Statement.TheVariants as statement
 use Rattle.svc_values.specs.declared.call.Call.{Call}
 use Rattle.svc_values.specs.declared.call.Call.TheVariants as call
-use Rattle.report_text.specs.Values.{literal_value}
-use Rattle.report_text.specs.Calls.{operand_value, test_word, change_word, changing, statement_value, commit_values, call_value}
+use Rattle.report_text.specs.meaning.Values.{literal_value}
+use Rattle.report_text.specs.meaning.Calls.{operand_value, test_word, change_word, changing, statement_value, commit_values, call_value}
 use Rattle.report_text.specs.Octets.{OperandOfBytes, StatementOfBytes, CallOfBytes}
 use Rattle.report_text.proofs.Places.{text_in, is_text, items, part, members_in, first_name, first_value, list_in, listed_back, list_back}
 use Rattle.report_text.proofs.ValuesBack.{value_in, value_back}

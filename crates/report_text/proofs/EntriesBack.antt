@@ -4,7 +4,7 @@ use Rattle.std.specs.Prelude.{Option, Some, None, if◌then◌else◌}
 use Rattle.std.specs.List.{AllByRecursion}
 use Rattle.std.specs.Str.{bytes_eq}
 use Rattle.serde_json.specs.Data.{Data}
-use Rattle.json_form.specs.Writing.{list_by}
+use Rattle.json_form.specs.meaning.Writing.{list_by}
 use Rattle.svc_values.specs.declared.entry.Ltxid.{Ltxid}
 use Rattle.svc_values.specs.declared.entry.Piece.{Piece}
 use Rattle.svc_values.specs.declared.entry.Entry.{Entry}
@@ -16,10 +16,10 @@ use Rattle.outage_schedule.specs.declared.failure.Failure.TheVariants as failure
 use Rattle.outage_schedule.specs.declared.request.ShownCall.{ShownCall}
 use Rattle.outage_schedule.specs.declared.request.Outcome.{Outcome}
 use Rattle.outage_schedule.specs.declared.request.RequestReport.{RequestReport}
-use Rattle.report_text.specs.Values.{identifier_value, session_value}
-use Rattle.report_text.specs.Entries.{piece_value, entry_value, table_value}
-use Rattle.report_text.specs.Failures.{reason_value, failure_value, failed_value}
-use Rattle.report_text.specs.Requests.{shown_value, outcome_value, request_value}
+use Rattle.report_text.specs.meaning.Values.{identifier_value, session_value}
+use Rattle.report_text.specs.meaning.Entries.{piece_value, entry_value, table_value}
+use Rattle.report_text.specs.meaning.Failures.{reason_value, failure_value, failed_value}
+use Rattle.report_text.specs.meaning.Requests.{shown_value, outcome_value, request_value}
 use Rattle.report_text.specs.Octets.{PieceOfBytes, EntryOfBytes, TableOfBytes, FailedOfBytes, ShownOfBytes, RequestOfBytes}
 use Rattle.report_text.specs.Laws.{shown_entry}
 use Rattle.report_text.proofs.Places.{nat_in, text_in, flag_in, items, part, members_in, value_at, digits_in, list_in, digits_back, list_back, all_back}

@@ -21,10 +21,10 @@ use Rattle.svc_values.specs.declared.entry.Piece.{Piece}
 use Rattle.svc_values.specs.declared.entry.Entry.{Entry}
 use Rattle.json_form.specs.Forms.{IsForm, AreItems}
 use Rattle.json_form.proofs.Offered.{levels, integer_form, items_form, items_joined}
-use Rattle.report_text.specs.Values.{literal_value, row_value, setting_value, settings_value, identifier_value, session_value}
-use Rattle.report_text.specs.Answers.{answer_value, draw_value, answers_value, draws_value}
-use Rattle.report_text.specs.Calls.{operand_value, changing, statement_value, commit_values, call_value}
-use Rattle.report_text.specs.Entries.{piece_value, entry_value}
+use Rattle.report_text.specs.meaning.Values.{literal_value, row_value, setting_value, settings_value, identifier_value, session_value}
+use Rattle.report_text.specs.meaning.Answers.{answer_value, draw_value, answers_value, draws_value}
+use Rattle.report_text.specs.meaning.Calls.{operand_value, changing, statement_value, commit_values, call_value}
+use Rattle.report_text.specs.meaning.Entries.{piece_value, entry_value}
 
 literal_form : (deep : ℕ) (x : Value) → IsForm (suc deep) (literal_value x)
 unfolding literal_value

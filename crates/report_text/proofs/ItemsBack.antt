@@ -3,13 +3,13 @@ use Rattle.std.proofs.Common.{◌≡◌, ℕ, List, refl, ap, ◌∙◌, codes}
 use Rattle.std.specs.Prelude.{if◌then◌else◌}
 use Rattle.std.specs.Str.{bytes_eq}
 use Rattle.serde_json.specs.Data.{Data}
-use Rattle.json_form.specs.Writing.{whole}
-use Rattle.report_text.specs.Values.{session_value}
+use Rattle.json_form.specs.meaning.Writing.{whole}
+use Rattle.report_text.specs.meaning.Values.{session_value}
 use Rattle.outage_schedule.specs.declared.item.Item.{Item}
 use Rattle.outage_schedule.specs.declared.item.Item.TheVariants as item
 use Rattle.outage_schedule.specs.declared.item.Served.{Served}
-use Rattle.report_text.specs.Notes.{told_values}
-use Rattle.report_text.specs.Items.{item_value, served_value}
+use Rattle.report_text.specs.meaning.Notes.{told_values}
+use Rattle.report_text.specs.meaning.Items.{item_value, served_value}
 use Rattle.report_text.specs.Octets.{ItemOfBytes, ServedOfBytes}
 use Rattle.report_text.proofs.Places.{nat_in, text_in, flag_in, is_flag, items, part, behind, listed_back}
 use Rattle.report_text.proofs.ValuesBack.{settings_in, settings_back, identifier_in, session_in, answers_in, answers_back, draws_in, draws_back}

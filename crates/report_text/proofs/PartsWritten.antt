@@ -5,8 +5,8 @@ use Rattle.std.specs.List.{flat_map}
 use Rattle.json.specs.Token.{Token, begin_object, end_object, key}
 use Rattle.serde_json.specs.Data.{Data}
 use Rattle.json_form.specs.Tokens.{tokens_of}
-use Rattle.json_form.specs.Writing.{whole, members}
-use Rattle.report_text.specs.Report.{image_member}
+use Rattle.json_form.specs.meaning.Writing.{whole, members}
+use Rattle.report_text.specs.meaning.Report.{image_member}
 use Rattle.report_text.specs.Tokens.{ending, named}
 
 pub on_ok : {E : Type 0} (result : Result ⊤ E) {P Q : Type 0} → (P → Q) → OnOk result P → OnOk result Q

@@ -7,8 +7,8 @@ use Rattle.hex.specs.declared.error.FromHexError.{FromHexError}
 use Rattle.hex.proofs.HexLemmas.{decode_of-encode_lower}
 use Rattle.serde_json.specs.Data.{Num, unsigned, negative, float, Data, null, boolean, number, string, array, object, Items, no_items, item, Members, no_members, member}
 use Rattle.serde_json.specs.View.{items_of}
-use Rattle.json_form.specs.Writing.{integer, list_by}
-use Rattle.report_text.specs.Values.{digits}
+use Rattle.json_form.specs.meaning.Writing.{integer, list_by}
+use Rattle.report_text.specs.meaning.Values.{digits}
 
 abbrev pub nat_in : Data → ℕ
 nat_in (number (unsigned n)) = n

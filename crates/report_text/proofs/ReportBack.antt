@@ -4,15 +4,15 @@ use Rattle.std.proofs.Common.{◌≡◌, ℕ, zero, suc, false, List, [], ◌∷
 use Rattle.std.specs.Prelude.{Option, Some, None}
 use Rattle.std.specs.List.{AllByRecursion}
 use Rattle.serde_json.specs.Data.{Data, null}
-use Rattle.json_form.specs.Writing.{text, list_by, members}
+use Rattle.json_form.specs.meaning.Writing.{text, list_by, members}
 use Rattle.svc_values.specs.declared.entry.Entry.{Entry}
 use Rattle.outage_schedule.specs.declared.report.Report.{Report}
-use Rattle.report_text.specs.Values.{identifier_value}
-use Rattle.report_text.specs.Entries.{entry_value, table_value}
-use Rattle.report_text.specs.Requests.{request_value}
-use Rattle.report_text.specs.Notes.{note_value}
-use Rattle.report_text.specs.Items.{served_value}
-use Rattle.report_text.specs.Report.{forgotten_member, image_member, report_value}
+use Rattle.report_text.specs.meaning.Values.{identifier_value}
+use Rattle.report_text.specs.meaning.Entries.{entry_value, table_value}
+use Rattle.report_text.specs.meaning.Requests.{request_value}
+use Rattle.report_text.specs.meaning.Notes.{note_value}
+use Rattle.report_text.specs.meaning.Items.{served_value}
+use Rattle.report_text.specs.meaning.Report.{forgotten_member, image_member, report_value}
 use Rattle.report_text.specs.Octets.{EntryOfBytes, ImageOfBytes, NoteOfBytes, RequestOfBytes, ReportOfBytes, ServedOfBytes, TableOfBytes}
 use Rattle.report_text.specs.Laws.{IsOfOneReport, shown_entry, shown_report}
 use Rattle.report_text.proofs.Places.{nat_in, text_in, members_in, value_at, digits_in, list_in, digits_back, list_back, all_back}

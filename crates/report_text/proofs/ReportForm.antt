@@ -29,15 +29,15 @@ use Rattle.outage_schedule.specs.declared.item.Served.{Served}
 use Rattle.outage_schedule.specs.declared.report.ReportTable.{ReportTable}
 use Rattle.outage_schedule.specs.declared.report.Report.{Report}
 use Rattle.json_form.specs.Forms.{IsForm, AreItems}
-use Rattle.json_form.specs.Writing.{text, whole, list_by}
+use Rattle.json_form.specs.meaning.Writing.{text, whole, list_by}
 use Rattle.json_form.proofs.Offered.{levels, items_form}
-use Rattle.report_text.specs.Values.{row_value, identifier_value, session_value}
-use Rattle.report_text.specs.Entries.{entry_value, table_value}
-use Rattle.report_text.specs.Failures.{reason_value, failure_value, failed_value}
-use Rattle.report_text.specs.Requests.{shown_value, outcome_value, request_value}
-use Rattle.report_text.specs.Notes.{did_values, reached_values, told_values, asked_values, run_value, outside_value, word_if, opened_value, note_value}
-use Rattle.report_text.specs.Items.{item_value, served_value}
-use Rattle.report_text.specs.Report.{report_value}
+use Rattle.report_text.specs.meaning.Values.{row_value, identifier_value, session_value}
+use Rattle.report_text.specs.meaning.Entries.{entry_value, table_value}
+use Rattle.report_text.specs.meaning.Failures.{reason_value, failure_value, failed_value}
+use Rattle.report_text.specs.meaning.Requests.{shown_value, outcome_value, request_value}
+use Rattle.report_text.specs.meaning.Notes.{did_values, reached_values, told_values, asked_values, run_value, outside_value, word_if, opened_value, note_value}
+use Rattle.report_text.specs.meaning.Items.{item_value, served_value}
+use Rattle.report_text.specs.meaning.Report.{report_value}
 use Rattle.report_text.proofs.ReportBack.{whole_of, not_zero}
 use Rattle.report_text.proofs.Forms.{row_form, settings_form, identifier_form, session_form, answers_form, draws_form, call_form, entry_form}
 

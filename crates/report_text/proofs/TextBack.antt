@@ -16,7 +16,7 @@ use Rattle.json_form.specs.Numbers.{IsOf64Bits}
 use Rattle.json_form.proofs.Offered.{number_back}
 use Rattle.report_text.specs.Numbers.{HasShortNumbers, ItemsHaveShortNumbers, MembersHaveShortNumbers}
 use Rattle.report_text.specs.Laws.{IsTextOfOneReport}
-use Rattle.report_text.specs.Report.{report_value}
+use Rattle.report_text.specs.meaning.Report.{report_value}
 use Rattle.report_text.proofs.ReportBack.{one_report}
 
 number_is : (n : Num) → IsOf64Bits n → IsNumber (number_text n)

@@ -5,7 +5,7 @@ use Rattle.outage_schedule.specs.declared.report.Report.{Report}
 use Rattle.serde_json.specs.Written.{compact_text}
 use Rattle.report_text.specs.Numbers.{HasShortNumbers}
 use Rattle.report_text.specs.Octets.{ReportOfBytes}
-use Rattle.report_text.specs.Report.{report_value}
+use Rattle.report_text.specs.meaning.Report.{report_value}
 
 -- The entry without its writes, which no report shows.
 abbrev pub shown_entry : Entry → Entry

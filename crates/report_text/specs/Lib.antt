@@ -1,14 +1,5 @@
-pub mod Answers
-pub mod Calls
-pub mod Entries
-pub mod Failures
-pub mod Items
 pub mod Laws
-pub mod Notes
 pub mod Numbers
 pub mod Octets
-pub mod Parts
-pub mod Report
-pub mod Requests
 pub mod Tokens
-pub mod Values
+pub mod meaning

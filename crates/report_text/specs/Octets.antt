@@ -29,7 +29,7 @@ use Rattle.outage_schedule.specs.declared.item.Item.TheVariants as item
 use Rattle.outage_schedule.specs.declared.item.Served.{Served}
 use Rattle.outage_schedule.specs.declared.report.ReportTable.{ReportTable}
 use Rattle.outage_schedule.specs.declared.report.Report.{Report}
-use Rattle.report_text.specs.Calls.{changing}
+use Rattle.report_text.specs.meaning.Calls.{changing}
 
 abbrev pub ValueOfBytes : Value → Type 0
 ValueOfBytes (value.Bytes octets) = IsBytes octets

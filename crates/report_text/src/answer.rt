@@ -1,10 +1,10 @@
 //! Answers and draws.
 ghost use Rattle.std.specs.Prelude.{◌≡◌, ◌++◌, OnOk, codes};
 ghost use Rattle.json_form.specs.Tokens.{tokens_of};
-ghost use Rattle.json_form.specs.Writing.{integer as integer_def, list_by};
-ghost use Rattle.report_text.specs.Parts.{one as one_def};
-ghost use Rattle.report_text.specs.Values.{row_value};
-ghost use Rattle.report_text.specs.Answers.{refusal_code as refusal_code_def, answer_value, draw_value, answers_value, draws_value};
+ghost use Rattle.json_form.specs.meaning.Writing.{integer as integer_def, list_by};
+ghost use Rattle.report_text.specs.meaning.Parts.{one as one_def};
+ghost use Rattle.report_text.specs.meaning.Values.{row_value};
+ghost use Rattle.report_text.specs.meaning.Answers.{refusal_code as refusal_code_def, answer_value, draw_value, answers_value, draws_value};
 
 use crate::part::{begin_one, begin_word, numbered, one_whole};
 use crate::value::RowWriter;
@@ -39,7 +39,7 @@ struct AnswerWriter;
 impl Writer<Answer> for AnswerWriter {
     ghost writes = { λ s. answer_value };
 
-    #[tactic(auto, unfolding(crate::specs::Answers::answer_value))]
+    #[tactic(auto, unfolding(crate::specs::meaning::Answers::answer_value))]
     fn write(&self, alloc: Global, item: &Answer, out: &mut TextWriter) -> Result<(), AllocError> {
         match item {
             Answer::Done(count) => one_whole(out, "done", *count),
@@ -59,7 +59,7 @@ struct DrawWriter;
 impl Writer<Draw> for DrawWriter {
     ghost writes = { λ s. draw_value };
 
-    #[tactic(auto, unfolding(crate::specs::Answers::draw_value))]
+    #[tactic(auto, unfolding(crate::specs::meaning::Answers::draw_value))]
     fn write(&self, alloc: Global, item: &Draw, out: &mut TextWriter) -> Result<(), AllocError> {
         match item {
             Draw::Seq { name, value } => {

@@ -1,9 +1,9 @@
 //! Calls, in the document's form.
 ghost use Rattle.std.specs.Prelude.{◌≡◌, ◌++◌, ◌∷◌, [], OnOk};
 ghost use Rattle.json_form.specs.Tokens.{tokens_of};
-ghost use Rattle.json_form.specs.Writing.{list};
-ghost use Rattle.report_text.specs.Parts.{lone as lone_def};
-ghost use Rattle.report_text.specs.Calls.{commit_values, call_value};
+ghost use Rattle.json_form.specs.meaning.Writing.{list};
+ghost use Rattle.report_text.specs.meaning.Parts.{lone as lone_def};
+ghost use Rattle.report_text.specs.meaning.Calls.{commit_values, call_value};
 ghost use Rattle.report_text.specs.Tokens.{ending};
 
 use crate::part::{begin_word, lone};
@@ -25,7 +25,7 @@ fn work_ended(out: &mut TextWriter, commit: bool) -> Result<(), AllocError>
 }
 
 // The statements, and last the commit.
-#[tactic(auto, unfolding(crate::specs::Calls::call_value))]
+#[tactic(auto, unfolding(crate::specs::meaning::Calls::call_value))]
 fn work_written(
     alloc: Global,
     statements: &[Statement],
@@ -39,7 +39,7 @@ fn work_written(
     work_ended(out, commit)
 }
 
-#[tactic(auto, unfolding(crate::specs::Calls::call_value))]
+#[tactic(auto, unfolding(crate::specs::meaning::Calls::call_value))]
 fn set_written(
     alloc: Global,
     name: &Name,
@@ -56,7 +56,7 @@ fn set_written(
     out.end_array()
 }
 
-#[tactic(auto, unfolding(crate::specs::Calls::call_value))]
+#[tactic(auto, unfolding(crate::specs::meaning::Calls::call_value))]
 fn alter_written(line: &Text, out: &mut TextWriter) -> Result<(), AllocError>
     ensures { OnOk result (out.new ≡ out.old ++ tokens_of (call_value (Call.Alter line.now))) }
 {
@@ -81,7 +81,7 @@ pub(crate) struct CallWriter;
 impl Writer<Call> for CallWriter {
     ghost writes = { λ s. call_value };
 
-    #[tactic(auto, unfolding(crate::specs::Calls::call_value))]
+    #[tactic(auto, unfolding(crate::specs::meaning::Calls::call_value))]
     fn write(&self, alloc: Global, item: &Call, out: &mut TextWriter) -> Result<(), AllocError> {
         match item {
             Call::Work { statements, commit } => {

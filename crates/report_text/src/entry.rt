@@ -1,5 +1,5 @@
 //! Entries.
-ghost use Rattle.report_text.specs.Entries.{piece_value, entry_value};
+ghost use Rattle.report_text.specs.meaning.Entries.{piece_value, entry_value};
 
 use crate::answer::{answers_written, draws_written};
 use crate::call::CallWriter;
@@ -14,7 +14,7 @@ struct PieceWriter;
 impl Writer<Piece> for PieceWriter {
     ghost writes = { λ s. piece_value };
 
-    #[tactic(auto, unfolding(crate::specs::Entries::piece_value))]
+    #[tactic(auto, unfolding(crate::specs::meaning::Entries::piece_value))]
     fn write(&self, alloc: Global, item: &Piece, out: &mut TextWriter) -> Result<(), AllocError> {
         out.begin_array()?;
         CallWriter.write(alloc, &item.call, out)?;
@@ -30,7 +30,7 @@ pub(crate) struct EntryWriter;
 impl Writer<Entry> for EntryWriter {
     ghost writes = { λ s. entry_value };
 
-    #[tactic(auto, unfolding(crate::specs::Entries::entry_value))]
+    #[tactic(auto, unfolding(crate::specs::meaning::Entries::entry_value))]
     fn write(&self, alloc: Global, item: &Entry, out: &mut TextWriter) -> Result<(), AllocError> {
         out.begin_object()?;
         out.name("completed")?;

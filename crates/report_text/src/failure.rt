@@ -1,10 +1,10 @@
 //! The errors that requests show.
 ghost use Rattle.std.specs.Prelude.{◌≡◌, ◌++◌, ◌∷◌, [], OnOk};
 ghost use Rattle.json_form.specs.Tokens.{tokens_of};
-ghost use Rattle.json_form.specs.Writing.{whole};
-ghost use Rattle.report_text.specs.Parts.{headed};
-ghost use Rattle.report_text.specs.Values.{identifier_value};
-ghost use Rattle.report_text.specs.Failures.{reason_value, failure_value, failed_value};
+ghost use Rattle.json_form.specs.meaning.Writing.{whole};
+ghost use Rattle.report_text.specs.meaning.Parts.{headed};
+ghost use Rattle.report_text.specs.meaning.Values.{identifier_value};
+ghost use Rattle.report_text.specs.meaning.Failures.{reason_value, failure_value, failed_value};
 
 use crate::identifier::LtxidWriter;
 use crate::part::{begin_word, lone, numbered};
@@ -13,7 +13,7 @@ use outage_schedule::{Failure, Reason};
 use std::alloc::{AllocError, Global};
 use svc_values::Ltxid;
 
-#[tactic(auto, unfolding(crate::specs::Failures::reason_value))]
+#[tactic(auto, unfolding(crate::specs::meaning::Failures::reason_value))]
 fn reason_written(why: Reason, out: &mut TextWriter) -> Result<(), AllocError>
     ensures { OnOk result (out.new ≡ out.old ++ tokens_of (reason_value why)) }
 {
@@ -28,7 +28,7 @@ fn reason_written(why: Reason, out: &mut TextWriter) -> Result<(), AllocError>
     }
 }
 
-#[tactic(auto, unfolding(crate::specs::Failures::failure_value))]
+#[tactic(auto, unfolding(crate::specs::meaning::Failures::failure_value))]
 fn disabled_written(why: Reason, event: u64, out: &mut TextWriter) -> Result<(), AllocError>
     ensures { OnOk result (out.new ≡ out.old ++ tokens_of (failure_value (Failure.Disabled why event))) }
 {
@@ -38,7 +38,7 @@ fn disabled_written(why: Reason, event: u64, out: &mut TextWriter) -> Result<(),
     out.end_array()
 }
 
-#[tactic(auto, unfolding(crate::specs::Failures::failure_value))]
+#[tactic(auto, unfolding(crate::specs::meaning::Failures::failure_value))]
 fn mismatch_written(
     alloc: Global,
     call: u64,
@@ -79,7 +79,7 @@ fn two_numbers(out: &mut TextWriter, word: &str, first: u64, second: u64) -> Res
     out.end_array()
 }
 
-#[tactic(auto, unfolding(crate::specs::Failures::failure_value))]
+#[tactic(auto, unfolding(crate::specs::meaning::Failures::failure_value))]
 fn failure_written(alloc: Global, failure: &Failure, out: &mut TextWriter) -> Result<(), AllocError>
     ensures { OnOk result (out.new ≡ out.old ++ tokens_of (failure_value failure.now)) }
 {

@@ -2,8 +2,8 @@
 ghost use Rattle.std.specs.Prelude.{◌≡◌, ◌++◌, OnOk};
 ghost use Rattle.std.specs.List.{flat_map};
 ghost use Rattle.json_form.specs.Tokens.{tokens_of};
-ghost use Rattle.json_form.specs.Writing.{list_by};
-ghost use Rattle.report_text.specs.Values.{identifier_value, session_value, setting_value, settings_value};
+ghost use Rattle.json_form.specs.meaning.Writing.{list_by};
+ghost use Rattle.report_text.specs.meaning.Values.{identifier_value, session_value, setting_value, settings_value};
 
 use crate::value::ValueWriter;
 use json_form::{TextWriter, Writer};

@@ -2,10 +2,10 @@
 ghost use Rattle.std.specs.Prelude.{◌≡◌, ◌++◌, ◌∷◌, [], OnOk};
 ghost use Rattle.json.specs.Token.{begin_array, string};
 ghost use Rattle.json_form.specs.Tokens.{tokens_of};
-ghost use Rattle.json_form.specs.Writing.{whole};
-ghost use Rattle.report_text.specs.Parts.{headed};
-ghost use Rattle.report_text.specs.Values.{session_value};
-ghost use Rattle.report_text.specs.Items.{item_value, served_value};
+ghost use Rattle.json_form.specs.meaning.Writing.{whole};
+ghost use Rattle.report_text.specs.meaning.Parts.{headed};
+ghost use Rattle.report_text.specs.meaning.Values.{session_value};
+ghost use Rattle.report_text.specs.meaning.Items.{item_value, served_value};
 
 use crate::answer::{answers_written, draws_written};
 use crate::call::CallWriter;
@@ -46,7 +46,7 @@ fn bare_written(
     out.end_array()
 }
 
-#[tactic(auto, unfolding(crate::specs::Items::item_value))]
+#[tactic(auto, unfolding(crate::specs::meaning::Items::item_value))]
 fn begin_written(
     alloc: Global,
     served: &Served,
@@ -61,7 +61,7 @@ fn begin_written(
     out.end_array()
 }
 
-#[tactic(auto, unfolding(crate::specs::Items::item_value))]
+#[tactic(auto, unfolding(crate::specs::meaning::Items::item_value))]
 fn call_written(
     alloc: Global,
     served: &Served,
@@ -82,7 +82,7 @@ fn call_written(
     out.end_array()
 }
 
-#[tactic(auto, unfolding(crate::specs::Items::item_value))]
+#[tactic(auto, unfolding(crate::specs::meaning::Items::item_value))]
 fn blocked_written(
     alloc: Global,
     served: &Served,
@@ -97,7 +97,7 @@ fn blocked_written(
     out.end_array()
 }
 
-#[tactic(auto, unfolding(crate::specs::Items::item_value))]
+#[tactic(auto, unfolding(crate::specs::meaning::Items::item_value))]
 fn outcome_written(
     alloc: Global,
     served: &Served,
@@ -113,7 +113,7 @@ fn outcome_written(
     told_ended(told, out)
 }
 
-#[tactic(auto, unfolding(crate::specs::Items::item_value))]
+#[tactic(auto, unfolding(crate::specs::meaning::Items::item_value))]
 fn refused_written(
     alloc: Global,
     served: &Served,
@@ -128,7 +128,7 @@ fn refused_written(
     out.end_array()
 }
 
-#[tactic(auto, unfolding(crate::specs::Items::item_value))]
+#[tactic(auto, unfolding(crate::specs::meaning::Items::item_value))]
 fn crashed_call_written(
     alloc: Global,
     served: &Served,
@@ -145,7 +145,7 @@ fn crashed_call_written(
     out.end_array()
 }
 
-#[tactic(auto, unfolding(crate::specs::Items::item_value))]
+#[tactic(auto, unfolding(crate::specs::meaning::Items::item_value))]
 fn crashed_outcome_written(
     alloc: Global,
     served: &Served,
@@ -165,7 +165,7 @@ pub(crate) struct ServedWriter;
 impl Writer<Served> for ServedWriter {
     ghost writes = { λ s. served_value };
 
-    #[tactic(auto, unfolding(crate::specs::Items::item_value))]
+    #[tactic(auto, unfolding(crate::specs::meaning::Items::item_value))]
     fn write(&self, alloc: Global, item: &Served, out: &mut TextWriter) -> Result<(), AllocError> {
         match &item.item {
             Item::Connect => bare_written(alloc, "connect", item, out),

@@ -1,9 +1,9 @@
 //! Notes: what each event did.
 ghost use Rattle.std.specs.Prelude.{◌≡◌, ◌++◌, ◌∷◌, [], OnOk, codes};
 ghost use Rattle.json_form.specs.Tokens.{tokens_of};
-ghost use Rattle.json_form.specs.Writing.{text as text_def, flag as flag_def, whole as whole_def};
-ghost use Rattle.report_text.specs.Parts.{headed as headed_def};
-ghost use Rattle.report_text.specs.Notes.{frame_word as frame_word_def, served_word as served_word_def, told_values, asked_values, run_value, note_value};
+ghost use Rattle.json_form.specs.meaning.Writing.{text as text_def, flag as flag_def, whole as whole_def};
+ghost use Rattle.report_text.specs.meaning.Parts.{headed as headed_def};
+ghost use Rattle.report_text.specs.meaning.Notes.{frame_word as frame_word_def, served_word as served_word_def, told_values, asked_values, run_value, note_value};
 ghost use Rattle.report_text.specs.Tokens.{ending};
 
 use crate::answer::{answers_written, draws_written};
@@ -53,7 +53,7 @@ fn on_connection(
     out.end_array()
 }
 
-#[tactic(auto, unfolding(crate::specs::Notes::note_value))]
+#[tactic(auto, unfolding(crate::specs::meaning::Notes::note_value))]
 fn lost_written(client: u64, connection: u64, out: &mut TextWriter) -> Result<(), AllocError>
     ensures { OnOk result (out.new ≡ out.old ++ tokens_of (note_value (Note.Go client (GoNote.Lost connection)))) }
 {
@@ -64,7 +64,7 @@ fn lost_written(client: u64, connection: u64, out: &mut TextWriter) -> Result<()
     out.end_array()
 }
 
-#[tactic(auto, unfolding(crate::specs::Notes::note_value))]
+#[tactic(auto, unfolding(crate::specs::meaning::Notes::note_value))]
 fn go_written(client: u64, did: GoNote, out: &mut TextWriter) -> Result<(), AllocError>
     ensures { OnOk result (out.new ≡ out.old ++ tokens_of (note_value (Note.Go client did))) }
 {
@@ -103,7 +103,7 @@ fn served_word(frame: Option<FrameName>) -> &'static str
     }
 }
 
-#[tactic(auto, unfolding(crate::specs::Notes::note_value))]
+#[tactic(auto, unfolding(crate::specs::meaning::Notes::note_value))]
 fn reached_written(
     connection: u64,
     reached: Reached,
@@ -118,7 +118,7 @@ fn reached_written(
     out.end_array()
 }
 
-#[tactic(auto, unfolding(crate::specs::Notes::note_value))]
+#[tactic(auto, unfolding(crate::specs::meaning::Notes::note_value))]
 fn cut_written(
     connection: u64,
     reached: Option<Reached>,
@@ -132,7 +132,7 @@ fn cut_written(
     }
 }
 
-#[tactic(auto, unfolding(crate::specs::Notes::note_value))]
+#[tactic(auto, unfolding(crate::specs::meaning::Notes::note_value))]
 fn reap_written(connection: u64, reaped: bool, out: &mut TextWriter) -> Result<(), AllocError>
     ensures { OnOk result (out.new ≡ out.old ++ tokens_of (note_value (Note.Reap connection reaped))) }
 {
@@ -142,7 +142,7 @@ fn reap_written(connection: u64, reaped: bool, out: &mut TextWriter) -> Result<(
     with_word(out, "reap", connection, "none")
 }
 
-#[tactic(auto, unfolding(crate::specs::Notes::note_value))]
+#[tactic(auto, unfolding(crate::specs::meaning::Notes::note_value))]
 fn crash_written(connection: u64, down: bool, out: &mut TextWriter) -> Result<(), AllocError>
     ensures { OnOk result (out.new ≡ out.old ++ tokens_of (note_value (Note.Crash connection down))) }
 {
@@ -152,7 +152,7 @@ fn crash_written(connection: u64, down: bool, out: &mut TextWriter) -> Result<()
     numbered(out, "crash", connection)
 }
 
-#[tactic(auto, unfolding(crate::specs::Notes::note_value))]
+#[tactic(auto, unfolding(crate::specs::meaning::Notes::note_value))]
 fn up_written(incarnation: Option<u64>, out: &mut TextWriter) -> Result<(), AllocError>
     ensures { OnOk result (out.new ≡ out.old ++ tokens_of (note_value (Note.Up incarnation))) }
 {
@@ -162,7 +162,7 @@ fn up_written(incarnation: Option<u64>, out: &mut TextWriter) -> Result<(), Allo
     }
 }
 
-#[tactic(auto, unfolding(crate::specs::Notes::note_value))]
+#[tactic(auto, unfolding(crate::specs::meaning::Notes::note_value))]
 fn upcrash_written(made: bool, out: &mut TextWriter) -> Result<(), AllocError>
     ensures { OnOk result (out.new ≡ out.old ++ tokens_of (note_value (Note.UpCrash made))) }
 {
@@ -177,7 +177,7 @@ struct RunWriter;
 impl Writer<NoteRun> for RunWriter {
     ghost writes = { λ s. run_value };
 
-    #[tactic(auto, unfolding(crate::specs::Notes::run_value))]
+    #[tactic(auto, unfolding(crate::specs::meaning::Notes::run_value))]
     fn write(&self, alloc: Global, item: &NoteRun, out: &mut TextWriter) -> Result<(), AllocError> {
         out.begin_array()?;
         answers_written(alloc, &item.answers, out)?;
@@ -186,7 +186,7 @@ impl Writer<NoteRun> for RunWriter {
     }
 }
 
-#[tactic(auto, unfolding(crate::specs::Notes::note_value))]
+#[tactic(auto, unfolding(crate::specs::meaning::Notes::note_value))]
 fn ran_written(alloc: Global, ran: &OutsideNote, out: &mut TextWriter) -> Result<(), AllocError>
     ensures { OnOk result (out.new ≡ out.old ++ tokens_of (note_value (Note.Outside (Some ran.now)))) }
 {
@@ -196,7 +196,7 @@ fn ran_written(alloc: Global, ran: &OutsideNote, out: &mut TextWriter) -> Result
     out.end_array()
 }
 
-#[tactic(auto, unfolding(crate::specs::Notes::note_value))]
+#[tactic(auto, unfolding(crate::specs::meaning::Notes::note_value))]
 fn outside_written(
     alloc: Global,
     ran: &Option<OutsideNote>,
@@ -258,7 +258,7 @@ fn asked_ended(told: Option<AskResult>, out: &mut TextWriter) -> Result<(), Allo
     }
 }
 
-#[tactic(auto, unfolding(crate::specs::Notes::note_value))]
+#[tactic(auto, unfolding(crate::specs::meaning::Notes::note_value))]
 fn ask_written(
     alloc: Global,
     ltxid: &Ltxid,
@@ -277,7 +277,7 @@ pub(crate) struct NoteWriter;
 impl Writer<Note> for NoteWriter {
     ghost writes = { λ s. note_value };
 
-    #[tactic(auto, unfolding(crate::specs::Notes::note_value))]
+    #[tactic(auto, unfolding(crate::specs::meaning::Notes::note_value))]
     fn write(&self, alloc: Global, item: &Note, out: &mut TextWriter) -> Result<(), AllocError> {
         match item {
             Note::Go { client, did } => go_written(*client, *did, out),

@@ -1,5 +1,5 @@
 //! Operands, in the document's form.
-ghost use Rattle.report_text.specs.Calls.{operand_value};
+ghost use Rattle.report_text.specs.meaning.Calls.{operand_value};
 
 use crate::part::one_text;
 use crate::value::ValueWriter;
@@ -12,7 +12,7 @@ pub(crate) struct OperandWriter;
 impl Writer<Operand> for OperandWriter {
     ghost writes = { λ s. operand_value };
 
-    #[tactic(auto, unfolding(crate::specs::Calls::operand_value))]
+    #[tactic(auto, unfolding(crate::specs::meaning::Calls::operand_value))]
     fn write(&self, alloc: Global, item: &Operand, out: &mut TextWriter) -> Result<(), AllocError> {
         match item {
             Operand::Lit(value) => ValueWriter.write(alloc, value, out),

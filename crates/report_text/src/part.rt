@@ -2,8 +2,8 @@
 ghost use Rattle.std.specs.Prelude.{◌≡◌, ◌++◌, ◌∷◌, [], OnOk};
 ghost use Rattle.json.specs.Token.{begin_array, begin_object, key, string};
 ghost use Rattle.json_form.specs.Tokens.{tokens_of};
-ghost use Rattle.json_form.specs.Writing.{text as text_def, whole as whole_def, list_by};
-ghost use Rattle.report_text.specs.Parts.{one as one_def, headed as headed_def, lone as lone_def};
+ghost use Rattle.json_form.specs.meaning.Writing.{text as text_def, whole as whole_def, list_by};
+ghost use Rattle.report_text.specs.meaning.Parts.{one as one_def, headed as headed_def, lone as lone_def};
 
 use json_form::{TextWriter, Writer};
 use std::alloc::{AllocError, Global};

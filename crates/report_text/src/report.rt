@@ -5,9 +5,9 @@ ghost use Rattle.serde_json.specs.Read.{read};
 ghost use Rattle.serde_json.specs.View.{view};
 ghost use Rattle.serde_json.specs.Written.{compact_text};
 ghost use Rattle.json_form.specs.Tokens.{tokens_of};
-ghost use Rattle.json_form.specs.Writing.{text};
-ghost use Rattle.report_text.specs.Values.{digits};
-ghost use Rattle.report_text.specs.Report.{forgotten_member, image_member, report_value};
+ghost use Rattle.json_form.specs.meaning.Writing.{text};
+ghost use Rattle.report_text.specs.meaning.Values.{digits};
+ghost use Rattle.report_text.specs.meaning.Report.{forgotten_member, image_member, report_value};
 ghost use Rattle.report_text.specs.Tokens.{named};
 
 use crate::entry::EntryWriter;

@@ -2,9 +2,9 @@
 ghost use Rattle.std.specs.Prelude.{◌≡◌, ◌++◌, ◌∷◌, OnOk, codes};
 ghost use Rattle.json.specs.Token.{key};
 ghost use Rattle.json_form.specs.Tokens.{tokens_of};
-ghost use Rattle.json_form.specs.Writing.{list_by};
-ghost use Rattle.report_text.specs.Failures.{failed_value};
-ghost use Rattle.report_text.specs.Requests.{shown_value, outcome_value, request_value};
+ghost use Rattle.json_form.specs.meaning.Writing.{list_by};
+ghost use Rattle.report_text.specs.meaning.Failures.{failed_value};
+ghost use Rattle.report_text.specs.meaning.Requests.{shown_value, outcome_value, request_value};
 
 use crate::answer::{answers_written, draws_written};
 use crate::failure::failed_written;
@@ -19,7 +19,7 @@ struct ShownWriter;
 impl Writer<ShownCall> for ShownWriter {
     ghost writes = { λ s. shown_value };
 
-    #[tactic(auto, unfolding(crate::specs::Requests::shown_value))]
+    #[tactic(auto, unfolding(crate::specs::meaning::Requests::shown_value))]
     fn write(
         &self,
         alloc: Global,
@@ -39,7 +39,7 @@ struct OutcomeWriter;
 impl Writer<Outcome> for OutcomeWriter {
     ghost writes = { λ s. outcome_value };
 
-    #[tactic(auto, unfolding(crate::specs::Requests::outcome_value))]
+    #[tactic(auto, unfolding(crate::specs::meaning::Requests::outcome_value))]
     fn write(&self, alloc: Global, item: &Outcome, out: &mut TextWriter) -> Result<(), AllocError> {
         out.begin_array()?;
         LtxidWriter.write(alloc, &item.ltxid, out)?;
@@ -65,7 +65,7 @@ struct RequestWriter;
 impl Writer<RequestReport> for RequestWriter {
     ghost writes = { λ s. request_value };
 
-    #[tactic(auto, unfolding(crate::specs::Requests::request_value))]
+    #[tactic(auto, unfolding(crate::specs::meaning::Requests::request_value))]
     fn write(
         &self,
         alloc: Global,

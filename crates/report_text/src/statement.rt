@@ -2,9 +2,9 @@
 ghost use Rattle.std.specs.Prelude.{◌≡◌, ◌++◌, ◌∷◌, [], OnOk};
 ghost use Rattle.json.specs.Token.{begin_array, string};
 ghost use Rattle.json_form.specs.Tokens.{tokens_of};
-ghost use Rattle.json_form.specs.Writing.{text};
-ghost use Rattle.report_text.specs.Parts.{headed};
-ghost use Rattle.report_text.specs.Calls.{operand_value, test_word as test_word_def, change_word as change_word_def, changing as changing_def, statement_value};
+ghost use Rattle.json_form.specs.meaning.Writing.{text};
+ghost use Rattle.report_text.specs.meaning.Parts.{headed};
+ghost use Rattle.report_text.specs.meaning.Calls.{operand_value, test_word as test_word_def, change_word as change_word_def, changing as changing_def, statement_value};
 
 use crate::operand::OperandWriter;
 use crate::part::begin_word;
@@ -47,7 +47,7 @@ fn begin_statement(out: &mut TextWriter, word: &str, table: &Name) -> Result<(),
     out.text(table.as_str())
 }
 
-#[tactic(auto, unfolding(crate::specs::Calls::statement_value))]
+#[tactic(auto, unfolding(crate::specs::meaning::Calls::statement_value))]
 fn insert_written(
     alloc: Global,
     table: &Name,
@@ -61,7 +61,7 @@ fn insert_written(
     out.end_array()
 }
 
-#[tactic(auto, unfolding(crate::specs::Calls::statement_value))]
+#[tactic(auto, unfolding(crate::specs::meaning::Calls::statement_value))]
 fn update_written(
     alloc: Global,
     table: &Name,
@@ -81,7 +81,7 @@ fn update_written(
     out.end_array()
 }
 
-#[tactic(auto, unfolding(crate::specs::Calls::statement_value))]
+#[tactic(auto, unfolding(crate::specs::meaning::Calls::statement_value))]
 fn select_written(
     alloc: Global,
     table: &Name,
@@ -116,7 +116,7 @@ fn keyed_written(
     out.end_array()
 }
 
-#[tactic(auto, unfolding(crate::specs::Calls::statement_value))]
+#[tactic(auto, unfolding(crate::specs::meaning::Calls::statement_value))]
 fn count_written(table: &Name, out: &mut TextWriter) -> Result<(), AllocError>
     ensures { OnOk result (out.new ≡ out.old ++ tokens_of (statement_value (Statement.Count table.now))) }
 {
@@ -124,7 +124,7 @@ fn count_written(table: &Name, out: &mut TextWriter) -> Result<(), AllocError>
     out.end_array()
 }
 
-#[tactic(auto, unfolding(crate::specs::Calls::statement_value))]
+#[tactic(auto, unfolding(crate::specs::meaning::Calls::statement_value))]
 fn sum_written(table: &Name, column: &Name, out: &mut TextWriter) -> Result<(), AllocError>
     ensures { OnOk result (out.new ≡ out.old ++ tokens_of (statement_value (Statement.Sum table.now column.now))) }
 {
@@ -133,7 +133,7 @@ fn sum_written(table: &Name, column: &Name, out: &mut TextWriter) -> Result<(), 
     out.end_array()
 }
 
-#[tactic(auto, unfolding(crate::specs::Calls::statement_value))]
+#[tactic(auto, unfolding(crate::specs::meaning::Calls::statement_value))]
 fn show_written(alloc: Global, operand: &Operand, out: &mut TextWriter) -> Result<(), AllocError>
     ensures { OnOk result (out.new ≡ out.old ++ tokens_of (statement_value (Statement.Show operand.now))) }
 {
@@ -147,7 +147,7 @@ pub(crate) struct StatementWriter;
 impl Writer<Statement> for StatementWriter {
     ghost writes = { λ s. statement_value };
 
-    #[tactic(auto, unfolding(crate::specs::Calls::statement_value))]
+    #[tactic(auto, unfolding(crate::specs::meaning::Calls::statement_value))]
     fn write(
         &self,
         alloc: Global,

@@ -1,5 +1,5 @@
 //! Tables with their rows.
-ghost use Rattle.report_text.specs.Entries.{table_value};
+ghost use Rattle.report_text.specs.meaning.Entries.{table_value};
 
 use crate::value::RowWriter;
 use json_form::{TextWriter, Writer};
@@ -11,7 +11,7 @@ pub(crate) struct TableWriter;
 impl Writer<ReportTable> for TableWriter {
     ghost writes = { λ s. table_value };
 
-    #[tactic(auto, unfolding(crate::specs::Entries::table_value))]
+    #[tactic(auto, unfolding(crate::specs::meaning::Entries::table_value))]
     fn write(
         &self,
         alloc: Global,

@@ -1,5 +1,5 @@
 //! Values and rows.
-ghost use Rattle.report_text.specs.Values.{literal_value, row_value};
+ghost use Rattle.report_text.specs.meaning.Values.{literal_value, row_value};
 
 use crate::part::begin_one;
 use json_form::{TextWriter, Writer};
@@ -12,7 +12,7 @@ pub(crate) struct ValueWriter;
 impl Writer<Value> for ValueWriter {
     ghost writes = { λ s. literal_value };
 
-    #[tactic(auto, unfolding(crate::specs::Values::literal_value))]
+    #[tactic(auto, unfolding(crate::specs::meaning::Values::literal_value))]
     fn write(&self, alloc: Global, item: &Value, out: &mut TextWriter) -> Result<(), AllocError> {
         match item {
             Value::Int(number) => out.integer(*number),

@@ -2,8 +2,8 @@
 use Rattle.std.proofs.Common.{◌≡◌, Bool, true, false, if◌then◌else◌, refl, inl, inr}
 use Rattle.request_bounds.specs.declared.rule.Why.TheVariants as why
 use Rattle.request_bounds.specs.declared.rule.After.TheVariants as after
-use Rattle.request_bounds.specs.Replies.{ends_decided}
-use Rattle.request_bounds.specs.Rules.{off_rules, static_rules, dynamic_rules}
+use Rattle.request_bounds.specs.meaning.Replies.{ends_decided}
+use Rattle.request_bounds.specs.meaning.Rules.{off_rules, static_rules, dynamic_rules}
 use Rattle.request_bounds.specs.Law.{IsLawful}
 
 pub off_lawful : IsLawful off_rules

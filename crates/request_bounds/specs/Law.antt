@@ -5,8 +5,8 @@ use Rattle.svc_values.specs.declared.value.Value.{Value}
 use Rattle.svc_values.specs.declared.call.Call.{Call}
 use Rattle.svc_values.specs.declared.call.Call.TheVariants as call
 use Rattle.request_bounds.specs.declared.rule.After.TheVariants as after
-use Rattle.request_bounds.specs.Replies.{ends_decided}
-use Rattle.request_bounds.specs.Rules.{Rules}
+use Rattle.request_bounds.specs.meaning.Replies.{ends_decided}
+use Rattle.request_bounds.specs.meaning.Rules.{Rules}
 
 -- the rule stops at each set, or keeps the settings
 abbrev pub HoldsSettings : Rules → Type 0

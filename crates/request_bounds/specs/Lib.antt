@@ -1,5 +1,4 @@
 pub mod Law
 pub mod Limits
-pub mod Replies
-pub mod Rules
 pub mod InnerLawful
+pub mod meaning

@@ -1,7 +1,7 @@
 //! What each rule promises.
 ghost use Rattle.std.specs.Prelude.{◌≡◌};
 ghost use Rattle.svc_values.specs.Calls.{IsMade};
-ghost use Rattle.request_bounds.specs.Rules.{Rules};
+ghost use Rattle.request_bounds.specs.meaning.Rules.{Rules};
 ghost use Rattle.request_bounds.specs.Law.{IsLawful};
 
 use crate::rule::{After, Why};

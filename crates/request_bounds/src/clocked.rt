@@ -1,6 +1,7 @@
 //! Limits by count and by the clock.
 ghost use Rattle.std.specs.Prelude.{◌≡◌, ◌↔◌, ◌≤◌, ◌<◌, ◌-◌, IsTrue};
-ghost use Rattle.request_bounds.specs.Limits.{IsPast, has_waited};
+ghost use Rattle.request_bounds.specs.meaning.Limits.{has_waited};
+ghost use Rattle.request_bounds.specs.Limits.{IsPast};
 
 /// The limits of a service. `retries` is how many tries in a row may fail, `replays` how many
 /// replays a request may start. `delay`, `timeout` and `wait` are ticks: between a failed try and

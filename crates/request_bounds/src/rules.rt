@@ -1,7 +1,7 @@
 //! The rules of a service without replay, with static and with dynamic session state.
 ghost use Rattle.std.specs.Prelude.{◌≡◌};
-ghost use Rattle.request_bounds.specs.Rules.{stopped_at as stopped_at_def, off_rules, static_rules, dynamic_rules};
-ghost use Rattle.request_bounds.specs.Replies.{ends_decided as ends_decided_def};
+ghost use Rattle.request_bounds.specs.meaning.Rules.{stopped_at as stopped_at_def, off_rules, static_rules, dynamic_rules};
+ghost use Rattle.request_bounds.specs.meaning.Replies.{ends_decided as ends_decided_def};
 ghost use Rattle.request_bounds.specs.InnerLawful.{off_lawful, static_lawful, dynamic_lawful};
 
 use crate::bound::BoundRule;

@@ -3,8 +3,8 @@ use Rattle.std.specs.Prelude.{◌≡◌, ℕ, ◌<◌, List, ◌++◌, length}
 use Rattle.std.specs.List.{flat_map}
 use Rattle.sha2.specs.Hashers.{Holds256}
 use Rattle.svc_values.specs.declared.answer.Answer.{Answer}
-use Rattle.canon_bytes.specs.Numbers.{spell_u64}
-use Rattle.canon_bytes.specs.AnswerBytes.{spell_answer}
+use Rattle.canon_bytes.specs.meaning.Numbers.{spell_u64}
+use Rattle.canon_bytes.specs.meaning.AnswerBytes.{spell_answer}
 use Rattle.result_digest.specs.declared.digest.Digesting.{Digesting}
 
 -- It was begun for so many answers, and has taken in these: the hasher holds the count and their bytes, one after the other.

@@ -2,7 +2,7 @@
 ghost use Rattle.std.specs.Prelude.{◌≡◌, ℕ, List, [], ◌∷◌, ◌++◌, IfOk, OnOk, OnErr};
 ghost use Rattle.sha2.specs.Sha256.{sha256};
 ghost use Rattle.svc_values.specs.declared.answer.Answer.{Answer as AnAnswer};
-ghost use Rattle.canon_bytes.specs.AnswerBytes.{spell_answers};
+ghost use Rattle.canon_bytes.specs.meaning.AnswerBytes.{spell_answers};
 
 use canon_bytes::put_answer;
 use sha2::{Digest, Sha256};

@@ -1,18 +1,18 @@
 -- The identifiers under which the transactions of a request may have committed.
-use Rattle.std.specs.Prelude.{ℕ, ◌+◌, ◌==◌, ◌&&◌, Bool, true, not, nat_le, nat_lt, List, [], ◌∷◌, ◌++◌, length, filter, fold, map, flat_map, Option, if◌then◌else◌}
-use Rattle.std.specs.List.{list_any}
+-- Here is what contracts and proofs say of it besides.
+use Rattle.std.specs.Prelude.{ℕ, ◌+◌, ◌&&◌, Bool, true, nat_le, nat_lt, List, [], ◌∷◌, ◌++◌, length, filter, fold, map, Option, if◌then◌else◌}
 use Rattle.std.specs.Option.{option_map_or}
 use Rattle.std.specs.Cmp.Lexicographic.{pointwise}
 use Rattle.svc_values.specs.declared.answer.Answer.{Answer}
 use Rattle.svc_values.specs.declared.call.Call.{Call}
 use Rattle.svc_values.specs.declared.entry.Ltxid.{Ltxid}
-use Rattle.svc_values.specs.Calls.{has_commit}
-use Rattle.svc_values.specs.Endings.{ends_committed}
-use Rattle.svc_values.specs.Identifiers.{same_ltxid}
+use Rattle.svc_values.specs.meaning.Calls.{has_commit}
+use Rattle.svc_values.specs.meaning.Endings.{ends_committed}
+use Rattle.svc_values.specs.meaning.Identifiers.{same_ltxid}
 use Rattle.outage_schedule.specs.declared.request.ShownCall.{ShownCall}
 use Rattle.outage_schedule.specs.declared.request.RequestReport.{RequestReport}
-use Rattle.outage_schedule.specs.declared.report.Report.{Report}
-use Rattle.run_clauses.specs.Transactions.{txns, each_request, requests_in}
+use Rattle.run_clauses.specs.meaning.Transactions.{txns}
+use Rattle.run_clauses.specs.meaning.Tried.{holds}
 
 -- A call that the driver sent without the replay mark: its place in its request, the identifier that the driver held, and the
 -- answers of the reply that it took, if it took one.
@@ -25,9 +25,6 @@ pub record Sending : Type 0 where
 -- it may have committed: the call has a commit, and no reply was taken, or one whose answers end with Committed
 abbrev pub may_have_committed : Sending → Bool
 may_have_committed sending = has_commit sending.call && option_map_or ends_committed sending.taken true
-
-abbrev pub holds : List Ltxid → Ltxid → Bool
-holds ids x = list_any (same_ltxid x) ids
 
 -- the identifier put last, unless it is there
 abbrev pub with_new : List Ltxid → Ltxid → List Ltxid
@@ -51,23 +48,3 @@ tried_of calls sendings = tried_from 0 (txns calls) sendings
 -- the report's `tried` of a request is that
 abbrev pub is_tried : RequestReport → List Sending → Bool
 is_tried request sendings = pointwise (pointwise same_ltxid) request.tried (tried_of request.calls sendings)
-
--- A request has as many lists as transactions.
-abbrev pub has_its_lists : RequestReport → Bool
-has_its_lists request = length request.tried == length (txns request.calls)
-
-abbrev pub ids_differ : List Ltxid → Bool
-ids_differ [] = true
-ids_differ (x ∷ ids) = not (holds ids x) && ids_differ ids
-
--- all identifiers of the lists of a request
-abbrev pub ids_tried : RequestReport → List Ltxid
-ids_tried request = flat_map (λ ids. ids) request.tried
-
--- No identifier stands in two lists of the report.
-abbrev pub tried_differ : Report → Bool
-tried_differ report = ids_differ (flat_map ids_tried (requests_in report))
-
--- what a report alone tells of its lists
-abbrev pub tried_fits : Report → Bool
-tried_fits report = each_request has_its_lists report && tried_differ report

@@ -7,9 +7,9 @@ use Rattle.svc_values.specs.declared.entry.Ltxid.{Ltxid}
 use Rattle.svc_values.specs.declared.entry.SessionId.{SessionId}
 use Rattle.svc_values.specs.declared.frame.Up.{Up}
 use Rattle.svc_values.specs.declared.frame.Up.TheVariants as up
-use Rattle.svc_values.specs.Same.{same_bool}
+use Rattle.svc_values.specs.meaning.Same.{same_bool}
 use Rattle.svc_values.specs.SameLaws.{same_ltxid_decides}
-use Rattle.ltxid_book.specs.Outcomes.{verdict_of}
+use Rattle.ltxid_book.specs.meaning.Outcomes.{verdict_of}
 use Rattle.commit_log.specs.Keeping.{EachKeeps}
 use Rattle.outage_schedule.specs.declared.document.Document.{Document}
 use Rattle.outage_schedule.specs.declared.event.Event.{Event}
@@ -19,22 +19,22 @@ use Rattle.outage_schedule.specs.declared.item.Served.{Served}
 use Rattle.outage_schedule.specs.declared.note.AskResult.{AskResult}
 use Rattle.outage_schedule.specs.declared.note.Note.{Note}
 use Rattle.outage_schedule.specs.declared.report.Report.{Report}
-use Rattle.run_clauses.specs.Horizons.{horizon_at}
-use Rattle.run_clauses.specs.Moments.{HappenedAt, ServedItem, moments}
-use Rattle.run_clauses.specs.Outcomes.{is_forgotten, says_forgotten}
-use Rattle.run_clauses.specs.Stored.{Kept, kept_by, horizon_before, is_rightly_forgotten}
+use Rattle.run_clauses.specs.meaning.Horizons.{horizon_at}
+use Rattle.run_clauses.specs.meaning.Moments.{HappenedAt, ServedItem, moments}
+use Rattle.run_clauses.specs.meaning.Outcomes.{is_forgotten, says_forgotten}
+use Rattle.run_clauses.specs.meaning.Stored.{Kept, kept_by, horizon_before, is_rightly_forgotten}
 use Rattle.server_model.specs.Laws.{EntryNumbers}
 use Rattle.server_model.specs.Outcomes.{down_of}
 use Rattle.server_model.specs.Runs.{Happened}
 use Rattle.server_model.specs.Seen.{Store, book_in, Seen}
 use Rattle.server_model.specs.ServiceCalls.{TellsByTable}
-use Rattle.world_model.specs.Crashing.{is_crashed_item}
-use Rattle.world_model.specs.Finishing.{Place}
-use Rattle.world_model.specs.Machines.{Machine}
+use Rattle.world_model.specs.meaning.Crashing.{is_crashed_item}
+use Rattle.world_model.specs.meaning.Finishing.{Place}
+use Rattle.world_model.specs.meaning.Machines.{Machine}
 use Rattle.world_model.specs.OneEvent.{OneEvent}
 use Rattle.world_model.specs.Reached.{Reached, Begins, GoesOn, IsFinishing, Scheduled, Finishes}
-use Rattle.world_model.specs.ServiceDid.{item_telling}
-use Rattle.world_model.specs.Serving.{Front, front_at, is_item_of, commits_after, outcome_frame}
+use Rattle.world_model.specs.meaning.ServiceDid.{item_telling}
+use Rattle.world_model.specs.meaning.Serving.{Front, front_at, is_item_of, commits_after, outcome_frame}
 use Rattle.run_laws.specs.StoredLaws.{AnswersAreRight}
 use Rattle.world_model.specs.ToldByStore.{AreByStore}
 use Rattle.world_model.specs.Traced.{Traced}

@@ -13,17 +13,17 @@ use Rattle.outage_schedule.specs.declared.item.Item.{Item}
 use Rattle.outage_schedule.specs.declared.item.Item.TheVariants as item
 use Rattle.outage_schedule.specs.declared.note.AskResult.{AskResult}
 use Rattle.outage_schedule.specs.declared.note.AskResult.TheVariants as told
-use Rattle.run_clauses.specs.Blocks.{Answered, answered_if, answered_by_item, answered_at, answered_in}
-use Rattle.run_clauses.specs.Moments.{HappenedAt}
-use Rattle.run_clauses.specs.Outcomes.{is_uncommitted}
-use Rattle.server_model.specs.Outcomes.{Says}
+use Rattle.run_clauses.specs.meaning.Blocks.{Answered, answered_if, answered_by_item, answered_at, answered_in}
+use Rattle.run_clauses.specs.meaning.Moments.{HappenedAt}
+use Rattle.run_clauses.specs.meaning.Outcomes.{is_uncommitted}
+use Rattle.server_model.specs.meaning.Outcomes.{Says}
 use Rattle.server_model.specs.Runs.{Happened}
 use Rattle.server_model.specs.ServiceCalls.{RunsAre}
 use Rattle.service_calls.specs.Answers.{runs_of}
-use Rattle.world_model.specs.Crashing.{is_crashed_item}
-use Rattle.world_model.specs.Machines.{Machine, next_session}
-use Rattle.world_model.specs.ServiceDid.{item_telling}
-use Rattle.world_model.specs.Serving.{is_item_of, commits_after, outcome_frame}
+use Rattle.world_model.specs.meaning.Crashing.{is_crashed_item}
+use Rattle.world_model.specs.meaning.Machines.{Machine, next_session}
+use Rattle.world_model.specs.meaning.ServiceDid.{item_telling}
+use Rattle.world_model.specs.meaning.Serving.{is_item_of, commits_after, outcome_frame}
 use Rattle.run_laws.proofs.BlockRuns.{answered_by_telling, answered_by_frame, answered_by_one, answered_of}
 use Rattle.run_laws.proofs.EventsTell.{EventTells, TellsNothing, TellsItem, TellsRun, TellsAnswer}
 use Rattle.run_laws.proofs.RunTells.{RunTells, NothingYet, TellsMore}

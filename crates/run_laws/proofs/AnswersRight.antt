@@ -14,10 +14,10 @@ use Rattle.svc_values.specs.declared.entry.SessionId.{SessionId}
 use Rattle.svc_values.specs.declared.frame.Down.{Down}
 use Rattle.svc_values.specs.declared.frame.Up.{Up}
 use Rattle.svc_values.specs.declared.frame.Up.TheVariants as up
-use Rattle.svc_values.specs.Identifiers.{same_ltxid, session_of}
-use Rattle.svc_values.specs.Same.{same_bool}
+use Rattle.svc_values.specs.meaning.Identifiers.{same_ltxid, session_of}
+use Rattle.svc_values.specs.meaning.Same.{same_bool}
 use Rattle.svc_values.specs.SameLaws.{same_ltxid_decides, same_bool_decides}
-use Rattle.ltxid_book.specs.Journal.{is_blocked}
+use Rattle.ltxid_book.specs.meaning.Journal.{is_blocked}
 use Rattle.commit_log.specs.Keeping.{EachKeeps}
 use Rattle.outage_schedule.specs.declared.document.Document.{Document}
 use Rattle.outage_schedule.specs.declared.item.Item.{Item}
@@ -25,26 +25,28 @@ use Rattle.outage_schedule.specs.declared.item.Item.TheVariants as item
 use Rattle.outage_schedule.specs.declared.note.AskResult.{AskResult}
 use Rattle.outage_schedule.specs.declared.note.AskResult.TheVariants as told
 use Rattle.outage_schedule.specs.declared.report.Report.{Report}
-use Rattle.run_clauses.specs.Before.{journal_before}
-use Rattle.run_clauses.specs.EntryEvents.{commits, commits_from, stored_at, stored_before, entries_of}
-use Rattle.run_clauses.specs.Moments.{HappenedAt, Happened as ToldThen, ServedItem, Asked, moments}
-use Rattle.run_clauses.specs.Outcomes.{completed_of, outcome_of, is_told, is_uncommitted, is_forgotten, says_forgotten}
-use Rattle.run_clauses.specs.ServiceBase.{service_base}
-use Rattle.run_clauses.specs.Stored.{Kept, kept_by, next_at, horizon_before, is_answer, is_rightly_forgotten, is_right_at, answers_right}
-use Rattle.server_model.specs.Base.{Base, IsSound}
+use Rattle.run_clauses.specs.meaning.Before.{journal_before}
+use Rattle.run_clauses.specs.meaning.EntryEvents.{commits, commits_from, stored_at, stored_before, entries_of}
+use Rattle.run_clauses.specs.meaning.Moments.{HappenedAt, Happened as ToldThen, ServedItem, Asked, moments}
+use Rattle.run_clauses.specs.meaning.Outcomes.{completed_of, outcome_of, is_told, is_uncommitted, is_forgotten, says_forgotten}
+use Rattle.run_clauses.specs.meaning.ServiceBase.{service_base}
+use Rattle.run_clauses.specs.meaning.Stored.{Kept, kept_by, next_at, horizon_before, is_answer, is_rightly_forgotten, is_right_at, answers_right}
+use Rattle.server_model.specs.meaning.Base.{Base}
+use Rattle.server_model.specs.Base.{IsSound}
 use Rattle.server_model.specs.Core.{all_entries, all_blocked}
 use Rattle.server_model.specs.Laws.{EntryNumbers, LastOf, TellsUncommitted, stops_last}
-use Rattle.server_model.specs.Outcomes.{Says, down_of, verdict_on}
+use Rattle.server_model.specs.meaning.Outcomes.{Says}
+use Rattle.server_model.specs.Outcomes.{down_of, verdict_on}
 use Rattle.server_model.specs.Runs.{Happened, Served as ServedFrame, Asked as WasAsked, Server, Moves, Makes, Answers, Halts, Loses, AnswersAsk, HaltsInAsk, Reaps, Falls, Opens, StopsOpening, Runs}
 use Rattle.server_model.specs.Seen.{Seen}
 use Rattle.server_model.specs.ServiceCalls.{CameFrom}
 use Rattle.server_model.proofs.Offered.{blocks_are_stored, runs_keep_base}
-use Rattle.world_model.specs.Crashing.{is_crashed_item}
-use Rattle.world_model.specs.Machines.{Machine}
+use Rattle.world_model.specs.meaning.Crashing.{is_crashed_item}
+use Rattle.world_model.specs.meaning.Machines.{Machine}
 use Rattle.world_model.specs.records.Number.{numbered_after}
 use Rattle.world_model.specs.Reported.{IsReported}
-use Rattle.world_model.specs.ServiceDid.{item_telling}
-use Rattle.world_model.specs.Serving.{is_item_of, commits_after, outcome_frame}
+use Rattle.world_model.specs.meaning.ServiceDid.{item_telling}
+use Rattle.world_model.specs.meaning.Serving.{is_item_of, commits_after, outcome_frame}
 use Rattle.world_model.specs.Traced.{Traced}
 use Rattle.world_model.proofs.Offered.{append_all, weaker_all, IsAnswer, move_answer, outcomes_answer, not_refused, at_event, event_of_item, finishing_coupled, finishing_sound, eq_from, eq_to, lt_from, lt_to}
 use Rattle.run_laws.proofs.BlockedApart.{report_numbered}

@@ -6,14 +6,15 @@ use Rattle.svc_values.specs.declared.entry.Ltxid.{Ltxid}
 use Rattle.svc_values.specs.declared.frame.Up.{Up}
 use Rattle.svc_values.specs.declared.frame.Up.TheVariants as up
 use Rattle.svc_values.specs.declared.frame.Down.TheVariants as down
-use Rattle.ltxid_book.specs.Journal.{Committed, committed_of, is_blocked, next_ltxid, state_of}
+use Rattle.ltxid_book.specs.meaning.Journal.{Committed, committed_of, is_blocked, next_ltxid, state_of}
 use Rattle.ltxid_book.specs.declared.verdict.Verdict.{Verdict}
 use Rattle.ltxid_book.specs.declared.verdict.Verdict.TheVariants as verdict
 use Rattle.ltxid_book.proofs.Offered.{may_known}
-use Rattle.run_clauses.specs.Blocks.{Answered}
-use Rattle.server_model.specs.Base.{Base}
+use Rattle.run_clauses.specs.meaning.Blocks.{Answered}
+use Rattle.server_model.specs.meaning.Base.{Base}
 use Rattle.server_model.specs.Core.{Core, all_entries, all_blocked}
-use Rattle.server_model.specs.Outcomes.{Telling, Says, Stopped, Outcomes, IsTold, BlockStops, verdict_on, down_of, if_blocks, with_block}
+use Rattle.server_model.specs.meaning.Outcomes.{Telling, Says, Stopped}
+use Rattle.server_model.specs.Outcomes.{Outcomes, IsTold, BlockStops, verdict_on, down_of, if_blocks, with_block}
 use Rattle.server_model.specs.Runs.{Happened, Served, Asked, Server, Moves, Makes, Answers, Halts, Loses, AnswersAsk, HaltsInAsk, Reaps, Falls, Opens, StopsOpening, Runs, Start, Then, reopened_core, forgetting}
 use Rattle.server_model.specs.Serve.{Serve, Connects, Begins, Ends, Closes, Asks, Runs as Serves, Refuses}
 use Rattle.server_model.specs.Sessions.{Sess}

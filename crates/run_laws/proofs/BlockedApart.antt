@@ -6,17 +6,18 @@ use Rattle.std.proofs.lemmas.Bool.{and_parts, and_from}
 use Rattle.std.proofs.lemmas.List.{append-nil}
 use Rattle.svc_values.specs.declared.entry.Entry.{Entry}
 use Rattle.svc_values.specs.declared.entry.Ltxid.{Ltxid}
-use Rattle.svc_values.specs.Identifiers.{same_ltxid, session_of}
+use Rattle.svc_values.specs.meaning.Identifiers.{same_ltxid, session_of}
 use Rattle.svc_values.specs.SameLaws.{same_ltxid_decides}
-use Rattle.ltxid_book.specs.Journal.{committed_of, BlocksStand}
+use Rattle.ltxid_book.specs.meaning.Journal.{committed_of}
+use Rattle.ltxid_book.specs.Journal.{BlocksStand}
 use Rattle.outage_schedule.specs.declared.document.Document.{Document}
 use Rattle.outage_schedule.specs.declared.report.Report.{Report}
-use Rattle.run_clauses.specs.Before.{journal_before}
-use Rattle.run_clauses.specs.EntryEvents.{entries_of}
-use Rattle.run_clauses.specs.Outcomes.{completed_of}
-use Rattle.run_clauses.specs.ServiceBase.{service_base}
+use Rattle.run_clauses.specs.meaning.Before.{journal_before}
+use Rattle.run_clauses.specs.meaning.EntryEvents.{entries_of}
+use Rattle.run_clauses.specs.meaning.Outcomes.{completed_of}
+use Rattle.run_clauses.specs.meaning.ServiceBase.{service_base}
 use Rattle.commit_log.specs.Keeping.{EachKeeps}
-use Rattle.server_model.specs.Base.{Base}
+use Rattle.server_model.specs.meaning.Base.{Base}
 use Rattle.server_model.specs.Laws.{EntryNumbers, RunsStand}
 use Rattle.server_model.specs.Runs.{Server}
 use Rattle.server_model.specs.Seen.{Seen}

@@ -6,10 +6,10 @@ use Rattle.std.proofs.lemmas.Bool.{or_left, or_right}
 use Rattle.std.proofs.lemmas.List.Folds.{list_any-append}
 use Rattle.std.proofs.lemmas.List.Sums.{fold-append}
 use Rattle.svc_values.specs.declared.entry.Ltxid.{Ltxid}
-use Rattle.svc_values.specs.Identifiers.{same_ltxid}
+use Rattle.svc_values.specs.meaning.Identifiers.{same_ltxid}
 use Rattle.svc_values.specs.SameLaws.{same_ltxid_decides}
-use Rattle.ltxid_book.specs.Journal.{is_blocked}
-use Rattle.run_clauses.specs.Blocks.{Answered, Blocks as Walk, block_next, after_answer, is_done, blocks_answered, blocks_in_order}
+use Rattle.ltxid_book.specs.meaning.Journal.{is_blocked}
+use Rattle.run_clauses.specs.meaning.Blocks.{Answered, Blocks as Walk, block_next, after_answer, is_done, blocks_answered, blocks_in_order}
 use Rattle.world_model.proofs.Offered.{append_all, one_all, weaker_all, or_false}
 use Rattle.run_laws.proofs.BlockRuns.{Blocks, BlocksNone, LeavesOne, BlocksOne, HasBlocked, NoneYet, OneMore}
 

@@ -2,10 +2,10 @@
 use Rattle.std.proofs.Common.{sym, subst, List}
 use Rattle.outage_schedule.specs.declared.document.Document.{Document}
 use Rattle.outage_schedule.specs.declared.report.Report.{Report}
-use Rattle.run_clauses.specs.Before.{journal_before}
-use Rattle.run_clauses.specs.Blocks.{answered_in}
-use Rattle.run_clauses.specs.Moments.{moments}
-use Rattle.run_clauses.specs.ServiceBase.{service_base}
+use Rattle.run_clauses.specs.meaning.Before.{journal_before}
+use Rattle.run_clauses.specs.meaning.Blocks.{answered_in}
+use Rattle.run_clauses.specs.meaning.Moments.{moments}
+use Rattle.run_clauses.specs.meaning.ServiceBase.{service_base}
 use Rattle.server_model.specs.Runs.{Server}
 use Rattle.server_model.specs.Seen.{Seen}
 use Rattle.svc_values.specs.declared.entry.Ltxid.{Ltxid}

@@ -9,13 +9,13 @@ use Rattle.svc_values.specs.declared.entry.Ltxid.{Ltxid}
 use Rattle.svc_values.specs.declared.entry.SessionId.{SessionId}
 use Rattle.svc_values.specs.declared.frame.Up.TheVariants as up
 use Rattle.svc_values.specs.declared.frame.Down.TheVariants as down
-use Rattle.svc_values.specs.Endings.{ends_committed}
-use Rattle.svc_values.specs.Identifiers.{ltxid_of}
+use Rattle.svc_values.specs.meaning.Endings.{ends_committed}
+use Rattle.svc_values.specs.meaning.Identifiers.{ltxid_of}
 use Rattle.outage_schedule.specs.declared.note.NoteRun.{NoteRun}
-use Rattle.run_clauses.specs.EntryEvents.{Commit, commit_if, run_commits}
-use Rattle.server_model.specs.Base.{Base}
+use Rattle.run_clauses.specs.meaning.EntryEvents.{Commit, commit_if, run_commits}
+use Rattle.server_model.specs.meaning.Base.{Base}
 use Rattle.server_model.specs.Laws.{CommitsAs, LastOf}
-use Rattle.server_model.specs.Outcomes.{Silent, Says}
+use Rattle.server_model.specs.meaning.Outcomes.{Silent, Says}
 use Rattle.server_model.specs.Runs.{Happened, Served as ServedFrame, Server, Runs}
 use Rattle.server_model.specs.ServiceCalls.{CameFrom, RunsAre, begins_outside}
 use Rattle.server_model.proofs.Offered.{runs_last}

@@ -6,13 +6,13 @@ use Rattle.std.proofs.lemmas.Bool.{and_parts, and_from, not-true}
 use Rattle.std.proofs.lemmas.List.Sums.{sum_by-cons, sum_by-append}
 use Rattle.svc_values.specs.declared.entry.Entry.{Entry}
 use Rattle.svc_values.specs.declared.entry.SessionId.{SessionId}
-use Rattle.svc_values.specs.Identifiers.{same_session, session_of, is_of_session}
+use Rattle.svc_values.specs.meaning.Identifiers.{same_session, session_of, is_of_session}
 use Rattle.outage_schedule.specs.declared.item.Item.{Item}
 use Rattle.outage_schedule.specs.declared.item.Item.TheVariants as item
 use Rattle.outage_schedule.specs.declared.note.NoteRun.{NoteRun}
-use Rattle.svc_values.specs.Endings.{ends_committed}
-use Rattle.run_clauses.specs.EntryEvents.{Commit, commits_by, commit_if, has_crashed_commit, item_commits, run_commits, commits_at, commits_from, StoredEntry, stored_at, stored_before, entries_of}
-use Rattle.run_clauses.specs.Moments.{HappenedAt, Happened, ServedItem, RanOutside, Asked}
+use Rattle.svc_values.specs.meaning.Endings.{ends_committed}
+use Rattle.run_clauses.specs.meaning.EntryEvents.{Commit, commits_by, commit_if, has_crashed_commit, item_commits, run_commits, commits_at, commits_from, StoredEntry, stored_at, stored_before, entries_of}
+use Rattle.run_clauses.specs.meaning.Moments.{HappenedAt, Happened, ServedItem, RanOutside, Asked}
 use Rattle.world_model.proofs.Offered.{append_all, entries_more, entries_cons}
 
 -- MORE MOMENTS ------------------------------------------------------------------------------------

@@ -10,24 +10,25 @@ use Rattle.svc_values.specs.declared.entry.SessionId.{SessionId}
 use Rattle.svc_values.specs.declared.frame.Up.{Up}
 use Rattle.svc_values.specs.declared.frame.Up.TheVariants as up
 use Rattle.svc_values.specs.declared.frame.Down.TheVariants as down
-use Rattle.svc_values.specs.Identifiers.{session_of}
-use Rattle.svc_values.specs.Same.{same_bool, same_call}
+use Rattle.svc_values.specs.meaning.Identifiers.{session_of}
+use Rattle.svc_values.specs.meaning.Same.{same_bool, same_call}
 use Rattle.svc_values.specs.SameLaws.{same_bool_decides, same_call_decides}
 use Rattle.outage_schedule.specs.declared.item.Item.{Item}
 use Rattle.outage_schedule.specs.declared.item.Item.TheVariants as item
-use Rattle.run_clauses.specs.EntryEvents.{Commit, commits_by, commit_if, has_crashed_commit, item_commits, run_commits, commits_from, entries_of}
-use Rattle.run_clauses.specs.Moments.{HappenedAt}
-use Rattle.server_model.specs.Base.{Base, IsSound}
+use Rattle.run_clauses.specs.meaning.EntryEvents.{Commit, commits_by, commit_if, has_crashed_commit, item_commits, run_commits, commits_from, entries_of}
+use Rattle.run_clauses.specs.meaning.Moments.{HappenedAt}
+use Rattle.server_model.specs.meaning.Base.{Base}
+use Rattle.server_model.specs.Base.{IsSound}
 use Rattle.server_model.specs.Laws.{CommitsAs, EntryNumbers, is_behind, stops_last}
-use Rattle.server_model.specs.Outcomes.{Says, Stopped}
+use Rattle.server_model.specs.meaning.Outcomes.{Says, Stopped}
 use Rattle.server_model.specs.Runs.{Happened, Served as ServedFrame, Asked as WasAsked, Server, Runs}
 use Rattle.server_model.specs.ServiceCalls.{CameFrom, begins_outside}
 use Rattle.server_model.proofs.Offered.{entry_from_item}
-use Rattle.world_model.specs.Crashing.{is_crashed_item}
-use Rattle.world_model.specs.Machines.{Machine, next_session}
+use Rattle.world_model.specs.meaning.Crashing.{is_crashed_item}
+use Rattle.world_model.specs.meaning.Machines.{Machine, next_session}
 use Rattle.world_model.specs.records.Number.{numbered_after}
-use Rattle.world_model.specs.ServiceDid.{item_telling}
-use Rattle.world_model.specs.Serving.{is_item_of, commits_after, identifier, outcome_frame}
+use Rattle.world_model.specs.meaning.ServiceDid.{item_telling}
+use Rattle.world_model.specs.meaning.Serving.{is_item_of, commits_after, identifier, outcome_frame}
 use Rattle.run_laws.proofs.CommitsAligned.{Gains, Since, since_none, last, adds, entries_now, since_last, since_quiet, outside_since, all_came, own_came, are_more}
 use Rattle.run_laws.proofs.CommitsGrow.{session_in, session_at, AreOf, commits_behind, commits_more, behind_counts, same_counts}
 use Rattle.run_laws.proofs.CommitsStored.{no_entries, reply_are, none_later, stops_rest, run_numbered, stopped_are}

@@ -14,14 +14,15 @@ use Rattle.svc_values.specs.declared.entry.Ltxid.{Ltxid}
 use Rattle.svc_values.specs.declared.entry.SessionId.{SessionId}
 use Rattle.svc_values.specs.declared.frame.Up.TheVariants as up
 use Rattle.svc_values.specs.declared.frame.Down.TheVariants as down
-use Rattle.svc_values.specs.Calls.{has_commit}
-use Rattle.svc_values.specs.Endings.{ends_committed}
-use Rattle.svc_values.specs.Identifiers.{same_ltxid, session_of, is_of_session}
+use Rattle.svc_values.specs.meaning.Calls.{has_commit}
+use Rattle.svc_values.specs.meaning.Endings.{ends_committed}
+use Rattle.svc_values.specs.meaning.Identifiers.{same_ltxid, session_of, is_of_session}
 use Rattle.svc_values.specs.SameLaws.{same_ltxid_decides}
-use Rattle.run_clauses.specs.EntryEvents.{Commit, commits_by, commit_if, has_crashed_commit, next_of_session, entries_of}
-use Rattle.server_model.specs.Base.{Base, IsSound}
+use Rattle.run_clauses.specs.meaning.EntryEvents.{Commit, commits_by, commit_if, has_crashed_commit, next_of_session, entries_of}
+use Rattle.server_model.specs.meaning.Base.{Base}
+use Rattle.server_model.specs.Base.{IsSound}
 use Rattle.server_model.specs.Laws.{CommitsAs, EntryNumbers, is_behind, stops_last}
-use Rattle.server_model.specs.Outcomes.{Silent, Says, Stopped}
+use Rattle.server_model.specs.meaning.Outcomes.{Silent, Says, Stopped}
 use Rattle.server_model.specs.Runs.{Happened, Served as ServedFrame, Asked as WasAsked, Server, Runs}
 use Rattle.server_model.specs.ServiceCalls.{CameFrom}
 use Rattle.world_model.specs.records.Number.{numbered_after}

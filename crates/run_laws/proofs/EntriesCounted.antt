@@ -9,8 +9,8 @@ use Rattle.std.proofs.lemmas.List.Sums.{sum_by-cons}
 use Rattle.svc_values.specs.declared.entry.Entry.{Entry}
 use Rattle.svc_values.specs.declared.entry.SessionId.{SessionId}
 use Rattle.svc_values.specs.declared.frame.Down.{Down}
-use Rattle.svc_values.specs.Identifiers.{same_session, is_of_session}
-use Rattle.svc_values.specs.Same.{same_bool}
+use Rattle.svc_values.specs.meaning.Identifiers.{same_session, is_of_session}
+use Rattle.svc_values.specs.meaning.Same.{same_bool}
 use Rattle.svc_values.specs.SameLaws.{same_session_decides}
 use Rattle.commit_log.specs.Keeping.{EachKeeps}
 use Rattle.outage_schedule.specs.declared.document.Document.{Document}
@@ -18,18 +18,18 @@ use Rattle.outage_schedule.specs.declared.event.Event.{Event}
 use Rattle.outage_schedule.specs.declared.item.Served.{Served}
 use Rattle.outage_schedule.specs.declared.note.Note.{Note}
 use Rattle.outage_schedule.specs.declared.report.Report.{Report}
-use Rattle.run_clauses.specs.Before.{journal_before}
-use Rattle.run_clauses.specs.EntryEvents.{StoredEntry, stored_entries, stored_before, stored_up_to, entries_of}
+use Rattle.run_clauses.specs.meaning.Before.{journal_before}
+use Rattle.run_clauses.specs.meaning.EntryEvents.{StoredEntry, stored_entries, stored_before, stored_up_to, entries_of}
 use Rattle.server_model.specs.Laws.{EntryNumbers}
 use Rattle.server_model.specs.Runs.{Server}
 use Rattle.server_model.specs.Seen.{Seen}
 use Rattle.world_model.specs.records.Basic.{item_events, is_named, first_is_connect}
-use Rattle.world_model.specs.Crashing.{is_crashed_item}
+use Rattle.world_model.specs.meaning.Crashing.{is_crashed_item}
 use Rattle.run_laws.specs.EntryCounts.{RunsOn, OneMore, stored_by, is_counted_by, are_counted_from, are_counted, RunsCountEntries, FinishesCountEntries}
-use Rattle.world_model.specs.Frames.{Handled}
+use Rattle.world_model.specs.meaning.Frames.{Handled}
 use Rattle.world_model.specs.Orderly.{Orderly}
-use Rattle.world_model.specs.Links.{Link}
-use Rattle.world_model.specs.Machines.{Machine}
+use Rattle.world_model.specs.meaning.Links.{Link}
+use Rattle.world_model.specs.meaning.Machines.{Machine}
 use Rattle.world_model.specs.records.Number.{is_stopped_call, is_counted, last_is_stopped_commit}
 use Rattle.world_model.specs.OneEvent.{OneEvent}
 use Rattle.world_model.specs.Parts.{implies, number_of, is_commit_call}
@@ -38,7 +38,7 @@ use Rattle.world_model.specs.records.Ready.{all_requests_right}
 use Rattle.world_model.specs.Reported.{IsReported}
 use Rattle.world_model.specs.RunLaws.{RunsAreOrderly}
 use Rattle.world_model.specs.Sames.{each_pair, all_with}
-use Rattle.world_model.specs.Serving.{Front, is_of_front, is_item_of, reply_of, after_front}
+use Rattle.world_model.specs.meaning.Serving.{Front, is_of_front, is_item_of, reply_of, after_front}
 use Rattle.world_model.specs.Traced.{Traced}
 use Rattle.world_model.specs.records.Wire.{is_handled, counted_with, handled_from, same_replies}
 use Rattle.world_model.proofs.Offered.{Keeps, links_keep, every_all, weaker_all, opens_once, sends_alike, handled_alike, cut_case, fallen_case, last_pushed, Followed, follow_happens, at_event, commits_behind, is_commit_of, behind_is, items_at, event_of_item, no_test, counts_commits, stopped_item, reached_start, reached_coupled, finishing_reached, eq_from, eq_to, le_from, le_to, lt_from, lt_to, not_both}

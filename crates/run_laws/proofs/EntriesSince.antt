@@ -10,13 +10,15 @@ use Rattle.svc_values.specs.declared.entry.SessionId.{SessionId}
 use Rattle.svc_values.specs.declared.frame.Up.{Up}
 use Rattle.svc_values.specs.declared.frame.Up.TheVariants as up
 use Rattle.svc_values.specs.declared.frame.Down.TheVariants as down
-use Rattle.svc_values.specs.Calls.{has_commit}
-use Rattle.svc_values.specs.Endings.{ends_committed}
-use Rattle.svc_values.specs.Identifiers.{session_of}
-use Rattle.server_model.specs.Base.{Base, IsSound}
+use Rattle.svc_values.specs.meaning.Calls.{has_commit}
+use Rattle.svc_values.specs.meaning.Endings.{ends_committed}
+use Rattle.svc_values.specs.meaning.Identifiers.{session_of}
+use Rattle.server_model.specs.meaning.Base.{Base}
+use Rattle.server_model.specs.Base.{IsSound}
 use Rattle.server_model.specs.Core.{Core}
 use Rattle.server_model.specs.Laws.{CommitsAs}
-use Rattle.server_model.specs.Outcomes.{Telling, Says, Stopped, Outcomes, IsTold, BlockStops}
+use Rattle.server_model.specs.meaning.Outcomes.{Telling, Says, Stopped}
+use Rattle.server_model.specs.Outcomes.{Outcomes, IsTold, BlockStops}
 use Rattle.server_model.specs.Runs.{Happened, Served, Asked, Server, Power, Off, On, Halted, Turns, Moves, Makes, Answers, Halts, Loses, AnswersAsk, HaltsInAsk, Reaps, Falls, Opens, StopsOpening, Runs, Start, Then, is_running}
 use Rattle.server_model.specs.Serve.{Serve}
 use Rattle.server_model.specs.Sessions.{Sess}

@@ -12,11 +12,12 @@ use Rattle.outage_schedule.specs.declared.event.Event.{Event}
 use Rattle.outage_schedule.specs.declared.item.Served.{Served}
 use Rattle.outage_schedule.specs.declared.note.Note.{Note}
 use Rattle.outage_schedule.specs.declared.report.Report.{Report}
-use Rattle.run_clauses.specs.Before.{journal_before}
-use Rattle.run_clauses.specs.EntryEvents.{commits, commits_from, stored_at, stored_before, stored_entries, entries_of}
-use Rattle.run_clauses.specs.Moments.{HappenedAt}
-use Rattle.run_clauses.specs.ServiceBase.{service_base}
-use Rattle.server_model.specs.Base.{Base, IsSound}
+use Rattle.run_clauses.specs.meaning.Before.{journal_before}
+use Rattle.run_clauses.specs.meaning.EntryEvents.{commits, commits_from, stored_at, stored_before, stored_entries, entries_of}
+use Rattle.run_clauses.specs.meaning.Moments.{HappenedAt}
+use Rattle.run_clauses.specs.meaning.ServiceBase.{service_base}
+use Rattle.server_model.specs.meaning.Base.{Base}
+use Rattle.server_model.specs.Base.{IsSound}
 use Rattle.server_model.specs.Laws.{EntryNumbers, stops_last}
 use Rattle.server_model.specs.Runs.{Happened, Server, Runs}
 use Rattle.server_model.specs.Seen.{Seen}

@@ -5,7 +5,7 @@ use Rattle.std.specs.List.{list_all}
 use Rattle.std.proofs.lemmas.Bool.{and_parts, and_from}
 use Rattle.svc_values.specs.declared.call.Call.{Call}
 use Rattle.svc_values.specs.declared.entry.Ltxid.{Ltxid}
-use Rattle.svc_values.specs.Identifiers.{same_ltxid}
+use Rattle.svc_values.specs.meaning.Identifiers.{same_ltxid}
 use Rattle.svc_values.specs.SameLaws.{same_ltxid_decides}
 use Rattle.outage_schedule.specs.declared.event.Event.{Event}
 use Rattle.outage_schedule.specs.declared.event.Event.TheVariants as event
@@ -15,23 +15,25 @@ use Rattle.outage_schedule.specs.declared.note.FrameName.{FrameName}
 use Rattle.outage_schedule.specs.declared.note.Note.{Note}
 use Rattle.outage_schedule.specs.declared.note.Note.TheVariants as note
 use Rattle.outage_schedule.specs.declared.note.OutsideNote.{OutsideNote}
-use Rattle.run_clauses.specs.Moments.{HappenedAt, RanOutside, Asked, moment_of_item}
-use Rattle.server_model.specs.Outcomes.{Says}
+use Rattle.run_clauses.specs.meaning.Moments.{HappenedAt, RanOutside, Asked, moment_of_item}
+use Rattle.server_model.specs.meaning.Outcomes.{Says}
 use Rattle.server_model.specs.Runs.{Happened, Served as ServedFrame, Asked as WasAsked}
-use Rattle.server_model.specs.ServiceCalls.{RunsAre, begins_outside, is_failover}
+use Rattle.server_model.specs.meaning.ServiceCalls.{is_failover}
+use Rattle.server_model.specs.ServiceCalls.{RunsAre, begins_outside}
 use Rattle.service_calls.specs.Answers.{runs_of}
-use Rattle.world_model.specs.Cutting.{follow_cut, follow_reap}
-use Rattle.world_model.specs.Crashing.{is_crashed_item, is_stopped, is_over, serves_last, after_stopped, falls}
-use Rattle.world_model.specs.Machines.{Machine, next_session}
-use Rattle.world_model.specs.Going.{follow_go}
-use Rattle.world_model.specs.Matching.{Noted, Went, ServedOn, CutOff, Reaped, Crashed, Asked as AskedThen}
-use Rattle.world_model.specs.Noting.{only_if, same_name, name_of}
-use Rattle.world_model.specs.Opening.{follow_up, follow_upcrash}
-use Rattle.world_model.specs.Outside.{ticked, after_asked, follow_outside, follow_ask, follow_drain}
-use Rattle.world_model.specs.ServiceDid.{ServiceDid, front_served, front_telling}
-use Rattle.world_model.specs.Serving.{Front, front_at, is_of_front, is_item_of, is_ordinary, serves, after_served, outcome_frame, identifier}
-use Rattle.world_model.specs.Settings.{Setting}
-use Rattle.world_model.specs.Walking.{leaving, by_kind, follow}
+use Rattle.world_model.specs.meaning.Cutting.{follow_cut, follow_reap}
+use Rattle.world_model.specs.meaning.Crashing.{is_crashed_item, is_stopped, is_over, serves_last, after_stopped, falls}
+use Rattle.world_model.specs.meaning.Machines.{Machine, next_session}
+use Rattle.world_model.specs.meaning.Going.{follow_go}
+use Rattle.world_model.specs.meaning.Matching.{Noted, Went, ServedOn, CutOff, Reaped, Crashed, Asked as AskedThen}
+use Rattle.world_model.specs.meaning.Noting.{only_if, same_name, name_of}
+use Rattle.world_model.specs.meaning.Opening.{follow_up, follow_upcrash}
+use Rattle.world_model.specs.meaning.Outside.{ticked, after_asked, follow_outside, follow_ask, follow_drain}
+use Rattle.world_model.specs.meaning.ServiceDid.{front_telling}
+use Rattle.world_model.specs.ServiceDid.{ServiceDid, front_served}
+use Rattle.world_model.specs.meaning.Serving.{Front, front_at, is_of_front, is_item_of, is_ordinary, serves, after_served, outcome_frame, identifier}
+use Rattle.world_model.specs.meaning.Settings.{Setting}
+use Rattle.world_model.specs.meaning.Walking.{leaving, by_kind, follow}
 use Rattle.world_model.proofs.Offered.{at_event, left_or, reaches, reaches_if, mapped, only_is, event_of_item, only_met, eq_to}
 use Rattle.run_laws.proofs.MomentsGrow.{event_moments}
 

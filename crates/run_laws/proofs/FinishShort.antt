@@ -11,15 +11,15 @@ use Rattle.outage_schedule.specs.declared.event.Event.{Event}
 use Rattle.outage_schedule.specs.declared.item.Served.{Served}
 use Rattle.outage_schedule.specs.declared.note.Note.{Note}
 use Rattle.server_model.specs.Seen.{Seen}
-use Rattle.world_model.specs.Clients.{script_at, is_unfinished}
-use Rattle.world_model.specs.Finishing.{AtServer}
+use Rattle.world_model.specs.meaning.Clients.{script_at, is_unfinished}
+use Rattle.world_model.specs.meaning.Finishing.{AtServer}
 use Rattle.run_laws.specs.FinishShort.{is_repeated_little, AreLimits, FinishIsShort}
-use Rattle.world_model.specs.Machines.{Machine}
+use Rattle.world_model.specs.meaning.Machines.{Machine}
 use Rattle.world_model.specs.Reached.{Reached, Begins, GoesOn}
 use Rattle.world_model.specs.records.Ready.{is_right_request}
 use Rattle.world_model.specs.Remaining.{once_if, links_work, round_work, rounds_from}
 use Rattle.world_model.specs.RunLaws.{RunsAreOrderly}
-use Rattle.world_model.specs.Settings.{setting_of}
+use Rattle.world_model.specs.meaning.Settings.{setting_of}
 use Rattle.world_model.specs.Traced.{Traced}
 use Rattle.world_model.proofs.Offered.{once_most, happens_long, at_event, Followed, follow_happens, have_calls, reached_setting}
 use Rattle.run_laws.proofs.LinksShort.{AddsFew, happens_adds}

@@ -4,7 +4,7 @@ use Rattle.std.specs.Prelude.{◌==◌, not, nat_le, filter, cond}
 use Rattle.std.proofs.lemmas.List.{length-drop, length-map}
 use Rattle.svc_values.specs.declared.frame.Up.{Up}
 use Rattle.pool_core.specs.declared.answers.Back.{Back}
-use Rattle.pool_core.specs.Slots.{Slots, has_to_wait, joined, without, drains, give_back_answer, after_take, after_gone}
+use Rattle.pool_core.specs.meaning.Slots.{Slots, has_to_wait, joined, without, drains, give_back_answer, after_take, after_gone}
 use Rattle.client_model.specs.declared.act.Act.{Act}
 use Rattle.client_model.specs.declared.act.Failed.TheVariants.{PoolWait, Retries}
 use Rattle.client_model.specs.declared.act.Hold.{Hold}
@@ -12,23 +12,23 @@ use Rattle.client_model.specs.declared.act.Hold.TheVariants.{Keep, GiveBack, Dro
 use Rattle.client_model.specs.declared.input.Input.{Input}
 use Rattle.client_model.specs.declared.input.Input.TheVariants.{Start, Waiting, Lent, Opened, TryFailed, Took, Gone}
 use Rattle.client_model.specs.declared.input.Wants.{Wants}
-use Rattle.client_model.specs.Released.{released}
-use Rattle.client_model.specs.Terms.{Terms, Talk, Queued, Seeking, Greeting}
-use Rattle.client_model.specs.Talk.{Step, stands, quiet, fails, on_hello, waits_from, with_tried, lost_of, talk_step, takes as taken_by}
+use Rattle.client_model.specs.meaning.Released.{released}
+use Rattle.client_model.specs.meaning.Terms.{Terms, Talk, Queued, Seeking, Greeting}
+use Rattle.client_model.specs.meaning.Talk.{Step, stands, quiet, fails, on_hello, waits_from, with_tried, lost_of, talk_step, takes as taken_by}
 use Rattle.outage_schedule.specs.declared.item.Item.{Item}
 use Rattle.outage_schedule.specs.declared.item.Served.{Served}
-use Rattle.world_model.specs.Settings.{Setting}
-use Rattle.world_model.specs.Frames.{Sent, up_size, whole_front}
-use Rattle.world_model.specs.Links.{Link, new_link, link_at, with_link, changed, sends, takes, is_orphan, open_from}
-use Rattle.world_model.specs.Clients.{Doing, doing_at, heard}
-use Rattle.world_model.specs.Acting.{closing, frames_of, sent_by, owner_at, connection_of, call_in, act_at, steps}
-use Rattle.world_model.specs.Machines.{Machine}
-use Rattle.world_model.specs.Matching.{Noted}
-use Rattle.world_model.specs.Going.{lost_at_once}
-use Rattle.world_model.specs.Serving.{is_blocked, pool_after, handled, after_served}
-use Rattle.world_model.specs.Cutting.{cut_link, reaped_link}
-use Rattle.world_model.specs.Crashing.{fallen_link, falls, after_stopped}
-use Rattle.world_model.specs.Outside.{closed_by_drain}
+use Rattle.world_model.specs.meaning.Settings.{Setting}
+use Rattle.world_model.specs.meaning.Frames.{Sent, up_size, whole_front}
+use Rattle.world_model.specs.meaning.Links.{Link, new_link, link_at, with_link, changed, sends, takes, is_orphan, open_from}
+use Rattle.world_model.specs.meaning.Clients.{Doing, doing_at, heard}
+use Rattle.world_model.specs.meaning.Acting.{closing, frames_of, sent_by, owner_at, connection_of, call_in, act_at, steps}
+use Rattle.world_model.specs.meaning.Machines.{Machine}
+use Rattle.world_model.specs.meaning.Matching.{Noted}
+use Rattle.world_model.specs.meaning.Going.{lost_at_once}
+use Rattle.world_model.specs.meaning.Serving.{is_blocked, pool_after, handled, after_served}
+use Rattle.world_model.specs.meaning.Cutting.{cut_link, reaped_link}
+use Rattle.world_model.specs.meaning.Crashing.{fallen_link, falls, after_stopped}
+use Rattle.world_model.specs.meaning.Outside.{closed_by_drain}
 use Rattle.world_model.specs.Remaining.{once_if, link_work, links_work}
 use Rattle.world_model.proofs.Offered.{IsFront, front_is, open_is, once_most, few_frames, steps_work, takes_work, whole_begins, with_work, changed_work, sends_work, handled_work, new_work, moves_next_number as next_number, takes_one, Tries, FromQueue, Again, Goes, Rests, Waits, Lends, Opens, MovesFails as Fails, Takes, Loses, ServesLast, LastNone, LastStopped, LastServed, Happens, Nothing, IsStep, Serves, Cuts, Reaps, Crashes, OpensUp, StopsOpening, Ticks, RunsOutside, MovesAsks as Asks, Drains, has_next, is_hushed, said, said_lent}
 

@@ -7,7 +7,7 @@ use Rattle.std.proofs.lemmas.Bool.Decides.{nat_tests}
 use Rattle.outage_schedule.specs.declared.item.Served.{Served}
 use Rattle.outage_schedule.specs.declared.note.Note.{Note}
 use Rattle.outage_schedule.specs.declared.note.Note.TheVariants as note
-use Rattle.run_clauses.specs.Moments.{HappenedAt, moment_of_note, moments_of_notes, moment_of_item, before_event, from_event, in_order}
+use Rattle.run_clauses.specs.meaning.Moments.{HappenedAt, moment_of_note, moments_of_notes, moment_of_item, before_event, from_event, in_order}
 use Rattle.world_model.proofs.Offered.{append_all, weaker_all, eq_from, lt_from, lt_to}
 
 -- what these notes and items tell

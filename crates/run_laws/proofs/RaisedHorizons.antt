@@ -6,8 +6,8 @@ use Rattle.outage_schedule.specs.declared.document.Document.{Document}
 use Rattle.outage_schedule.specs.declared.note.Note.{Note}
 use Rattle.outage_schedule.specs.declared.note.Note.TheVariants as notes
 use Rattle.outage_schedule.specs.declared.report.Report.{Report}
-use Rattle.run_clauses.specs.Before.{journal_before}
-use Rattle.run_clauses.specs.Horizons.{Openings, Wanted, after_note, wanted_horizon, wanted_at, wanted_from, raised, horizon_at, last_horizon}
+use Rattle.run_clauses.specs.meaning.Before.{journal_before}
+use Rattle.run_clauses.specs.meaning.Horizons.{Openings, Wanted, after_note, wanted_horizon, wanted_at, wanted_from, raised, horizon_at, last_horizon}
 use Rattle.world_model.specs.Forgets.{openings_of, first_of, wanted_behind}
 
 abbrev all_raised : ℕ → List Wanted → ℕ

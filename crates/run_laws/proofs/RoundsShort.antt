@@ -9,15 +9,15 @@ use Rattle.svc_values.specs.declared.call.Call.{Call}
 use Rattle.outage_schedule.specs.declared.document.Client.{Client as ClientOf}
 use Rattle.outage_schedule.specs.declared.document.Request.{Request}
 use Rattle.outage_schedule.specs.declared.request.RequestReport.{RequestReport}
-use Rattle.run_clauses.specs.Copies.{Copies, further_copies, copies_of, is_over, next_of}
-use Rattle.client_model.specs.Terms.{Terms, Phase, Idle, Unbegun, Queued, Seeking, Greeting, Asked, Running, Replaying}
-use Rattle.world_model.specs.Settings.{Setting}
-use Rattle.world_model.specs.Clients.{Doing, Client, client_at, script_at, reports_of, begun}
+use Rattle.run_clauses.specs.meaning.Copies.{Copies, further_copies, copies_of, is_over, next_of}
+use Rattle.client_model.specs.meaning.Terms.{Terms, Phase, Idle, Unbegun, Queued, Seeking, Greeting, Asked, Running, Replaying}
+use Rattle.world_model.specs.meaning.Settings.{Setting}
+use Rattle.world_model.specs.meaning.Clients.{Doing, Client, client_at, script_at, reports_of, begun}
 use Rattle.world_model.specs.records.Conversing.{Talks, inputs_of, first_talk}
 use Rattle.run_laws.specs.FinishShort.{calls_of_scripts, is_repeated_little}
-use Rattle.world_model.specs.Finishing.{Place}
+use Rattle.world_model.specs.meaning.Finishing.{Place}
 use Rattle.world_model.specs.Orderly.{Orderly}
-use Rattle.world_model.specs.Machines.{Machine}
+use Rattle.world_model.specs.meaning.Machines.{Machine}
 use Rattle.world_model.specs.records.Ready.{has_calls}
 use Rattle.world_model.specs.Remaining.{once_if, calls_in, rounds_of_one, copies_left, all_left, requests_left, on_open, may_serve, doing_rounds, rounds_with, has_stepped, rounds_from}
 use Rattle.world_model.specs.RoundsLeft.{try_wait, awaits_tick, replays_left, attempt, rounds_in}

@@ -8,20 +8,20 @@ use Rattle.outage_schedule.specs.declared.item.Served.{Served}
 use Rattle.outage_schedule.specs.declared.note.Note.{Note}
 use Rattle.outage_schedule.specs.declared.note.Note.TheVariants as notes
 use Rattle.outage_schedule.specs.declared.report.Report.{Report}
-use Rattle.run_clauses.specs.Horizons.{after_note, wanted_horizon, horizon_at, last_horizon, incarnation_after, incarnation_behind}
+use Rattle.run_clauses.specs.meaning.Horizons.{after_note, wanted_horizon, horizon_at, last_horizon, incarnation_after, incarnation_behind}
 use Rattle.server_model.specs.Seen.{Store, Seen}
 use Rattle.world_model.specs.Coupled.{Coupled}
 use Rattle.world_model.specs.FinishEnds.{is_at_server}
-use Rattle.world_model.specs.Finishing.{Place}
+use Rattle.world_model.specs.meaning.Finishing.{Place}
 use Rattle.world_model.specs.Forgets.{Forgets, openings_of, first_of, wanted_behind}
-use Rattle.world_model.specs.Machines.{Machine}
+use Rattle.world_model.specs.meaning.Machines.{Machine}
 use Rattle.world_model.specs.OneEvent.{OneEvent}
 use Rattle.world_model.specs.Reached.{Reached, Begins, GoesOn, IsFinishing, Scheduled, Finishes}
 use Rattle.run_laws.specs.StoredLaws.{HorizonsAreStored, IncarnationsAreStored}
-use Rattle.world_model.specs.Settings.{Setting}
+use Rattle.world_model.specs.meaning.Settings.{Setting}
 use Rattle.run_laws.specs.StoredLaws.{HorizonsAreTold}
 use Rattle.world_model.specs.Traced.{Traced}
-use Rattle.world_model.specs.Walking.{follow}
+use Rattle.world_model.specs.meaning.Walking.{follow}
 use Rattle.world_model.proofs.Offered.{finish_up, over_up, finishing_coupled, eq_to, openings_more, wanted_rises}
 use Rattle.run_laws.proofs.RaisedHorizons.{raised_by, raised_at, raised_more, raised_so_far, last_raised}
 use Rattle.run_laws.proofs.WasUp.{was_up, stopped_down, incarnation_noted}

@@ -6,21 +6,21 @@ use Rattle.svc_values.specs.declared.entry.Entry.{Entry}
 use Rattle.svc_values.specs.declared.entry.Ltxid.{Ltxid}
 use Rattle.svc_values.specs.declared.frame.Ahead.TheVariants as ahead
 use Rattle.svc_values.specs.declared.frame.Down.TheVariants as down
-use Rattle.svc_values.specs.Identifiers.{session_of}
-use Rattle.svc_values.specs.Same.{same_bool}
+use Rattle.svc_values.specs.meaning.Identifiers.{session_of}
+use Rattle.svc_values.specs.meaning.Same.{same_bool}
 use Rattle.ltxid_book.specs.declared.State.{State}
 use Rattle.ltxid_book.specs.declared.verdict.Verdict.{Verdict}
 use Rattle.ltxid_book.specs.declared.verdict.Verdict.TheVariants as verdict
-use Rattle.ltxid_book.specs.Journal.{committed_of, state_of, book_of}
-use Rattle.ltxid_book.specs.Outcomes.{outcome_in, verdict_of}
-use Rattle.ltxid_book.specs.Sessions.{untouched}
+use Rattle.ltxid_book.specs.meaning.Journal.{committed_of, state_of, book_of}
+use Rattle.ltxid_book.specs.meaning.Outcomes.{outcome_in, verdict_of}
+use Rattle.ltxid_book.specs.meaning.Sessions.{untouched}
 use Rattle.outage_schedule.specs.declared.note.AskResult.{AskResult}
 use Rattle.outage_schedule.specs.declared.note.AskResult.TheVariants as told
-use Rattle.run_clauses.specs.EntryEvents.{entries_of}
-use Rattle.run_clauses.specs.Outcomes.{completed_of, has_committed, told_of, outcome_of, same_told, is_told, is_forgotten, says_forgotten}
+use Rattle.run_clauses.specs.meaning.EntryEvents.{entries_of}
+use Rattle.run_clauses.specs.meaning.Outcomes.{completed_of, has_committed, told_of, outcome_of, same_told, is_told, is_forgotten, says_forgotten}
 use Rattle.server_model.specs.Outcomes.{down_of}
 use Rattle.world_model.specs.records.Number.{numbered_after}
-use Rattle.world_model.specs.Serving.{outcome_frame}
+use Rattle.world_model.specs.meaning.Serving.{outcome_frame}
 use Rattle.world_model.proofs.Offered.{commits_count, verdict_committed, bool_self, eq_from, eq_to}
 
 -- answers with one frame are the same

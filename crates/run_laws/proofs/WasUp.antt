@@ -1,18 +1,18 @@
 -- A server that is up behind an event was up before it, or the event opened it, with the incarnation that its note tells.
 use Rattle.std.proofs.Common.{◌≡◌, sym, ap, ◌∙◌, refl, Bool, true, false, ℕ, List, Some, None}
 use Rattle.std.specs.Prelude.{◌+◌, ◌&&◌, not}
-use Rattle.svc_values.specs.Same.{same_bool}
+use Rattle.svc_values.specs.meaning.Same.{same_bool}
 use Rattle.outage_schedule.specs.declared.event.Event.{Event}
 use Rattle.outage_schedule.specs.declared.event.Event.TheVariants as event
 use Rattle.outage_schedule.specs.declared.note.Note.{Note}
 use Rattle.outage_schedule.specs.declared.note.Note.TheVariants as note
 use Rattle.outage_schedule.specs.declared.item.Served.{Served}
-use Rattle.run_clauses.specs.Horizons.{incarnation_after}
-use Rattle.world_model.specs.Settings.{Setting}
-use Rattle.world_model.specs.Machines.{Machine}
-use Rattle.world_model.specs.Matching.{Noted, Opened, matched}
-use Rattle.world_model.specs.Opening.{follow_up, follow_upcrash, may_open, opened}
-use Rattle.world_model.specs.Walking.{follow}
+use Rattle.run_clauses.specs.meaning.Horizons.{incarnation_after}
+use Rattle.world_model.specs.meaning.Settings.{Setting}
+use Rattle.world_model.specs.meaning.Machines.{Machine}
+use Rattle.world_model.specs.meaning.Matching.{Noted, Opened, matched}
+use Rattle.world_model.specs.meaning.Opening.{follow_up, follow_upcrash, may_open, opened}
+use Rattle.world_model.specs.meaning.Walking.{follow}
 use Rattle.world_model.proofs.Offered.{up_of, served_up, Followed, follow_happens, leaves, at_event, only_is, Happens, Nothing, IsStep, Serves, Cuts, Reaps, Crashes, OpensUp, StopsOpening, Ticks, RunsOutside, MovesAsks as Asks, Drains, only_met, ServersStands as Stands, ServersAsBefore as AsBefore, Fell, Opened as OpenedThen, goes_same, happens_stands}
 
 -- the note of an opening

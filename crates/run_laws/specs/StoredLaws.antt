@@ -2,16 +2,16 @@
 use Rattle.std.specs.Prelude.{Bool, IsTrue}
 use Rattle.outage_schedule.specs.declared.document.Document.{Document}
 use Rattle.outage_schedule.specs.declared.report.Report.{Report}
-use Rattle.run_clauses.specs.Before.{journal_before}
-use Rattle.run_clauses.specs.Blocks.{answered_in, blocks_answered, blocks_in_order}
-use Rattle.run_clauses.specs.Moments.{moments}
-use Rattle.run_clauses.specs.Stored.{kept_by, answers_right, forgotten_fits, blocked_or_entry}
+use Rattle.run_clauses.specs.meaning.Before.{journal_before}
+use Rattle.run_clauses.specs.meaning.Blocks.{answered_in, blocks_answered, blocks_in_order}
+use Rattle.run_clauses.specs.meaning.Moments.{moments}
+use Rattle.run_clauses.specs.meaning.Stored.{kept_by, answers_right, forgotten_fits, blocked_or_entry}
 use Rattle.server_model.specs.Runs.{Server}
 use Rattle.server_model.specs.Seen.{Seen}
 use Rattle.world_model.specs.Reported.{IsReported}
 use Rattle.world_model.specs.Traced.{Traced}
 use Rattle.std.specs.Prelude.{◌≡◌}
-use Rattle.run_clauses.specs.Horizons.{last_horizon, last_incarnation}
+use Rattle.run_clauses.specs.meaning.Horizons.{last_horizon, last_incarnation}
 use Rattle.world_model.specs.Reached.{IsRun}
 
 -- It holds of each report of a whole run.

@@ -9,12 +9,12 @@ use Rattle.svc_values.specs.declared.call.Call.TheVariants as call
 use Rattle.svc_values.specs.declared.draw.Draw.{Draw}
 use Rattle.svc_values.specs.declared.frame.Up.TheVariants as up
 use Rattle.svc_values.specs.declared.statement.Statement.{Statement}
-use Rattle.svc_values.specs.Calls.{is_lone_commit}
-use Rattle.svc_values.specs.Endings.{ends_with}
+use Rattle.svc_values.specs.meaning.Calls.{is_lone_commit}
+use Rattle.svc_values.specs.meaning.Endings.{ends_with}
 use Rattle.outage_schedule.specs.declared.item.Item.{Item}
 use Rattle.outage_schedule.specs.declared.item.Item.TheVariants as item
 use Rattle.server_model.specs.Core.{Core}
-use Rattle.server_model.specs.Outcomes.{Telling}
+use Rattle.server_model.specs.meaning.Outcomes.{Telling}
 use Rattle.server_model.specs.Serve.{Commits, InReplay, Blocks, Conflicts, Stores, StopsBefore, StopsAfter, Works, Answers as AnswersCall, Reaches, HaltsInDraw, Calls, IsWork, IsSet, IsAlter, AlterStops, AlterMarked, IsDisable, IsRollback, with_last}
 use Rattle.server_model.specs.Sessions.{Sess}
 use Rattle.once_laws.specs.CommitAnswers.{fit_commit, commits_fittingly, commit_fittingly}

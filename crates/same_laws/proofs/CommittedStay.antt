@@ -7,15 +7,15 @@ use Rattle.std.specs.Option.{option_map_or}
 use Rattle.std.proofs.lemmas.Bool.{and_parts, and_from, or_right}
 use Rattle.svc_values.specs.declared.answer.Answer.{Answer}
 use Rattle.svc_values.specs.declared.entry.Ltxid.{Ltxid}
-use Rattle.svc_values.specs.Calls.{has_commit}
-use Rattle.svc_values.specs.Endings.{ends_committed}
-use Rattle.svc_values.specs.Identifiers.{session_of}
-use Rattle.run_clauses.specs.EntryEvents.{entries_of}
-use Rattle.world_model.specs.Frames.{Owner}
+use Rattle.svc_values.specs.meaning.Calls.{has_commit}
+use Rattle.svc_values.specs.meaning.Endings.{ends_committed}
+use Rattle.svc_values.specs.meaning.Identifiers.{session_of}
+use Rattle.run_clauses.specs.meaning.EntryEvents.{entries_of}
+use Rattle.world_model.specs.meaning.Frames.{Owner}
 use Rattle.invariant_laws.specs.Invariant.{Invariant}
-use Rattle.world_model.specs.Links.{Link, link_at, takes, sends}
+use Rattle.world_model.specs.meaning.Links.{Link, link_at, takes, sends}
 use Rattle.client_model.specs.declared.input.Input.TheVariants.{Took}
-use Rattle.world_model.specs.Machines.{Machine}
+use Rattle.world_model.specs.meaning.Machines.{Machine}
 use Rattle.world_model.specs.Parts.{Sending, Scan, commit_sendings, has_entry, held_number, implies, number_of, sent_on}
 use Rattle.world_model.specs.Traced.{Traced, courses_of}
 use Rattle.world_model.proofs.Offered.{weaker_all, HasStepped, number_named, at_event, known_of, Right, implied, taken_right, scan_by, heard_scan, after_sendings, first_step, some_same}

@@ -7,8 +7,8 @@ use Rattle.std.proofs.lemmas.List.Folds.{list_all-append}
 use Rattle.outage_schedule.specs.declared.document.Client.{Client as Scripted}
 use Rattle.outage_schedule.specs.declared.document.Request.{Request}
 use Rattle.outage_schedule.specs.declared.request.RequestReport.{RequestReport}
-use Rattle.run_clauses.specs.Copies.{Copies, are_all_copies, copies_by_client, copies_of, further_copies, is_repeated, next_of, with_copy}
-use Rattle.world_model.specs.Clients.{Client, Past, reports_of}
+use Rattle.run_clauses.specs.meaning.Copies.{Copies, are_all_copies, copies_by_client, copies_of, further_copies, is_repeated, next_of, with_copy}
+use Rattle.world_model.specs.meaning.Clients.{Client, Past, reports_of}
 use Rattle.invariant_laws.proofs.Offered.{first_follows, later_follows}
 use Rattle.same_laws.proofs.SameEnd.{of_copies, of_past}
 use Rattle.same_laws.proofs.ScriptsExact.{AreScripts}

@@ -7,10 +7,10 @@ use Rattle.std.proofs.lemmas.Bool.{and_parts, and_from, not-true}
 use Rattle.svc_values.specs.declared.draw.Draw.{Draw}
 use Rattle.svc_values.specs.declared.entry.Entry.{Entry}
 use Rattle.svc_values.specs.declared.entry.Piece.{Piece}
-use Rattle.svc_values.specs.Endings.{ends_transaction}
-use Rattle.svc_values.specs.Identifiers.{same_ltxid}
-use Rattle.svc_values.specs.Same.{same_answers, same_calls, same_draws}
-use Rattle.svc_values.specs.SettingsList.{same_settings, with_sets}
+use Rattle.svc_values.specs.meaning.Endings.{ends_transaction}
+use Rattle.svc_values.specs.meaning.Identifiers.{same_ltxid}
+use Rattle.svc_values.specs.meaning.Same.{same_answers, same_calls, same_draws}
+use Rattle.svc_values.specs.meaning.SettingsList.{same_settings, with_sets}
 use Rattle.outage_schedule.specs.declared.request.ShownCall.{ShownCall}
 use Rattle.invariant_laws.specs.EntryParts.{answered_from, drew_from, drew_so, ends_answered, first_of, goes_on, has_its_calls, inside_answered, of_entries, starts_one}
 use Rattle.invariant_laws.specs.Once.{is_open_or_committed}

@@ -6,7 +6,7 @@ use Rattle.std.specs.Option.{option_map_or}
 use Rattle.std.proofs.lemmas.Bool.{and_parts, and_from}
 use Rattle.svc_values.specs.declared.draw.Draw.{Draw}
 use Rattle.svc_values.specs.declared.entry.Piece.{Piece}
-use Rattle.svc_values.specs.Same.{same_answers, same_draws, same_piece}
+use Rattle.svc_values.specs.meaning.Same.{same_answers, same_draws, same_piece}
 use Rattle.svc_values.specs.SameLaws.{same_piece_decides}
 use Rattle.outage_schedule.specs.declared.request.ShownCall.{ShownCall}
 use Rattle.once_laws.specs.CallEndings.{end_fittingly}

@@ -7,17 +7,17 @@ use Rattle.std.specs.Option.{option_map_or}
 use Rattle.std.proofs.lemmas.Bool.{and_parts, or_cases, or_left, or_right}
 use Rattle.svc_values.specs.declared.answer.Answer.{Answer}
 use Rattle.svc_values.specs.declared.draw.Draw.{Draw}
-use Rattle.svc_values.specs.Endings.{ends_transaction, ends_with, is_committed, is_conflict, is_rolled_back}
-use Rattle.svc_values.specs.Same.{same_answers, same_draws}
+use Rattle.svc_values.specs.meaning.Endings.{ends_transaction, ends_with, is_committed, is_conflict, is_rolled_back}
+use Rattle.svc_values.specs.meaning.Same.{same_answers, same_draws}
 use Rattle.svc_values.specs.SameLaws.{same_answers_decide}
 use Rattle.outage_schedule.specs.declared.item.Item.{Item}
 use Rattle.outage_schedule.specs.declared.item.Item.TheVariants as item
 use Rattle.outage_schedule.specs.declared.request.ShownCall.{ShownCall}
-use Rattle.request_bounds.specs.Replies.{ends_decided}
+use Rattle.request_bounds.specs.meaning.Replies.{ends_decided}
 use Rattle.once_laws.specs.CommitAnswers.{commit_fittingly}
 use Rattle.invariant_laws.specs.EntryParts.{ended_at, of_entries, starts_one}
 use Rattle.invariant_laws.specs.FirstCalls.{all_begin_there, begins_there, ends_before, is_behind_decided, is_ended, may_begin, transactions_begin}
-use Rattle.world_model.specs.Frames.{Handled}
+use Rattle.world_model.specs.meaning.Frames.{Handled}
 use Rattle.invariant_laws.specs.Invariant.{Invariant}
 use Rattle.world_model.specs.Parts.{implies}
 use Rattle.once_laws.specs.Redrawn.{repeats_redraw}

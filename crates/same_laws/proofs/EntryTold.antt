@@ -5,7 +5,7 @@ use Rattle.std.specs.Option.{option_map_or}
 use Rattle.std.proofs.lemmas.Bool.{and_parts, and_from}
 use Rattle.svc_values.specs.declared.draw.Draw.{Draw}
 use Rattle.invariant_laws.specs.Invariant.{Invariant}
-use Rattle.world_model.specs.Links.{Link}
+use Rattle.world_model.specs.meaning.Links.{Link}
 use Rattle.once_laws.specs.Redrawn.{redraws_on, repeats_redraw}
 use Rattle.invariant_laws.specs.Same.{ServedCall, is_scripts, ran_by, scripts_from, test_at}
 use Rattle.invariant_laws.specs.Shown.{calls_on, first_of, in_row, is_current, is_row, rows_on}

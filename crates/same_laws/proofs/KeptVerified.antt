@@ -13,20 +13,20 @@ use Rattle.outage_schedule.specs.declared.item.Served.{Served}
 use Rattle.client_model.specs.declared.input.Input.{Input}
 use Rattle.client_model.specs.declared.input.Input.TheVariants.{Lent}
 use Rattle.client_model.specs.Conversation.{is_wanted, is_gone, may_come}
-use Rattle.client_model.specs.Talk.{wants_of}
-use Rattle.run_clauses.specs.Reports.{shown_call}
-use Rattle.world_model.specs.Acting.{call_in, frames_of, owner_at, sent_by}
-use Rattle.world_model.specs.Clients.{Client, past_of}
-use Rattle.world_model.specs.Frames.{Owner, Sent, Handled}
+use Rattle.client_model.specs.meaning.Talk.{wants_of}
+use Rattle.run_clauses.specs.meaning.Reports.{shown_call}
+use Rattle.world_model.specs.meaning.Acting.{call_in, frames_of, owner_at, sent_by}
+use Rattle.world_model.specs.meaning.Clients.{Client, past_of}
+use Rattle.world_model.specs.meaning.Frames.{Owner, Sent, Handled}
 use Rattle.world_model.specs.Orderly.{Orderly}
 use Rattle.invariant_laws.specs.KeptLaws.{StaysTrue}
-use Rattle.world_model.specs.Links.{Link, link_at}
-use Rattle.world_model.specs.Machines.{Machine}
-use Rattle.world_model.specs.Matching.{Noted}
-use Rattle.world_model.specs.Outside.{closed_by_drain}
+use Rattle.world_model.specs.meaning.Links.{Link, link_at}
+use Rattle.world_model.specs.meaning.Machines.{Machine}
+use Rattle.world_model.specs.meaning.Matching.{Noted}
+use Rattle.world_model.specs.meaning.Outside.{closed_by_drain}
 use Rattle.world_model.specs.Reached.{traced_start}
 use Rattle.world_model.specs.Sames.{owned_by}
-use Rattle.world_model.specs.Settings.{Setting, setting_of}
+use Rattle.world_model.specs.meaning.Settings.{Setting, setting_of}
 use Rattle.invariant_laws.specs.Shown.{is_call}
 use Rattle.world_model.specs.Traced.{Traced, Course, course_now, course_over, courses_of, courses_of_clients}
 use Rattle.invariant_laws.specs.Verified.{are_verified, is_verified, on_held, verifies}

@@ -13,13 +13,13 @@ use Rattle.svc_values.specs.declared.entry.Entry.{Entry}
 use Rattle.svc_values.specs.declared.entry.Piece.{Piece}
 use Rattle.svc_values.specs.declared.schema.Shape.{Shape}
 use Rattle.svc_values.specs.declared.tables.PlainRow.{PlainRow}
-use Rattle.svc_values.specs.Calls.{is_lone_commit}
-use Rattle.svc_values.specs.Same.{same_answers}
+use Rattle.svc_values.specs.meaning.Calls.{is_lone_commit}
+use Rattle.svc_values.specs.meaning.Same.{same_answers}
 use Rattle.svc_values.specs.SameLaws.{same_answers_decide}
-use Rattle.svc_values.specs.SettingsList.{NamedValues}
-use Rattle.svc_values.specs.Tables.{with_writes}
-use Rattle.stmt_meaning.specs.Meaning.{Meant, mean}
-use Rattle.stmt_meaning.specs.Serial.{Replays, Serial, Transaction}
+use Rattle.svc_values.specs.meaning.SettingsList.{NamedValues}
+use Rattle.svc_values.specs.meaning.Tables.{with_writes}
+use Rattle.stmt_meaning.specs.meaning.Meaning.{Meant, mean}
+use Rattle.stmt_meaning.specs.meaning.Serial.{Replays, Serial, Transaction}
 use Rattle.server_model.specs.Core.{committed}
 use Rattle.server_model.specs.Laws.{RunsSerial}
 use Rattle.once_laws.specs.CommitAnswers.{commits_alone, stores_alone, store_alone}

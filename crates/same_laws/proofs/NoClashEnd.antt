@@ -14,8 +14,8 @@ use Rattle.svc_values.specs.declared.draw.Draw.{Draw}
 use Rattle.svc_values.specs.declared.entry.SessionId.{SessionId}
 use Rattle.svc_values.specs.declared.frame.Up.{Up}
 use Rattle.svc_values.specs.declared.frame.Up.TheVariants as up
-use Rattle.svc_values.specs.Identifiers.{same_session}
-use Rattle.svc_values.specs.Same.{same_answers, same_bool, same_call}
+use Rattle.svc_values.specs.meaning.Identifiers.{same_session}
+use Rattle.svc_values.specs.meaning.Same.{same_answers, same_bool, same_call}
 use Rattle.svc_values.specs.SameLaws.{same_call_decides}
 use Rattle.outage_schedule.specs.declared.document.Request.{Request}
 use Rattle.outage_schedule.specs.declared.item.Item.{Item}
@@ -23,17 +23,17 @@ use Rattle.outage_schedule.specs.declared.item.Item.TheVariants as item
 use Rattle.outage_schedule.specs.declared.item.Served.{Served}
 use Rattle.outage_schedule.specs.declared.request.RequestReport.{RequestReport}
 use Rattle.outage_schedule.specs.declared.request.ShownCall.{ShownCall}
-use Rattle.client_model.specs.Conversation.{Done}
-use Rattle.run_clauses.specs.NoClash.{Replayed, answers_do_not_clash, calls_do_not_clash, do_not_clash, replayed_by, replayed_in, request_does_not_clash, served_by}
-use Rattle.run_clauses.specs.Reports.{reached}
+use Rattle.client_model.specs.meaning.Conversation.{Done}
+use Rattle.run_clauses.specs.meaning.NoClash.{Replayed, answers_do_not_clash, calls_do_not_clash, do_not_clash, replayed_by, replayed_in, request_does_not_clash, served_by}
+use Rattle.run_clauses.specs.meaning.Reports.{reached}
 use Rattle.world_model.specs.records.Basic.{is_named}
-use Rattle.world_model.specs.Clients.{Step}
-use Rattle.world_model.specs.Crashing.{is_crashed_item}
-use Rattle.world_model.specs.Frames.{Sent, Handled}
-use Rattle.world_model.specs.Links.{Link}
+use Rattle.world_model.specs.meaning.Clients.{Step}
+use Rattle.world_model.specs.meaning.Crashing.{is_crashed_item}
+use Rattle.world_model.specs.meaning.Frames.{Sent, Handled}
+use Rattle.world_model.specs.meaning.Links.{Link}
 use Rattle.world_model.specs.Parts.{implies}
 use Rattle.world_model.specs.Sames.{owned_by, same_sent, is_front}
-use Rattle.world_model.specs.Serving.{is_item_of, reply_of}
+use Rattle.world_model.specs.meaning.Serving.{is_item_of, reply_of}
 use Rattle.invariant_laws.specs.Shown.{calls_on, is_call, is_scripts}
 use Rattle.world_model.specs.Traced.{Course}
 use Rattle.invariant_laws.specs.Verified.{clashes_not, is_no_clash}

@@ -9,31 +9,31 @@ use Rattle.std.proofs.lemmas.Bool.{and_parts, and_from, or_parts}
 use Rattle.svc_values.specs.declared.answer.Answer.{Answer}
 use Rattle.svc_values.specs.declared.entry.Ltxid.{Ltxid}
 use Rattle.svc_values.specs.declared.entry.SessionId.{SessionId}
-use Rattle.svc_values.specs.Identifiers.{same_session, session_of}
-use Rattle.svc_values.specs.Same.{same_answers, same_bool}
+use Rattle.svc_values.specs.meaning.Identifiers.{same_session, session_of}
+use Rattle.svc_values.specs.meaning.Same.{same_answers, same_bool}
 use Rattle.outage_schedule.specs.declared.document.Client.{Client as Scripted}
 use Rattle.outage_schedule.specs.declared.document.Document.{Document}
 use Rattle.outage_schedule.specs.declared.document.Request.{Request}
 use Rattle.outage_schedule.specs.declared.report.Report.{Report}
 use Rattle.outage_schedule.specs.declared.request.RequestReport.{RequestReport}
-use Rattle.run_clauses.specs.Copies.{copies_by_client, next_of}
-use Rattle.run_clauses.specs.NoClash.{do_not_clash, no_clash, replayed_in, request_does_not_clash}
-use Rattle.run_clauses.specs.Reports.{report_of}
+use Rattle.run_clauses.specs.meaning.Copies.{copies_by_client, next_of}
+use Rattle.run_clauses.specs.meaning.NoClash.{do_not_clash, no_clash, replayed_in, request_does_not_clash}
+use Rattle.run_clauses.specs.meaning.Reports.{report_of}
 use Rattle.server_model.specs.Runs.{Server}
 use Rattle.server_model.specs.Seen.{Seen}
 use Rattle.world_model.specs.records.Basic.{is_named}
-use Rattle.world_model.specs.Clients.{Client, Doing, Past, is_unfinished, reports_of, script_at}
-use Rattle.world_model.specs.Followed.{tells_steps}
-use Rattle.world_model.specs.Frames.{Sent}
+use Rattle.world_model.specs.meaning.Clients.{Client, Doing, Past, is_unfinished, reports_of, script_at}
+use Rattle.world_model.specs.meaning.Followed.{tells_steps}
+use Rattle.world_model.specs.meaning.Frames.{Sent}
 use Rattle.invariant_laws.specs.Invariant.{Invariant}
 use Rattle.world_model.specs.Orderly.{Orderly}
 use Rattle.invariant_laws.specs.KeptLaws.{WholeRunsKeepInvariant}
-use Rattle.world_model.specs.Links.{Link, link_at}
+use Rattle.world_model.specs.meaning.Links.{Link, link_at}
 use Rattle.world_model.specs.records.Ready.{all_requests_right}
 use Rattle.world_model.specs.Reported.{IsReported}
 use Rattle.world_model.specs.RunLaws.{RunsAreOrderly}
 use Rattle.world_model.specs.records.Script.{reports_rightly}
-use Rattle.world_model.specs.Settings.{Setting, setting_of}
+use Rattle.world_model.specs.meaning.Settings.{Setting, setting_of}
 use Rattle.invariant_laws.specs.Shown.{calls_on, first_of, in_row, is_current, is_row, is_scripts, rows_on}
 use Rattle.world_model.specs.Traced.{Traced, Course, courses_from, courses_of, courses_of_clients}
 use Rattle.invariant_laws.specs.Verified.{is_no_clash, none_clash, on_held}

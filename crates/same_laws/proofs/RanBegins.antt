@@ -11,17 +11,17 @@ use Rattle.svc_values.specs.declared.answer.Answer.TheVariants as answer
 use Rattle.svc_values.specs.declared.frame.Up.{Up}
 use Rattle.svc_values.specs.declared.frame.Up.TheVariants as up
 use Rattle.svc_values.specs.declared.value.Value.{Value}
-use Rattle.svc_values.specs.Endings.{ends_committed, is_committed, is_conflict, is_rolled_back, last_answer}
+use Rattle.svc_values.specs.meaning.Endings.{ends_committed, is_committed, is_conflict, is_rolled_back, last_answer}
 use Rattle.outage_schedule.specs.declared.item.Item.{Item}
 use Rattle.outage_schedule.specs.declared.item.Item.TheVariants as item
 use Rattle.world_model.specs.records.Basic.{is_stopped, none_behind}
 use Rattle.invariant_laws.specs.Begins.{begin_in, is_begin_frame}
 use Rattle.invariant_laws.specs.FirstCalls.{begins_behind, begins_there, ends_before, is_behind_decided, may_begin}
-use Rattle.world_model.specs.Frames.{Owner, Sent, Handled}
+use Rattle.world_model.specs.meaning.Frames.{Owner, Sent, Handled}
 use Rattle.world_model.specs.Parts.{implies}
 use Rattle.invariant_laws.specs.Same.{ServedCall, Ran, did_all, ends_on_server, first_call, is_no_commit, ran_item, with_call}
 use Rattle.world_model.specs.Sames.{is_of, owned_by}
-use Rattle.world_model.specs.Serving.{is_last}
+use Rattle.world_model.specs.meaning.Serving.{is_last}
 use Rattle.invariant_laws.specs.Shown.{in_row, is_call}
 use Rattle.world_model.specs.Traced.{Course}
 use Rattle.world_model.specs.records.Wire.{Stage, counted_with, handled_from, is_handled, next_stage, is_right}

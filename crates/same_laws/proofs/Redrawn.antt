@@ -12,11 +12,11 @@ use Rattle.svc_values.specs.declared.entry.SessionId.{SessionId}
 use Rattle.svc_values.specs.declared.frame.Down.TheVariants as down
 use Rattle.svc_values.specs.declared.frame.Up.{Up}
 use Rattle.svc_values.specs.declared.frame.Up.TheVariants as up
-use Rattle.svc_values.specs.Calls.{is_lone_commit}
-use Rattle.svc_values.specs.Endings.{ends_committed}
-use Rattle.svc_values.specs.Identifiers.{same_session}
-use Rattle.svc_values.specs.Same.{same_answers, same_bool, same_call, same_draws}
-use Rattle.svc_values.specs.SettingsList.{NamedValues}
+use Rattle.svc_values.specs.meaning.Calls.{is_lone_commit}
+use Rattle.svc_values.specs.meaning.Endings.{ends_committed}
+use Rattle.svc_values.specs.meaning.Identifiers.{same_session}
+use Rattle.svc_values.specs.meaning.Same.{same_answers, same_bool, same_call, same_draws}
+use Rattle.svc_values.specs.meaning.SettingsList.{NamedValues}
 use Rattle.svc_values.specs.SameLaws.{same_answers_decide, same_call_decides, same_draws_decide}
 use Rattle.outage_schedule.specs.declared.document.Document.{Document}
 use Rattle.outage_schedule.specs.declared.event.Event.{Event}
@@ -25,13 +25,13 @@ use Rattle.outage_schedule.specs.declared.item.Item.TheVariants as item
 use Rattle.outage_schedule.specs.declared.item.Served.{Served}
 use Rattle.outage_schedule.specs.declared.note.Note.{Note}
 use Rattle.outage_schedule.specs.declared.request.ShownCall.{ShownCall}
-use Rattle.run_clauses.specs.ServiceBase.{service_base}
-use Rattle.server_model.specs.Base.{Base}
+use Rattle.run_clauses.specs.meaning.ServiceBase.{service_base}
+use Rattle.server_model.specs.meaning.Base.{Base}
 use Rattle.server_model.specs.Items.{items_of}
 use Rattle.server_model.specs.Laws.{RunsLegal}
-use Rattle.server_model.specs.Legal.{legal}
-use Rattle.server_model.specs.NewValues.{grants}
-use Rattle.server_model.specs.Outcomes.{Telling, Says}
+use Rattle.server_model.specs.meaning.Legal.{legal}
+use Rattle.server_model.specs.meaning.NewValues.{grants}
+use Rattle.server_model.specs.meaning.Outcomes.{Telling, Says}
 use Rattle.server_model.specs.Redraws.{HasServed, settings_behind}
 use Rattle.server_model.specs.Runs.{Happened, Server, Served as ServedFrame}
 use Rattle.server_model.specs.Seen.{Seen}
@@ -39,10 +39,10 @@ use Rattle.server_model.proofs.Offered.{legal_redraws, marked_stores_none}
 use Rattle.world_model.specs.records.Basic.{first_is_connect, is_named}
 use Rattle.invariant_laws.specs.Begins.{begins_followed, carries_on, settings_before}
 use Rattle.world_model.specs.Coupled.{Coupled}
-use Rattle.world_model.specs.Frames.{Sent, Handled}
+use Rattle.world_model.specs.meaning.Frames.{Sent, Handled}
 use Rattle.invariant_laws.specs.Invariant.{Invariant}
 use Rattle.invariant_laws.specs.KeptLaws.{RunsKeepInvariant}
-use Rattle.world_model.specs.Links.{Link, link_at}
+use Rattle.world_model.specs.meaning.Links.{Link, link_at}
 use Rattle.world_model.specs.Parts.{implies}
 use Rattle.world_model.specs.Reached.{Reached}
 use Rattle.world_model.specs.records.Ready.{all_requests_right}

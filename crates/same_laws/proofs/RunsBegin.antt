@@ -11,9 +11,9 @@ use Rattle.outage_schedule.specs.declared.item.Item.TheVariants as item
 use Rattle.outage_schedule.specs.declared.request.ShownCall.{ShownCall}
 use Rattle.invariant_laws.specs.Begins.{begins_followed}
 use Rattle.invariant_laws.specs.FirstCalls.{all_begin_there, begins_behind, begins_on, ends_before, is_behind_decided, is_ended, transactions_begin}
-use Rattle.world_model.specs.Frames.{Owner, Sent, Handled}
+use Rattle.world_model.specs.meaning.Frames.{Owner, Sent, Handled}
 use Rattle.invariant_laws.specs.Invariant.{Invariant}
-use Rattle.world_model.specs.Links.{Link}
+use Rattle.world_model.specs.meaning.Links.{Link}
 use Rattle.world_model.specs.Parts.{implies}
 use Rattle.world_model.specs.Sames.{is_of, owned_by, same_sent, same_up}
 use Rattle.world_model.specs.Traced.{Traced, Course, courses_of}

@@ -10,26 +10,26 @@ use Rattle.svc_values.specs.declared.call.Call.{Call}
 use Rattle.svc_values.specs.declared.draw.Draw.{Draw}
 use Rattle.svc_values.specs.declared.entry.Entry.{Entry}
 use Rattle.svc_values.specs.declared.entry.Ltxid.{Ltxid}
-use Rattle.svc_values.specs.SettingsList.{NamedValues, with_sets}
+use Rattle.svc_values.specs.meaning.SettingsList.{NamedValues, with_sets}
 use Rattle.outage_schedule.specs.declared.document.Client.{Client as Scripted}
 use Rattle.outage_schedule.specs.declared.document.Document.{Document}
 use Rattle.outage_schedule.specs.declared.document.Request.{Request}
 use Rattle.outage_schedule.specs.declared.report.Report.{Report}
 use Rattle.outage_schedule.specs.declared.request.RequestReport.{RequestReport}
-use Rattle.run_clauses.specs.Before.{journal_before}
-use Rattle.run_clauses.specs.Copies.{Copies, copies_by_client, copies_of}
-use Rattle.run_clauses.specs.Once.{entries_in}
-use Rattle.run_clauses.specs.Same.{are_same, are_same_copies, is_same, is_same_request, is_same_txn, same, unshown}
-use Rattle.run_clauses.specs.Transactions.{Txn, txns_of}
-use Rattle.run_clauses.specs.Tried.{holds}
+use Rattle.run_clauses.specs.meaning.Before.{journal_before}
+use Rattle.run_clauses.specs.meaning.Copies.{Copies, copies_by_client, copies_of}
+use Rattle.run_clauses.specs.meaning.Once.{entries_in}
+use Rattle.run_clauses.specs.meaning.Same.{are_same, are_same_copies, is_same, is_same_request, is_same_txn, same, unshown}
+use Rattle.run_clauses.specs.meaning.Transactions.{Txn, txns_of}
+use Rattle.run_clauses.specs.meaning.Tried.{holds}
 use Rattle.server_model.specs.Runs.{Server}
 use Rattle.server_model.specs.Seen.{Seen}
-use Rattle.world_model.specs.Clients.{Client, Doing, Past, reports_of, script_at}
+use Rattle.world_model.specs.meaning.Clients.{Client, Doing, Past, reports_of, script_at}
 use Rattle.world_model.specs.Coupled.{Coupled}
 use Rattle.world_model.specs.Parts.{implies}
 use Rattle.world_model.specs.Reported.{IsReported}
 use Rattle.invariant_laws.specs.Same.{granted_by, over_same}
-use Rattle.world_model.specs.Settings.{Setting, setting_of}
+use Rattle.world_model.specs.meaning.Settings.{Setting, setting_of}
 use Rattle.world_model.specs.Traced.{Traced, Course, courses_from, courses_of_clients}
 use Rattle.world_model.proofs.Offered.{weaker_all, finishing_coupled, finishing_reached, finishing_setting}
 use Rattle.invariant_laws.proofs.Offered.{one_copy}

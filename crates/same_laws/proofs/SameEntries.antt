@@ -8,15 +8,16 @@ use Rattle.svc_values.specs.declared.answer.Answer.{Answer}
 use Rattle.svc_values.specs.declared.call.Call.{Call}
 use Rattle.svc_values.specs.declared.draw.Draw.{Draw}
 use Rattle.svc_values.specs.declared.entry.Ltxid.{Ltxid}
-use Rattle.svc_values.specs.Endings.{ends_committed}
-use Rattle.svc_values.specs.Identifiers.{same_ltxid}
-use Rattle.svc_values.specs.Same.{same_call, same_calls}
+use Rattle.svc_values.specs.meaning.Endings.{ends_committed}
+use Rattle.svc_values.specs.meaning.Identifiers.{same_ltxid}
+use Rattle.svc_values.specs.meaning.Same.{same_call, same_calls}
 use Rattle.svc_values.specs.SameLaws.{same_calls_decide, same_ltxid_decides}
-use Rattle.svc_values.specs.SettingsList.{same_settings, with_sets}
+use Rattle.svc_values.specs.meaning.SettingsList.{same_settings, with_sets}
 use Rattle.outage_schedule.specs.declared.failure.Failure.{Failure}
 use Rattle.outage_schedule.specs.declared.request.ShownCall.{ShownCall}
-use Rattle.run_clauses.specs.Same.{is_same_request}
-use Rattle.run_clauses.specs.Tried.{Sending as Tried, holds}
+use Rattle.run_clauses.specs.meaning.Same.{is_same_request}
+use Rattle.run_clauses.specs.meaning.Tried.{holds}
+use Rattle.run_clauses.specs.Tried.{Sending as Tried}
 use Rattle.invariant_laws.specs.Invariant.{Invariant}
 use Rattle.invariant_laws.specs.Lost.{lost_links}
 use Rattle.invariant_laws.specs.Once.{are_known, are_placed, ends_rightly, ends_so, is_known, is_left_lost, is_open_or_committed, is_placed, reverse_onto, shows_at, tells_tried, tried_one}

@@ -12,14 +12,15 @@ use Rattle.svc_values.specs.declared.draw.Draw.{Draw}
 use Rattle.svc_values.specs.declared.entry.Entry.{Entry}
 use Rattle.svc_values.specs.declared.entry.Ltxid.{Ltxid}
 use Rattle.svc_values.specs.declared.entry.Piece.{Piece}
-use Rattle.svc_values.specs.Endings.{ends_committed, ends_transaction}
-use Rattle.svc_values.specs.Same.{same_answers, same_draws}
+use Rattle.svc_values.specs.meaning.Endings.{ends_committed, ends_transaction}
+use Rattle.svc_values.specs.meaning.Same.{same_answers, same_draws}
 use Rattle.svc_values.specs.SameLaws.{same_calls_decide}
-use Rattle.svc_values.specs.SettingsList.{NamedValues, same_settings, with_set, with_sets}
+use Rattle.svc_values.specs.meaning.SettingsList.{NamedValues, same_settings, with_set, with_sets}
 use Rattle.outage_schedule.specs.declared.request.ShownCall.{ShownCall}
-use Rattle.run_clauses.specs.Same.{are_same, has_answers, has_calls, has_draws, is_any, is_same, is_same_txn}
-use Rattle.run_clauses.specs.Transactions.{txns, with_tried}
-use Rattle.run_clauses.specs.Tried.{Sending as Tried, holds, tried_among, tried_from}
+use Rattle.run_clauses.specs.meaning.Same.{are_same, has_answers, has_calls, has_draws, is_any, is_same, is_same_txn}
+use Rattle.run_clauses.specs.meaning.Transactions.{txns, with_tried}
+use Rattle.run_clauses.specs.meaning.Tried.{holds}
+use Rattle.run_clauses.specs.Tried.{Sending as Tried, tried_among, tried_from}
 use Rattle.invariant_laws.specs.Once.{shows_at}
 use Rattle.invariant_laws.specs.Same.{agree_from, agrees, begins_at, calls_of}
 use Rattle.invariant_laws.proofs.Offered.{ended_calls_committed_ends as committed_ends, shows_weaker, some_part}

@@ -12,14 +12,14 @@ use Rattle.outage_schedule.specs.declared.note.Note.{Note}
 use Rattle.outage_schedule.specs.declared.request.RequestReport.{RequestReport}
 use Rattle.client_model.specs.declared.act.Hold.{Hold}
 use Rattle.client_model.specs.declared.act.Hold.TheVariants as hold
-use Rattle.client_model.specs.Terms.{Terms}
-use Rattle.run_clauses.specs.Copies.{next_of}
+use Rattle.client_model.specs.meaning.Terms.{Terms}
+use Rattle.run_clauses.specs.meaning.Copies.{next_of}
 use Rattle.server_model.specs.Seen.{Seen}
-use Rattle.world_model.specs.Clients.{Doing, Past, Client, reports_of, resting, script_at, begun, after_hold, past_of}
-use Rattle.world_model.specs.Machines.{Machine}
+use Rattle.world_model.specs.meaning.Clients.{Doing, Past, Client, reports_of, resting, script_at, begun, after_hold, past_of}
+use Rattle.world_model.specs.meaning.Machines.{Machine}
 use Rattle.world_model.specs.Reached.{Reached, Begins, GoesOn}
 use Rattle.world_model.specs.records.Script.{now_or_next}
-use Rattle.world_model.specs.Settings.{Setting}
+use Rattle.world_model.specs.meaning.Settings.{Setting}
 use Rattle.world_model.specs.Traced.{Traced}
 use Rattle.world_model.proofs.Offered.{HasStepped, MayStep, Still, Closed, Stepped, happens_step, same_request_after, Followed, follow_happens, at_event}
 

@@ -13,16 +13,16 @@ use Rattle.svc_values.specs.declared.frame.Down.{Down}
 use Rattle.svc_values.specs.declared.frame.Down.TheVariants as down
 use Rattle.svc_values.specs.declared.frame.Up.{Up}
 use Rattle.svc_values.specs.declared.frame.Up.TheVariants as up
-use Rattle.svc_values.specs.Identifiers.{same_ltxid, same_session}
-use Rattle.svc_values.specs.Same.{same_answers, same_bool, same_call, same_draws}
+use Rattle.svc_values.specs.meaning.Identifiers.{same_ltxid, same_session}
+use Rattle.svc_values.specs.meaning.Same.{same_answers, same_bool, same_call, same_draws}
 use Rattle.svc_values.specs.SameLaws.{same_answers_decide, same_bool_decides, same_call_decides, same_draws_decide}
 use Rattle.outage_schedule.specs.declared.item.Item.{Item}
 use Rattle.outage_schedule.specs.declared.item.Item.TheVariants as item
-use Rattle.server_model.specs.Outcomes.{Telling, Says, telling_of}
+use Rattle.server_model.specs.meaning.Outcomes.{Telling, Says, telling_of}
 use Rattle.server_model.specs.Runs.{Happened, Served, Asked}
-use Rattle.world_model.specs.Crashing.{is_crashed_item}
-use Rattle.world_model.specs.Frames.{Handled}
-use Rattle.world_model.specs.Serving.{identifier, is_item_of, reply_of}
+use Rattle.world_model.specs.meaning.Crashing.{is_crashed_item}
+use Rattle.world_model.specs.meaning.Frames.{Handled}
+use Rattle.world_model.specs.meaning.Serving.{identifier, is_item_of, reply_of}
 use Rattle.invariant_laws.specs.SessionHistory.{served_in, told_with}
 use Rattle.world_model.specs.records.Wire.{same_replies, is_handled, counted_with, handled_from}
 use Rattle.world_model.proofs.Offered.{same_session_is}

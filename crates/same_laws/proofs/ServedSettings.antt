@@ -10,8 +10,8 @@ use Rattle.svc_values.specs.declared.frame.Up.{Up}
 use Rattle.svc_values.specs.declared.frame.Up.TheVariants as up
 use Rattle.world_model.specs.records.Basic.{none_behind}
 use Rattle.invariant_laws.specs.Begins.{begin_in, begins_followed, carries_on, follows_begin}
-use Rattle.world_model.specs.Frames.{Sent, Handled}
-use Rattle.world_model.specs.Links.{Link}
+use Rattle.world_model.specs.meaning.Frames.{Sent, Handled}
+use Rattle.world_model.specs.meaning.Links.{Link}
 use Rattle.invariant_laws.specs.Same.{Ran}
 use Rattle.world_model.specs.Sames.{owned_by}
 use Rattle.invariant_laws.specs.Shown.{in_row, is_call}

@@ -11,8 +11,8 @@ use Rattle.svc_values.specs.declared.frame.Up.{Up}
 use Rattle.svc_values.specs.declared.frame.Up.TheVariants as up
 use Rattle.svc_values.specs.declared.frame.Down.{Down}
 use Rattle.svc_values.specs.declared.frame.Down.TheVariants as down
-use Rattle.svc_values.specs.Identifiers.{session_of}
-use Rattle.pool_core.specs.Slots.{give_back_answer}
+use Rattle.svc_values.specs.meaning.Identifiers.{session_of}
+use Rattle.pool_core.specs.meaning.Slots.{give_back_answer}
 use Rattle.outage_schedule.specs.declared.document.Document.{Document}
 use Rattle.outage_schedule.specs.declared.event.Event.{Event}
 use Rattle.outage_schedule.specs.declared.item.Served.{Served}
@@ -20,28 +20,28 @@ use Rattle.outage_schedule.specs.declared.note.Note.{Note}
 use Rattle.client_model.specs.declared.input.Input.{Input}
 use Rattle.client_model.specs.declared.input.Input.TheVariants.{Lent, Took}
 use Rattle.client_model.specs.Conversation.{is_wanted, is_gone, may_come}
-use Rattle.client_model.specs.Talk.{takes, talk_step, wants_of}
-use Rattle.client_model.specs.States.{Losing}
-use Rattle.client_model.specs.Terms.{Phase, Idle, Unbegun, Queued, Seeking, Greeting, Asked, Running, Replaying}
-use Rattle.client_model.specs.Verifying.{index_of}
-use Rattle.run_clauses.specs.Reports.{reached}
+use Rattle.client_model.specs.meaning.Talk.{takes, talk_step, wants_of}
+use Rattle.client_model.specs.meaning.States.{Losing}
+use Rattle.client_model.specs.meaning.Terms.{Phase, Idle, Unbegun, Queued, Seeking, Greeting, Asked, Running, Replaying}
+use Rattle.client_model.specs.meaning.Verifying.{index_of}
+use Rattle.run_clauses.specs.meaning.Reports.{reached}
 use Rattle.server_model.specs.Seen.{Seen}
-use Rattle.world_model.specs.Acting.{call_in, closing, frames_of, owner_at, sent_by}
-use Rattle.world_model.specs.Clients.{Client, Step}
+use Rattle.world_model.specs.meaning.Acting.{call_in, closing, frames_of, owner_at, sent_by}
+use Rattle.world_model.specs.meaning.Clients.{Client, Step}
 use Rattle.world_model.specs.records.Conversing.{connected}
-use Rattle.world_model.specs.Frames.{Owner, Sent}
+use Rattle.world_model.specs.meaning.Frames.{Owner, Sent}
 use Rattle.world_model.specs.records.Hold.{is_awaited}
 use Rattle.world_model.specs.Orderly.{Orderly}
-use Rattle.world_model.specs.Links.{Link, link_at, new_link, sends, takes as takes_reply, told_by}
-use Rattle.world_model.specs.Machines.{Machine}
-use Rattle.world_model.specs.Matching.{Noted}
-use Rattle.world_model.specs.Outside.{closed_by_drain}
+use Rattle.world_model.specs.meaning.Links.{Link, link_at, new_link, sends, takes as takes_reply, told_by}
+use Rattle.world_model.specs.meaning.Machines.{Machine}
+use Rattle.world_model.specs.meaning.Matching.{Noted}
+use Rattle.world_model.specs.meaning.Outside.{closed_by_drain}
 use Rattle.world_model.specs.Parts.{implies}
 use Rattle.world_model.specs.Reached.{Reached, Begins, GoesOn}
 use Rattle.world_model.specs.records.Ready.{all_requests_right}
 use Rattle.world_model.specs.RunLaws.{RunsAreOrderly}
 use Rattle.world_model.specs.Sames.{owned_by}
-use Rattle.world_model.specs.Settings.{Setting, setting_of}
+use Rattle.world_model.specs.meaning.Settings.{Setting, setting_of}
 use Rattle.world_model.specs.Traced.{Traced, Course, courses_of, courses_of_clients}
 use Rattle.world_model.specs.Words.{brought, held_in}
 use Rattle.world_model.proofs.Offered.{append_all, weaker_all, HasStepped, Brings, NoneNew, IdleOne, NewOne, MayStep, Still, Closed, Stepped, happens_step, all_step, sends_alike, Followed, follow_happens, at_event, held_now, each_passes, resting_none, spoken_passes, Happens, IsDoing, moves_next_number as next_number, after_held, said_mine, slot_wanted, grown_at, link_sents, passes_from, passes_to, sents_at, sents_pass, spoken_others, spoken_own, is_strange, sent_lists, spoken, behind_first, first_doing, first_step, step_owner, slot_strange, other_owner, implies_more, ComesFrom, IsNew, IsOld, all_turn, either, some_same}

@@ -8,12 +8,12 @@ use Rattle.svc_values.specs.declared.entry.Ltxid.{Ltxid}
 use Rattle.svc_values.specs.declared.entry.SessionId.{SessionId}
 use Rattle.svc_values.specs.declared.frame.Up.{Up}
 use Rattle.svc_values.specs.declared.frame.Up.TheVariants as up
-use Rattle.svc_values.specs.Identifiers.{same_session, session_of}
+use Rattle.svc_values.specs.meaning.Identifiers.{same_session, session_of}
 use Rattle.client_model.specs.declared.input.Input.TheVariants.{Took}
-use Rattle.run_clauses.specs.Reports.{reached}
-use Rattle.world_model.specs.Clients.{Step}
-use Rattle.world_model.specs.Frames.{Owner, Sent, Reply}
-use Rattle.world_model.specs.Links.{Link, sends, takes, told_by}
+use Rattle.run_clauses.specs.meaning.Reports.{reached}
+use Rattle.world_model.specs.meaning.Clients.{Step}
+use Rattle.world_model.specs.meaning.Frames.{Owner, Sent, Reply}
+use Rattle.world_model.specs.meaning.Links.{Link, sends, takes, told_by}
 use Rattle.world_model.specs.Parts.{implies}
 use Rattle.world_model.specs.Sames.{owned_by}
 use Rattle.world_model.proofs.Offered.{sends_alike, session_self}

@@ -2,7 +2,7 @@
 use Rattle.std.proofs.Common.{◌≡◌, refl, sym, ap, ◌∙◌, ℕ, zero, suc, ◌+◌, List, [], ◌∷◌, ◌++◌, take, drop, arith}
 use Rattle.std.proofs.lemmas.List.Sums.{fold-append}
 use Rattle.svc_values.specs.declared.call.Call.{Call}
-use Rattle.svc_values.specs.SettingsList.{with_set, with_sets}
+use Rattle.svc_values.specs.meaning.SettingsList.{with_set, with_sets}
 use Rattle.invariant_laws.specs.SameLaws.{SettingsGoOn}
 
 take_none : (n : ℕ) → take {A = Call} n [] ≡ []

@@ -4,9 +4,9 @@ use Rattle.std.specs.Prelude.{not, slice_get}
 use Rattle.std.specs.List.{list_all}
 use Rattle.std.proofs.lemmas.Bool.{and_parts, and_from, not-true}
 use Rattle.std.proofs.lemmas.List.{length_push, take-append-le}
-use Rattle.svc_values.specs.Endings.{ends_transaction}
+use Rattle.svc_values.specs.meaning.Endings.{ends_transaction}
 use Rattle.outage_schedule.specs.declared.request.ShownCall.{ShownCall}
-use Rattle.run_clauses.specs.Transactions.{put_first, txns}
+use Rattle.run_clauses.specs.meaning.Transactions.{put_first, txns}
 use Rattle.invariant_laws.specs.Once.{shows_at}
 use Rattle.invariant_laws.specs.Same.{begins_at, behind_ends}
 

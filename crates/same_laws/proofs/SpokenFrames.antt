@@ -16,19 +16,19 @@ use Rattle.client_model.specs.declared.act.Hold.{Hold}
 use Rattle.client_model.specs.declared.act.Hold.TheVariants as hold
 use Rattle.client_model.specs.declared.input.Input.{Input}
 use Rattle.client_model.specs.declared.input.Input.TheVariants.{Start, Waiting, Lent, Opened, TryFailed, Took, Gone}
-use Rattle.client_model.specs.Talk.{stands, quiet, fails, with_tried, lost_of, if_alive, on_waiting, waits_from, on_try_failed, takes, talk_step}
-use Rattle.client_model.specs.States.{Losing}
-use Rattle.client_model.specs.Terms.{Terms, Talk, Queued, Seeking, Greeting}
-use Rattle.world_model.specs.Acting.{closing, sent_by}
-use Rattle.world_model.specs.Clients.{Doing}
-use Rattle.world_model.specs.Frames.{Owner, Sent, Reply}
+use Rattle.client_model.specs.meaning.Talk.{stands, quiet, fails, with_tried, lost_of, if_alive, on_waiting, waits_from, on_try_failed, takes, talk_step}
+use Rattle.client_model.specs.meaning.States.{Losing}
+use Rattle.client_model.specs.meaning.Terms.{Terms, Talk, Queued, Seeking, Greeting}
+use Rattle.world_model.specs.meaning.Acting.{closing, sent_by}
+use Rattle.world_model.specs.meaning.Clients.{Doing}
+use Rattle.world_model.specs.meaning.Frames.{Owner, Sent, Reply}
 use Rattle.world_model.specs.records.Hold.{is_ask, is_call as is_awaited_call}
-use Rattle.world_model.specs.Links.{Link, link_at, sends, takes as takes_reply}
-use Rattle.world_model.specs.Machines.{Machine}
-use Rattle.world_model.specs.Matching.{Noted}
+use Rattle.world_model.specs.meaning.Links.{Link, link_at, sends, takes as takes_reply}
+use Rattle.world_model.specs.meaning.Machines.{Machine}
+use Rattle.world_model.specs.meaning.Matching.{Noted}
 use Rattle.world_model.specs.Sames.{same_owner}
-use Rattle.world_model.specs.Serving.{after_front, handled}
-use Rattle.world_model.specs.Settings.{Setting}
+use Rattle.world_model.specs.meaning.Serving.{after_front, handled}
+use Rattle.world_model.specs.meaning.Settings.{Setting}
 use Rattle.world_model.proofs.Offered.{HeardOn, OfNone, OfIdle, OfNew, OfReply, OfEnded, is_frame, sends_alike, cut_said, fallen_said, handled_said, Turns, Stays, TurningIsSaid as TurnSaid, IsTaken, IsServed, IsCut, IsReaped, HasFallen, WasStopped, WasServed}
 use Rattle.same_laws.proofs.SessionsTold.{Holding, AsHeld, Says, has_spoken, is_talk, taken_holding}
 

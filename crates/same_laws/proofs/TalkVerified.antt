@@ -19,13 +19,13 @@ use Rattle.client_model.specs.declared.act.Failed.TheVariants.{Retries, PoolWait
 use Rattle.client_model.specs.declared.act.Shown.{Shown}
 use Rattle.client_model.specs.declared.input.Input.{Input}
 use Rattle.client_model.specs.declared.input.Input.TheVariants.{Start, Waiting, Lent, Opened, TryFailed, Took, Gone}
-use Rattle.client_model.specs.Account.{Account}
-use Rattle.client_model.specs.States.{Living, Repeating, next_of}
-use Rattle.client_model.specs.Talk.{stands, quiet, fails, with_tried, lost_of, if_alive, talk_shown, with_shown, next_call, on_reply, on_compared, on_repeated, takes, on_waiting, waits_from, on_try_failed, talk_step}
-use Rattle.client_model.specs.Terms.{Terms, Talk, Phase, Queued, Seeking, Running, Replaying}
-use Rattle.client_model.specs.Verifying.{index_of, verified_more, mismatch}
+use Rattle.client_model.specs.meaning.Account.{Account}
+use Rattle.client_model.specs.meaning.States.{Living, Repeating, next_of}
+use Rattle.client_model.specs.meaning.Talk.{stands, quiet, fails, with_tried, lost_of, if_alive, talk_shown, with_shown, next_call, on_reply, on_compared, on_repeated, takes, on_waiting, waits_from, on_try_failed, talk_step}
+use Rattle.client_model.specs.meaning.Terms.{Terms, Talk, Phase, Queued, Seeking, Running, Replaying}
+use Rattle.client_model.specs.meaning.Verifying.{index_of, verified_more, mismatch}
 use Rattle.client_model.proofs.Offered.{Fits, Tracked}
-use Rattle.world_model.specs.Clients.{Doing}
+use Rattle.world_model.specs.meaning.Clients.{Doing}
 use Rattle.invariant_laws.specs.Shown.{is_call}
 use Rattle.world_model.proofs.Offered.{get_mapped, account_now, FitsNow}
 use Rattle.invariant_laws.proofs.Offered.{next_shows}

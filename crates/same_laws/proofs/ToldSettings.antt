@@ -5,15 +5,16 @@ use Rattle.svc_values.specs.declared.entry.Ltxid.{Ltxid}
 use Rattle.svc_values.specs.declared.entry.SessionId.{SessionId}
 use Rattle.svc_values.specs.declared.frame.Down.TheVariants as down
 use Rattle.svc_values.specs.declared.frame.Up.{Up}
-use Rattle.svc_values.specs.Endings.{ends_committed}
-use Rattle.svc_values.specs.Identifiers.{same_session}
-use Rattle.svc_values.specs.SettingsList.{NamedValues, with_set}
+use Rattle.svc_values.specs.meaning.Endings.{ends_committed}
+use Rattle.svc_values.specs.meaning.Identifiers.{same_session}
+use Rattle.svc_values.specs.meaning.SettingsList.{NamedValues, with_set}
 use Rattle.outage_schedule.specs.declared.item.Item.{Item}
-use Rattle.server_model.specs.Items.{Thing, Began, Called, asked_of, items_from, thing_of}
-use Rattle.server_model.specs.Outcomes.{Telling, Silent, Says, Stopped}
+use Rattle.server_model.specs.meaning.Items.{Thing, Began, Called, asked_of, thing_of}
+use Rattle.server_model.specs.Items.{items_from}
+use Rattle.server_model.specs.meaning.Outcomes.{Telling, Silent, Says, Stopped}
 use Rattle.server_model.specs.Redraws.{set_by, set_in}
 use Rattle.server_model.specs.Runs.{Happened, Served, Asked}
-use Rattle.world_model.specs.Frames.{Sent, Handled}
+use Rattle.world_model.specs.meaning.Frames.{Sent, Handled}
 use Rattle.invariant_laws.specs.Same.{ServedCall, Ran, did_all, ends_on_server, ran_item, with_call}
 use Rattle.invariant_laws.specs.SessionHistory.{served_in, told_of, told_with}
 use Rattle.invariant_laws.specs.Shown.{is_call}

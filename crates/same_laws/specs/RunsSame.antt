@@ -2,8 +2,8 @@
 use Rattle.std.specs.Prelude.{IsTrue}
 use Rattle.outage_schedule.specs.declared.document.Document.{Document}
 use Rattle.outage_schedule.specs.declared.report.Report.{Report}
-use Rattle.run_clauses.specs.NoClash.{no_clash}
-use Rattle.run_clauses.specs.Same.{same}
+use Rattle.run_clauses.specs.meaning.NoClash.{no_clash}
+use Rattle.run_clauses.specs.meaning.Same.{same}
 use Rattle.server_model.specs.Runs.{Server}
 use Rattle.server_model.specs.Seen.{Seen}
 use Rattle.world_model.specs.records.Ready.{all_requests_right}

@@ -15,16 +15,18 @@ use Rattle.svc_values.specs.SameLaws.{bytes_decide}
 use Rattle.ltxid_book.specs.declared.verdict.Verdict.{Verdict}
 use Rattle.ltxid_book.specs.declared.verdict.Verdict.TheVariants as verdict
 use Rattle.mutable_values.specs.Sources.{Opening}
-use Rattle.server_model.specs.Base.{Base}
+use Rattle.server_model.specs.meaning.Base.{Base}
 use Rattle.server_model.specs.Core.{Core}
 use Rattle.svc_values.specs.declared.entry.SessionId.{SessionId}
 use Rattle.server_model.specs.Sessions.{Sess}
-use Rattle.svc_values.specs.Identifiers.{session_of}
-use Rattle.server_model.specs.Outcomes.{Telling, Silent, Says, Stopped, Outcomes, IsTold, BlockStops, down_of, if_blocks}
+use Rattle.svc_values.specs.meaning.Identifiers.{session_of}
+use Rattle.server_model.specs.meaning.Outcomes.{Telling, Silent, Says, Stopped}
+use Rattle.server_model.specs.Outcomes.{Outcomes, IsTold, BlockStops, down_of, if_blocks}
 use Rattle.server_model.specs.Serve.{Commits, InReplay, Blocks, Conflicts, Stores, StopsBefore, StopsAfter, Works, Answers as AnswersCall, Reaches, HaltsInDraw, Calls, IsWork, IsSet, IsAlter, AlterStops, AlterMarked, IsDisable, IsRollback, Serve, Connects, Begins, Ends, Closes, Asks, Runs as Serves, Refuses, with_opening}
 use Rattle.server_model.specs.Runs.{Happened, Served, Asked, Server, Turns, Moves, Makes, Answers, Halts, Loses, AnswersAsk, HaltsInAsk, Reaps, Falls, Opens, StopsOpening, Runs, Start, Then, Power}
-use Rattle.server_model.specs.Items.{thing_of, without_answer, items_from}
-use Rattle.server_model.specs.Legal.{Line, line_in, lines_of, lines_stand}
+use Rattle.server_model.specs.meaning.Items.{thing_of, without_answer}
+use Rattle.server_model.specs.Items.{items_from}
+use Rattle.server_model.specs.meaning.Legal.{Line, line_in, lines_of, lines_stand}
 use Rattle.server_model.specs.Laws.{RunsAlerts}
 
 -- ---- lines that stand, one after the other

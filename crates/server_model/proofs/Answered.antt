@@ -13,17 +13,18 @@ use Rattle.svc_values.specs.declared.entry.Entry.{Entry}
 use Rattle.svc_values.specs.declared.frame.Up.{Up}
 use Rattle.svc_values.specs.declared.frame.Up.TheVariants as up
 use Rattle.svc_values.specs.declared.frame.Down.TheVariants as down
-use Rattle.svc_values.specs.Endings.{is_committed, ends_committed}
+use Rattle.svc_values.specs.meaning.Endings.{is_committed, ends_committed}
 use Rattle.mutable_values.specs.Sources.{Opening}
 use Rattle.ltxid_book.specs.declared.verdict.Verdict.{Verdict}
 use Rattle.ltxid_book.specs.declared.verdict.Verdict.TheVariants as verdict
 use Rattle.svc_values.specs.declared.tables.PlainRow.{PlainRow}
-use Rattle.stmt_meaning.specs.Meaning.{Meant}
-use Rattle.server_model.specs.Base.{Base}
+use Rattle.stmt_meaning.specs.meaning.Meaning.{Meant}
+use Rattle.server_model.specs.meaning.Base.{Base}
 use Rattle.server_model.specs.Core.{Core, committed}
 use Rattle.server_model.specs.Sessions.{Sess, with_work}
-use Rattle.svc_values.specs.Identifiers.{session_of}
-use Rattle.server_model.specs.Outcomes.{Telling, Silent, Says, Stopped, Outcomes, IsTold, BlockStops, down_of, if_blocks}
+use Rattle.svc_values.specs.meaning.Identifiers.{session_of}
+use Rattle.server_model.specs.meaning.Outcomes.{Telling, Silent, Says, Stopped}
+use Rattle.server_model.specs.Outcomes.{Outcomes, IsTold, BlockStops, down_of, if_blocks}
 use Rattle.server_model.specs.Serve.{Commits, InReplay, Blocks, Conflicts, Stores, StopsBefore, StopsAfter, Works, Answers as AnswersCall, Reaches, HaltsInDraw, Calls, IsWork, IsSet, IsAlter, AlterStops, AlterMarked, IsDisable, IsRollback, Serve, Connects, Begins, Ends, Closes, Asks, Runs as Serves, Refuses, with_opening, with_last}
 use Rattle.server_model.specs.Runs.{Happened, Served, Asked, Server, Turns, Moves, Makes, Answers, Halts, Loses, AnswersAsk, HaltsInAsk, Reaps, Falls, Opens, StopsOpening, Runs, Start, Then, Power}
 use Rattle.server_model.specs.Laws.{AnswersStand, IsFront}

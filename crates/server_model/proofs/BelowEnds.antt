@@ -9,18 +9,20 @@ use Rattle.svc_values.specs.declared.draw.Draw.{Draw}
 use Rattle.svc_values.specs.declared.draw.Draw.TheVariants as draw
 use Rattle.svc_values.specs.declared.entry.Ltxid.{Ltxid}
 use Rattle.svc_values.specs.declared.frame.Down.TheVariants as down
-use Rattle.svc_values.specs.Same.{same_draw}
+use Rattle.svc_values.specs.meaning.Same.{same_draw}
 use Rattle.mutable_values.specs.declared.source.SeqState.{SeqState}
 use Rattle.mutable_values.specs.Sources.{Opening, sequence_of}
-use Rattle.server_model.specs.Base.{Base, Sequence}
-use Rattle.server_model.specs.Fresh.{new_in, drawn_anew}
-use Rattle.server_model.specs.Items.{Item, thing_of, item_of, asked_of, items_from}
+use Rattle.server_model.specs.meaning.Base.{Base, Sequence}
+use Rattle.server_model.specs.meaning.Fresh.{new_in, drawn_anew}
+use Rattle.server_model.specs.meaning.Items.{Item, thing_of, asked_of}
+use Rattle.server_model.specs.Items.{item_of, items_from}
 use Rattle.server_model.specs.Laws.{RunsSetAside}
-use Rattle.server_model.specs.NewValues.{Count, Numbers, Origin, Kept, New, origin_of, left_by, one_drawn, if_next, and_draws, drawn_by, kept_by, if_new, new_among, count_of}
-use Rattle.server_model.specs.Outcomes.{Telling, Silent, Says, Stopped}
+use Rattle.server_model.specs.meaning.NewValues.{Count, Numbers, Origin, Kept, New, origin_of, left_by, one_drawn, if_next, and_draws, drawn_by, kept_by, if_new, new_among, count_of}
+use Rattle.server_model.specs.meaning.Outcomes.{Telling, Silent, Says, Stopped}
 use Rattle.server_model.specs.Runs.{Happened, Served, Asked}
-use Rattle.server_model.specs.SetAside.{ends_in, ends_of, is_set_aside, is_no_less}
-use Rattle.server_model.specs.Walk.{Walk, walk_of, Deed, Nothing, Meaningless, Ran, or_same, entered, deed_of, after_deed}
+use Rattle.server_model.specs.meaning.SetAside.{ends_in, is_set_aside, is_no_less}
+use Rattle.server_model.specs.SetAside.{ends_of}
+use Rattle.server_model.specs.meaning.Walk.{Walk, walk_of, Deed, Nothing, Meaningless, Ran, or_same, entered, deed_of, after_deed}
 use Rattle.server_model.proofs.DrawnFrames.{deed_draws, ran-numbers}
 use Rattle.server_model.proofs.DrawnRuns.{ask-numbers, deeds_drawn, runs-draws}
 use Rattle.server_model.proofs.Following.{walk_behind, walked}

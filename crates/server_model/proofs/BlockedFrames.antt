@@ -11,27 +11,28 @@ use Rattle.svc_values.specs.declared.entry.Ltxid.{Ltxid}
 use Rattle.svc_values.specs.declared.frame.Up.{Up}
 use Rattle.svc_values.specs.declared.frame.Up.TheVariants as up
 use Rattle.svc_values.specs.declared.frame.Down.TheVariants as down
-use Rattle.svc_values.specs.Endings.{ends_committed}
-use Rattle.svc_values.specs.Tables.{with_writes}
-use Rattle.svc_values.specs.Identifiers.{session_of}
-use Rattle.ltxid_book.specs.Journal.{is_blocked}
+use Rattle.svc_values.specs.meaning.Endings.{ends_committed}
+use Rattle.svc_values.specs.meaning.Tables.{with_writes}
+use Rattle.svc_values.specs.meaning.Identifiers.{session_of}
+use Rattle.ltxid_book.specs.meaning.Journal.{is_blocked}
 use Rattle.ltxid_book.specs.declared.verdict.Verdict.{Verdict}
 use Rattle.ltxid_book.specs.declared.verdict.Verdict.TheVariants as verdict
 use Rattle.mutable_values.specs.Sources.{Opening}
-use Rattle.stmt_meaning.specs.Meaning.{Meant, mean}
-use Rattle.stmt_meaning.specs.SerialTest.{is_nil}
-use Rattle.server_model.specs.Base.{Base}
+use Rattle.stmt_meaning.specs.meaning.Meaning.{Meant, mean}
+use Rattle.stmt_meaning.specs.meaning.SerialTest.{is_nil}
+use Rattle.server_model.specs.meaning.Base.{Base}
 use Rattle.server_model.specs.Core.{Core, committed, all_blocked}
 use Rattle.svc_values.specs.declared.entry.SessionId.{SessionId}
 use Rattle.server_model.specs.Sessions.{Begun, Sess, with_work}
-use Rattle.server_model.specs.Outcomes.{Telling, Says, Outcomes, IsTold, BlockStops, down_of}
+use Rattle.server_model.specs.meaning.Outcomes.{Telling, Says}
+use Rattle.server_model.specs.Outcomes.{Outcomes, IsTold, BlockStops, down_of}
 use Rattle.server_model.specs.Draws.{brought, DrawsAll}
 use Rattle.server_model.specs.Serve.{Commits, InReplay, Blocks, Conflicts, Stores, StopsBefore, StopsAfter, Works, Answers, Reaches, HaltsInDraw, Calls, IsWork, IsSet, IsAlter, AlterStops, AlterMarked, IsDisable, IsRollback, Serve, Connects, Begins, Ends, Closes, Asks, Runs as Serves, Refuses, with_opening}
 use Rattle.server_model.specs.Runs.{is_answered}
-use Rattle.server_model.specs.Items.{thing_of, with_answer, without_answer}
-use Rattle.server_model.specs.NewValues.{meets_with}
-use Rattle.server_model.specs.Walk.{Walk, next_of, transaction_in, meaning}
-use Rattle.server_model.specs.Legal.{thing_holds, means_commit, may_be_blocked}
+use Rattle.server_model.specs.meaning.Items.{thing_of, with_answer, without_answer}
+use Rattle.server_model.specs.meaning.NewValues.{meets_with}
+use Rattle.server_model.specs.meaning.Walk.{Walk, next_of, transaction_in, meaning}
+use Rattle.server_model.specs.meaning.Legal.{thing_holds, means_commit, may_be_blocked}
 use Rattle.server_model.proofs.Deeds.{At}
 use Rattle.server_model.proofs.PlainAnswers.{work-ending}
 use Rattle.server_model.proofs.StoppedHistories.{and-both}

@@ -12,20 +12,21 @@ use Rattle.svc_values.specs.declared.frame.Up.{Up}
 use Rattle.svc_values.specs.declared.frame.Up.TheVariants as up
 use Rattle.svc_values.specs.declared.frame.Down.TheVariants as down
 use Rattle.svc_values.specs.declared.frame.Ahead.TheVariants as ahead
-use Rattle.svc_values.specs.Endings.{ends_committed}
-use Rattle.svc_values.specs.Identifiers.{same_ltxid, session_of}
-use Rattle.ltxid_book.specs.Journal.{is_blocked}
+use Rattle.svc_values.specs.meaning.Endings.{ends_committed}
+use Rattle.svc_values.specs.meaning.Identifiers.{same_ltxid, session_of}
+use Rattle.ltxid_book.specs.meaning.Journal.{is_blocked}
 use Rattle.ltxid_book.specs.declared.verdict.Verdict.{Verdict}
 use Rattle.ltxid_book.specs.declared.verdict.Verdict.TheVariants as verdict
-use Rattle.server_model.specs.Base.{Base}
+use Rattle.server_model.specs.meaning.Base.{Base}
 use Rattle.server_model.specs.Core.{Core, all_blocked}
 use Rattle.server_model.specs.Sessions.{Sess}
-use Rattle.server_model.specs.Outcomes.{Telling, Silent, Says, Stopped, Outcomes, IsTold, BlockStops, down_of, if_blocks, with_block}
+use Rattle.server_model.specs.meaning.Outcomes.{Telling, Silent, Says, Stopped}
+use Rattle.server_model.specs.Outcomes.{Outcomes, IsTold, BlockStops, down_of, if_blocks, with_block}
 use Rattle.server_model.specs.Serve.{Commits, InReplay, Blocks, Conflicts, Stores, StopsBefore, StopsAfter, Works, Answers as AnswersCall, Reaches, HaltsInDraw, Calls, IsWork, IsSet, IsAlter, AlterStops, AlterMarked, IsDisable, IsRollback, Serve, Connects, Begins, Ends, Closes, Asks, Runs as Serves, Refuses, with_opening}
 use Rattle.server_model.specs.Runs.{Happened, Served, Asked, Server, Moves, Makes, Answers, Halts, Loses, AnswersAsk, HaltsInAsk, Reaps, Falls, Opens, StopsOpening, Runs, Start, Then, is_answered}
-use Rattle.server_model.specs.Items.{Outcome, Uncommitted, Committed, ServerAhead, ClientAhead, Forgotten, Thing, Connected, Began, Called, MetBlock, TellsOutcome, EndedRequest, Closed, Refused, CallStopped, OutcomeStopped, Did, thing_of}
-use Rattle.server_model.specs.NewValues.{opened}
-use Rattle.server_model.specs.Walk.{Walk, walk_of, Performed, Deed, Nothing, Meaningless, Ran, after_deed, after_thing, if_nothing, if_uncommitted, if_commits, with_numbers, with_call, entered, deed_of}
+use Rattle.server_model.specs.meaning.Items.{Outcome, Uncommitted, Committed, ServerAhead, ClientAhead, Forgotten, Thing, Connected, Began, Called, MetBlock, TellsOutcome, EndedRequest, Closed, Refused, CallStopped, OutcomeStopped, Did, thing_of}
+use Rattle.server_model.specs.meaning.NewValues.{opened}
+use Rattle.server_model.specs.meaning.Walk.{Walk, walk_of, Performed, Deed, Nothing, Meaningless, Ran, after_deed, after_thing, if_nothing, if_uncommitted, if_commits, with_numbers, with_call, entered, deed_of}
 use Rattle.server_model.proofs.Stays.{serve_stays, outcomes_stay}
 use Rattle.server_model.proofs.Following.{walk_behind, walked, walked-more}
 use Rattle.server_model.proofs.WalkBlocks.{deed-blocked, nothing-blocked, or-cases, enter-blocked}

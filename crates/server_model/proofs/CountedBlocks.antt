@@ -6,7 +6,7 @@ use Rattle.std.proofs.Common.{refl, inl, inr, sym, ◌∙◌, ap, arith}
 use Rattle.std.proofs.lemmas.Int.{ints}
 use Rattle.std.proofs.lemmas.Bool.Decides.{Decides-int_eq}
 use Rattle.mutable_values.specs.declared.source.SeqState.{SeqState}
-use Rattle.server_model.specs.NewValues.{Count, upto_with, gave, gave_first, gave_often, settled, shifted, ways_from, blocks_for}
+use Rattle.server_model.specs.meaning.NewValues.{Count, upto_with, gave, gave_first, gave_often, settled, shifted, ways_from, blocks_for}
 
 -- ---- numbers
 

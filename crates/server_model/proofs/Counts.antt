@@ -6,8 +6,8 @@ use Rattle.std.proofs.lemmas.List.Elements.{filter-append}
 use Rattle.std.proofs.lemmas.Bool.Decides.{nat_tests}
 use Rattle.svc_values.specs.declared.entry.Ltxid.{Ltxid}
 use Rattle.svc_values.specs.declared.entry.Entry.{Entry}
-use Rattle.svc_values.specs.Identifiers.{is_of}
-use Rattle.ltxid_book.specs.Journal.{Committed, commits_of, is_blocked, next_ltxid, state_of, committed_of}
+use Rattle.svc_values.specs.meaning.Identifiers.{is_of}
+use Rattle.ltxid_book.specs.meaning.Journal.{Committed, commits_of, is_blocked, next_ltxid, state_of, committed_of}
 use Rattle.ltxid_book.proofs.Offered.{May}
 use Rattle.server_model.specs.Laws.{AreNumbered}
 

@@ -6,19 +6,19 @@ use Rattle.svc_values.specs.declared.draw.Draw.{Draw}
 use Rattle.svc_values.specs.declared.call.Call.{Call}
 use Rattle.svc_values.specs.declared.answer.Answer.{Answer}
 use Rattle.svc_values.specs.declared.entry.Entry.{Entry}
-use Rattle.svc_values.specs.Endings.{ends_committed}
+use Rattle.svc_values.specs.meaning.Endings.{ends_committed}
 use Rattle.svc_values.specs.declared.tables.PlainRow.{PlainRow}
-use Rattle.svc_values.specs.Tables.{with_writes}
-use Rattle.stmt_meaning.specs.Meaning.{Meant, mean}
+use Rattle.svc_values.specs.meaning.Tables.{with_writes}
+use Rattle.stmt_meaning.specs.meaning.Meaning.{Meant, mean}
 use Rattle.svc_values.proofs.Offered.{with_writes-append}
-use Rattle.server_model.specs.Base.{Base}
+use Rattle.server_model.specs.meaning.Base.{Base}
 use Rattle.server_model.specs.Core.{Core, committed, all_entries, tables_with, writes_in}
 use Rattle.svc_values.specs.declared.entry.SessionId.{SessionId}
-use Rattle.svc_values.specs.Identifiers.{session_of, same_session}
+use Rattle.svc_values.specs.meaning.Identifiers.{session_of, same_session}
 use Rattle.server_model.specs.Sessions.{Begun, Sess}
 use Rattle.server_model.specs.Serve.{with_entry}
-use Rattle.server_model.specs.NewValues.{kept_by}
-use Rattle.server_model.specs.Walk.{Walk, Transaction, Performed, Ran, transaction_in, with_call, grown, ends, if_ended, if_commits, take_entry, with_numbers, after_deed, deed, with_meaning}
+use Rattle.server_model.specs.meaning.NewValues.{kept_by}
+use Rattle.server_model.specs.meaning.Walk.{Walk, Transaction, Performed, Ran, transaction_in, with_call, grown, ends, if_ended, if_commits, take_entry, with_numbers, after_deed, deed, with_meaning}
 use Rattle.server_model.proofs.Following.{found-same, found-other, draws-incarnation}
 use Rattle.server_model.proofs.Views.{Viewed}
 

@@ -15,28 +15,31 @@ use Rattle.svc_values.specs.declared.entry.Ltxid.{Ltxid}
 use Rattle.svc_values.specs.declared.frame.Up.{Up}
 use Rattle.svc_values.specs.declared.frame.Up.TheVariants as up
 use Rattle.svc_values.specs.declared.frame.Down.TheVariants as down
-use Rattle.svc_values.specs.Endings.{is_committed, ends_committed}
-use Rattle.svc_values.specs.SettingsList.{put_setting}
-use Rattle.svc_values.specs.Tables.{with_writes}
+use Rattle.svc_values.specs.meaning.Endings.{is_committed, ends_committed}
+use Rattle.svc_values.specs.meaning.SettingsList.{put_setting}
+use Rattle.svc_values.specs.meaning.Tables.{with_writes}
 use Rattle.ltxid_book.specs.declared.verdict.Verdict.{Verdict}
 use Rattle.ltxid_book.specs.declared.verdict.Verdict.TheVariants as verdict
 use Rattle.mutable_values.specs.Sources.{Opening}
-use Rattle.stmt_meaning.specs.Asked.{kind_drawn, asked_by_call, UsesInOrder}
-use Rattle.stmt_meaning.specs.Meaning.{Meant, mean, is_refusal, ends_refused}
+use Rattle.stmt_meaning.specs.meaning.Asked.{asked_by_call}
+use Rattle.stmt_meaning.specs.Asked.{kind_drawn, UsesInOrder}
+use Rattle.stmt_meaning.specs.meaning.Meaning.{Meant, mean, is_refusal}
+use Rattle.stmt_meaning.specs.Refused.{ends_refused}
 use Rattle.stmt_meaning.proofs.Offered.{mean-uses}
-use Rattle.server_model.specs.Base.{Base}
+use Rattle.server_model.specs.meaning.Base.{Base}
 use Rattle.server_model.specs.Core.{Core, committed}
 use Rattle.svc_values.specs.declared.entry.SessionId.{SessionId}
-use Rattle.svc_values.specs.Identifiers.{session_of}
+use Rattle.svc_values.specs.meaning.Identifiers.{session_of}
 use Rattle.server_model.specs.Sessions.{Begun, Sess, with_work}
-use Rattle.server_model.specs.Outcomes.{Telling, Says, Outcomes, IsTold, BlockStops, down_of, if_blocks}
+use Rattle.server_model.specs.meaning.Outcomes.{Telling, Says}
+use Rattle.server_model.specs.Outcomes.{Outcomes, IsTold, BlockStops, down_of, if_blocks}
 use Rattle.server_model.specs.Draws.{brought, DrawsAll}
 use Rattle.server_model.specs.Serve.{Commits, InReplay, Blocks, Conflicts, Stores, StopsBefore, StopsAfter, Works, Answers, Reaches, HaltsInDraw, Calls, IsWork, IsSet, IsAlter, AlterStops, AlterMarked, IsDisable, IsRollback, Serve, Connects, Begins, Ends, Closes, Asks, Runs as Serves, Refuses, with_opening, with_last}
 use Rattle.server_model.specs.Runs.{is_answered}
-use Rattle.server_model.specs.Items.{Thing, Called, thing_of, with_answer}
-use Rattle.server_model.specs.NewValues.{kept_by, drawn_by}
-use Rattle.server_model.specs.Walk.{Walk, Performed, Deed, Nothing, Meaningless, Ran, or_same, with_call, with_numbers, if_commits, after_deed}
-use Rattle.server_model.specs.Legal.{draws_hold}
+use Rattle.server_model.specs.meaning.Items.{Thing, Called, thing_of, with_answer}
+use Rattle.server_model.specs.meaning.NewValues.{kept_by, drawn_by}
+use Rattle.server_model.specs.meaning.Walk.{Walk, Performed, Deed, Nothing, Meaningless, Ran, or_same, with_call, with_numbers, if_commits, after_deed}
+use Rattle.server_model.specs.meaning.Legal.{draws_hold}
 use Rattle.server_model.proofs.Deeds.{At, ran, performed}
 use Rattle.server_model.proofs.Followed.{behind_thing}
 use Rattle.server_model.proofs.KeptDraws.{SameKept, kept-brought}

@@ -8,18 +8,21 @@ use Rattle.svc_values.specs.declared.entry.Entry.{Entry}
 use Rattle.svc_values.specs.declared.frame.Up.{Up}
 use Rattle.svc_values.specs.declared.frame.Down.TheVariants as down
 use Rattle.svc_values.specs.declared.frame.Ahead.TheVariants as ahead
-use Rattle.ltxid_book.specs.Journal.{committed_of}
+use Rattle.ltxid_book.specs.meaning.Journal.{committed_of}
 use Rattle.mutable_values.specs.Sources.{Opening, sequence_of}
-use Rattle.server_model.specs.Base.{Base, Sequence, IsSound}
-use Rattle.server_model.specs.Core.{Core, core_of, sequence_at, opening_after}
+use Rattle.server_model.specs.meaning.Base.{Base, Sequence}
+use Rattle.server_model.specs.Base.{IsSound}
+use Rattle.server_model.specs.meaning.Core.{sequence_at}
+use Rattle.server_model.specs.Core.{Core, core_of, opening_after}
 use Rattle.svc_values.specs.declared.entry.SessionId.{SessionId}
-use Rattle.svc_values.specs.Identifiers.{session_of}
+use Rattle.svc_values.specs.meaning.Identifiers.{session_of}
 use Rattle.server_model.specs.Sessions.{Life, Ended, Sess, ended}
-use Rattle.server_model.specs.Outcomes.{Telling, Silent, Says, Stopped}
+use Rattle.server_model.specs.meaning.Outcomes.{Telling, Silent, Says, Stopped}
 use Rattle.server_model.specs.Runs.{Happened, Served, Asked, Server, Turns, Moves, Makes, Answers, Halts, Loses, AnswersAsk, HaltsInAsk, Reaps, Falls, Opens, StopsOpening, Runs, Start, Then, On, Halted, Power, is_running}
-use Rattle.server_model.specs.Items.{Thing, Item, Did, thing_of, item_of, items_from}
-use Rattle.server_model.specs.NewValues.{Numbers, opened, count_of}
-use Rattle.server_model.specs.Walk.{Walk, walk_of, entered, deed_of, next_of, after}
+use Rattle.server_model.specs.meaning.Items.{Thing, Item, Did, thing_of}
+use Rattle.server_model.specs.Items.{item_of, items_from}
+use Rattle.server_model.specs.meaning.NewValues.{Numbers, opened, count_of}
+use Rattle.server_model.specs.meaning.Walk.{Walk, walk_of, entered, deed_of, next_of, after}
 use Rattle.server_model.specs.Laws.{stops_last}
 use Rattle.server_model.proofs.Stays.{serve_stays, outcomes_stay}
 use Rattle.server_model.proofs.Steps.{serve_alive}

@@ -9,23 +9,23 @@ use Rattle.svc_values.specs.declared.call.Call.TheVariants as call
 use Rattle.svc_values.specs.declared.entry.Entry.{Entry}
 use Rattle.svc_values.specs.declared.frame.Up.{Up}
 use Rattle.svc_values.specs.declared.frame.Up.TheVariants as up
-use Rattle.svc_values.specs.Calls.{has_commit}
-use Rattle.svc_values.specs.Endings.{ends_committed}
-use Rattle.svc_values.specs.Tables.{with_writes}
+use Rattle.svc_values.specs.meaning.Calls.{has_commit}
+use Rattle.svc_values.specs.meaning.Endings.{ends_committed}
+use Rattle.svc_values.specs.meaning.Tables.{with_writes}
 use Rattle.mutable_values.specs.Sources.{Opening}
-use Rattle.stmt_meaning.specs.Asked.{asked_by_call}
-use Rattle.stmt_meaning.specs.Meaning.{Meant, mean}
-use Rattle.server_model.specs.Base.{Base}
+use Rattle.stmt_meaning.specs.meaning.Asked.{asked_by_call}
+use Rattle.stmt_meaning.specs.meaning.Meaning.{Meant, mean}
+use Rattle.server_model.specs.meaning.Base.{Base}
 use Rattle.server_model.specs.Core.{Core, committed}
 use Rattle.svc_values.specs.declared.entry.SessionId.{SessionId}
-use Rattle.svc_values.specs.Identifiers.{session_of}
+use Rattle.svc_values.specs.meaning.Identifiers.{session_of}
 use Rattle.server_model.specs.Sessions.{Begun, Sess, with_work, entry_of}
-use Rattle.server_model.specs.Outcomes.{Telling}
+use Rattle.server_model.specs.meaning.Outcomes.{Telling}
 use Rattle.server_model.specs.Draws.{brought, DrawsAll}
 use Rattle.server_model.specs.Serve.{Commits, InReplay, Blocks, Conflicts, Stores, StopsBefore, StopsAfter, Works, Answers, Reaches, HaltsInDraw, Calls, IsWork, IsSet, IsAlter, AlterStops, AlterMarked, IsDisable, IsRollback, Serve, Connects, Begins, Ends, Closes, Asks, Runs as Serves, Refuses, with_opening}
-use Rattle.server_model.specs.Items.{without_answer}
-use Rattle.server_model.specs.NewValues.{Numbers}
-use Rattle.server_model.specs.Walk.{Walk, Performed, after_deed, deed, next_of, or_same, stopped, if_nothing}
+use Rattle.server_model.specs.meaning.Items.{without_answer}
+use Rattle.server_model.specs.meaning.NewValues.{Numbers}
+use Rattle.server_model.specs.meaning.Walk.{Walk, Performed, after_deed, deed, next_of, or_same, stopped, if_nothing}
 use Rattle.server_model.proofs.Deeds.{At, ran}
 use Rattle.server_model.proofs.Followed.{Left, behind_thing}
 use Rattle.server_model.proofs.FollowedStops.{AllLater, none-performs, one-performs}

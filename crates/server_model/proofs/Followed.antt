@@ -13,23 +13,24 @@ use Rattle.svc_values.specs.declared.entry.Entry.{Entry}
 use Rattle.svc_values.specs.declared.frame.Up.{Up}
 use Rattle.svc_values.specs.declared.frame.Up.TheVariants as up
 use Rattle.svc_values.specs.declared.frame.Down.TheVariants as down
-use Rattle.svc_values.specs.Endings.{ends_committed}
-use Rattle.svc_values.specs.SettingsList.{put_setting}
-use Rattle.svc_values.specs.Tables.{with_writes}
-use Rattle.stmt_meaning.specs.Meaning.{Meant, mean}
+use Rattle.svc_values.specs.meaning.Endings.{ends_committed}
+use Rattle.svc_values.specs.meaning.SettingsList.{put_setting}
+use Rattle.svc_values.specs.meaning.Tables.{with_writes}
+use Rattle.stmt_meaning.specs.meaning.Meaning.{Meant, mean}
 use Rattle.mutable_values.specs.Sources.{Opening}
 use Rattle.ltxid_book.specs.declared.verdict.Verdict.{Verdict}
 use Rattle.ltxid_book.specs.declared.verdict.Verdict.TheVariants as verdict
-use Rattle.server_model.specs.Base.{Base}
+use Rattle.server_model.specs.meaning.Base.{Base}
 use Rattle.server_model.specs.Core.{Core, committed, all_entries}
 use Rattle.svc_values.specs.declared.entry.SessionId.{SessionId}
-use Rattle.svc_values.specs.Identifiers.{session_of}
+use Rattle.svc_values.specs.meaning.Identifiers.{session_of}
 use Rattle.server_model.specs.Sessions.{Life, Idle, Begun, Ended, Sess, ended, with_piece, with_work, entry_of}
-use Rattle.server_model.specs.Outcomes.{Telling, Silent, Says, Stopped, Outcomes, IsTold, BlockStops, down_of, if_blocks}
+use Rattle.server_model.specs.meaning.Outcomes.{Telling, Silent, Says, Stopped}
+use Rattle.server_model.specs.Outcomes.{Outcomes, IsTold, BlockStops, down_of, if_blocks}
 use Rattle.server_model.specs.Serve.{Commits, InReplay, Blocks, Conflicts, Stores, StopsBefore, StopsAfter, Works, Answers, Reaches, HaltsInDraw, Calls, IsWork, IsSet, IsAlter, AlterStops, AlterMarked, IsDisable, IsRollback, Serve, Connects, Begins, Ends, Closes, Asks, Runs as Serves, Refuses, with_opening, with_last, if_told}
 use Rattle.server_model.specs.Runs.{is_answered}
-use Rattle.server_model.specs.Items.{Thing, Called, thing_of, with_answer, Did}
-use Rattle.server_model.specs.Walk.{Walk, begun, ends, if_ended, after, after_deed, deed_of}
+use Rattle.server_model.specs.meaning.Items.{Thing, Called, thing_of, with_answer, Did}
+use Rattle.server_model.specs.meaning.Walk.{Walk, begun, ends, if_ended, after, after_deed, deed_of}
 use Rattle.server_model.proofs.PlainAnswers.{work-ending, work-settings, with-ends, with-not, commit-ends}
 use Rattle.server_model.proofs.Following.{found-same, found-other}
 use Rattle.server_model.proofs.Deeds.{transaction_of, At, Stands, Holds, ran, walk_then, stands-same, stands-more, holds}

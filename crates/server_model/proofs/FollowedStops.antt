@@ -11,21 +11,21 @@ use Rattle.svc_values.specs.declared.entry.Entry.{Entry}
 use Rattle.svc_values.specs.declared.entry.Piece.{Piece}
 use Rattle.svc_values.specs.declared.frame.Up.{Up}
 use Rattle.svc_values.specs.declared.frame.Up.TheVariants as up
-use Rattle.svc_values.specs.Calls.{has_commit}
-use Rattle.svc_values.specs.Endings.{ends_committed}
-use Rattle.svc_values.specs.Tables.{with_writes}
-use Rattle.stmt_meaning.specs.Meaning.{Meant, mean}
-use Rattle.ltxid_book.specs.Journal.{is_blocked}
+use Rattle.svc_values.specs.meaning.Calls.{has_commit}
+use Rattle.svc_values.specs.meaning.Endings.{ends_committed}
+use Rattle.svc_values.specs.meaning.Tables.{with_writes}
+use Rattle.stmt_meaning.specs.meaning.Meaning.{Meant, mean}
+use Rattle.ltxid_book.specs.meaning.Journal.{is_blocked}
 use Rattle.mutable_values.specs.Sources.{Opening}
-use Rattle.server_model.specs.Base.{Base}
+use Rattle.server_model.specs.meaning.Base.{Base}
 use Rattle.server_model.specs.Core.{Core, committed, all_entries, all_blocked, tables_with}
-use Rattle.svc_values.specs.Identifiers.{session_of}
+use Rattle.svc_values.specs.meaning.Identifiers.{session_of}
 use Rattle.server_model.specs.Sessions.{Begun, Sess, with_work, entry_of, piece_of}
 use Rattle.stmt_meaning.specs.Reads.{ReadsStand}
-use Rattle.server_model.specs.Outcomes.{Telling}
+use Rattle.server_model.specs.meaning.Outcomes.{Telling}
 use Rattle.server_model.specs.Serve.{Commits, InReplay, Blocks, Conflicts, Stores, StopsBefore, StopsAfter, Works, Answers, Reaches, HaltsInDraw, Calls, IsWork, IsSet, IsAlter, AlterStops, AlterMarked, IsDisable, IsRollback, Serve, Connects, Begins, Ends, Closes, Asks, Runs as Serves, Refuses, with_opening, with_entry}
-use Rattle.server_model.specs.Items.{CallStopped, without_answer}
-use Rattle.server_model.specs.Walk.{Walk, Ran, Performed, after_deed, deed, stands, if_stands, performed_if, next_of, stopped, if_nothing}
+use Rattle.server_model.specs.meaning.Items.{CallStopped, without_answer}
+use Rattle.server_model.specs.meaning.Walk.{Walk, Ran, Performed, after_deed, deed, stands, if_stands, performed_if, next_of, stopped, if_nothing}
 use Rattle.server_model.proofs.PlainAnswers.{work-ending}
 use Rattle.server_model.proofs.Stays.{outcomes_stay}
 use Rattle.server_model.proofs.Growth.{outcomes-entries}

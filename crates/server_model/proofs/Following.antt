@@ -7,16 +7,16 @@ use Rattle.svc_values.specs.declared.draw.Draw.{Draw}
 use Rattle.svc_values.specs.declared.draw.Draw.TheVariants as draw
 use Rattle.svc_values.specs.declared.entry.Ltxid.{Ltxid}
 use Rattle.svc_values.specs.declared.entry.Entry.{Entry}
-use Rattle.svc_values.specs.Identifiers.{is_of, same_ltxid, session_of, ltxid_of, same_session}
-use Rattle.ltxid_book.specs.Journal.{commits_of, committed_of}
-use Rattle.server_model.specs.Base.{Base}
+use Rattle.svc_values.specs.meaning.Identifiers.{is_of, same_ltxid, session_of, ltxid_of, same_session}
+use Rattle.ltxid_book.specs.meaning.Journal.{commits_of, committed_of}
+use Rattle.server_model.specs.meaning.Base.{Base}
 use Rattle.svc_values.specs.declared.entry.SessionId.{SessionId}
 use Rattle.server_model.specs.Sessions.{Life, Sess}
 use Rattle.server_model.specs.Runs.{Happened}
 use Rattle.server_model.specs.Items.{item_of}
-use Rattle.server_model.specs.NewValues.{Numbers, Count, drawn_by, and_draws, one_drawn, left_by, origin_of, Origin, Kept, New, if_next, with_counts, counts_after, next_identifier, counted}
-use Rattle.svc_values.specs.Same.{same_draw}
-use Rattle.server_model.specs.Walk.{Walk, Transaction, or_same, transaction_in, with_transaction, number_of, deed_of, entered, after}
+use Rattle.server_model.specs.meaning.NewValues.{Numbers, Count, drawn_by, and_draws, one_drawn, left_by, origin_of, Origin, Kept, New, if_next, with_counts, counts_after, next_identifier, counted}
+use Rattle.svc_values.specs.meaning.Same.{same_draw}
+use Rattle.server_model.specs.meaning.Walk.{Walk, Transaction, or_same, transaction_in, with_transaction, number_of, deed_of, entered, after}
 use Rattle.server_model.specs.ToldRight.{life_in, with_life}
 use Rattle.server_model.proofs.Counts.{count}
 

@@ -2,7 +2,7 @@
 use Rattle.std.specs.Prelude.{◌≡◌, ◌≤◌, ◌+◌, ℕ, IsTrue, true, false, List, []}
 use Rattle.std.proofs.Common.{refl, inl, inr, ◌∙◌, ap, subst, sym, arith}
 use Rattle.mutable_values.specs.Sources.{Opening}
-use Rattle.server_model.specs.Base.{Base}
+use Rattle.server_model.specs.meaning.Base.{Base}
 use Rattle.server_model.specs.Core.{Core}
 use Rattle.server_model.specs.Sessions.{Sess}
 use Rattle.server_model.specs.Runs.{Happened, Server, Power, Off, is_running, reopened_core, forgetting, Turns, Moves, Makes, Answers, Halts, Loses, AnswersAsk, HaltsInAsk, Reaps, Falls, Opens, StopsOpening, Start, Then}

@@ -2,10 +2,10 @@
 use Rattle.std.specs.Prelude.{◌+ℤ◌, ℕ, pos, Bool, true, false, List, [], ◌∷◌, map, Some, if◌then◌else◌}
 use Rattle.std.specs.Str.{bytes_eq}
 use Rattle.std.proofs.Common.{sym, append-nil}
-use Rattle.server_model.specs.Base.{Sequence}
+use Rattle.server_model.specs.meaning.Base.{Sequence}
 use Rattle.server_model.specs.Items.{items_of}
-use Rattle.server_model.specs.NewValues.{count_of}
-use Rattle.server_model.specs.Walk.{walk_of}
+use Rattle.server_model.specs.meaning.NewValues.{count_of}
+use Rattle.server_model.specs.meaning.Walk.{walk_of}
 use Rattle.server_model.specs.Laws.{RunsFreshNew}
 use Rattle.server_model.proofs.StoppedHistories.{later-none}
 use Rattle.server_model.proofs.Tracking.{count_in}

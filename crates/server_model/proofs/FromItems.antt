@@ -7,15 +7,15 @@ use Rattle.svc_values.specs.declared.call.Call.{Call}
 use Rattle.svc_values.specs.declared.entry.Entry.{Entry}
 use Rattle.svc_values.specs.declared.frame.Up.{Up}
 use Rattle.svc_values.specs.declared.frame.Up.TheVariants as up
-use Rattle.svc_values.specs.Endings.{ends_committed}
+use Rattle.svc_values.specs.meaning.Endings.{ends_committed}
 use Rattle.svc_values.specs.declared.tables.PlainRow.{PlainRow}
-use Rattle.stmt_meaning.specs.Meaning.{Meant}
+use Rattle.stmt_meaning.specs.meaning.Meaning.{Meant}
 use Rattle.mutable_values.specs.Sources.{Opening}
-use Rattle.server_model.specs.Base.{Base}
+use Rattle.server_model.specs.meaning.Base.{Base}
 use Rattle.server_model.specs.Core.{Core, committed}
 use Rattle.server_model.specs.Sessions.{Sess, with_work}
-use Rattle.svc_values.specs.Identifiers.{session_of}
-use Rattle.server_model.specs.Outcomes.{Telling, Stopped}
+use Rattle.svc_values.specs.meaning.Identifiers.{session_of}
+use Rattle.server_model.specs.meaning.Outcomes.{Telling, Stopped}
 use Rattle.server_model.specs.Serve.{Commits, InReplay, Blocks, Conflicts, Stores, StopsBefore, StopsAfter, Works, Answers as AnswersCall, Reaches, HaltsInDraw, Calls, IsWork, IsSet, IsAlter, AlterStops, AlterMarked, IsDisable, IsRollback, Serve, Connects, Begins, Ends, Closes, Asks, Runs as Serves, Refuses, with_opening}
 use Rattle.server_model.specs.Runs.{Happened, Served, Server, Turns, Moves, Makes, Answers, Halts, Loses, AnswersAsk, HaltsInAsk, Reaps, Falls, Opens, StopsOpening, Runs, Start, Then, Power, is_answered}
 use Rattle.server_model.specs.Laws.{CommitsAs, EntryFromItem}

@@ -9,11 +9,12 @@ use Rattle.svc_values.specs.declared.frame.Up.{Up}
 use Rattle.ltxid_book.specs.declared.verdict.Verdict.{Verdict}
 use Rattle.ltxid_book.specs.declared.verdict.Verdict.TheVariants as verdict
 use Rattle.svc_values.specs.declared.tables.PlainRow.{PlainRow}
-use Rattle.stmt_meaning.specs.Meaning.{Meant}
+use Rattle.stmt_meaning.specs.meaning.Meaning.{Meant}
 use Rattle.mutable_values.specs.Sources.{Opening}
 use Rattle.server_model.specs.Core.{Core, committed}
 use Rattle.server_model.specs.Sessions.{Sess, with_work}
-use Rattle.server_model.specs.Outcomes.{Telling, Outcomes, IsTold, BlockStops, if_blocks}
+use Rattle.server_model.specs.meaning.Outcomes.{Telling}
+use Rattle.server_model.specs.Outcomes.{Outcomes, IsTold, BlockStops, if_blocks}
 use Rattle.server_model.specs.Serve.{Commits, InReplay, Blocks, Conflicts, Stores, StopsBefore, StopsAfter, Works, Answers, Reaches, HaltsInDraw, Calls, IsWork, IsSet, IsAlter, AlterStops, AlterMarked, IsDisable, IsRollback, Serve, Connects, Begins, Ends, Closes, Asks, Runs, Refuses, with_opening}
 use Rattle.server_model.specs.Laws.{Grows, Same, One}
 

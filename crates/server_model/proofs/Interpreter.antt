@@ -14,25 +14,28 @@ use Rattle.svc_values.specs.declared.answer.Answer.TheVariants as answer
 use Rattle.svc_values.specs.declared.frame.Up.{Up}
 use Rattle.svc_values.specs.declared.frame.Up.TheVariants as up
 use Rattle.svc_values.specs.declared.frame.Down.TheVariants as down
-use Rattle.svc_values.specs.Endings.{ends_committed}
-use Rattle.svc_values.specs.SettingsList.{put_setting}
+use Rattle.svc_values.specs.meaning.Endings.{ends_committed}
+use Rattle.svc_values.specs.meaning.SettingsList.{put_setting}
 use Rattle.svc_values.specs.declared.tables.PlainRow.{PlainRow}
-use Rattle.svc_values.specs.Tables.{rows_at, with_writes}
-use Rattle.stmt_meaning.specs.Meaning.{Meant, mean}
-use Rattle.stmt_meaning.specs.SerialTest.{is_nil}
-use Rattle.ltxid_book.specs.Journal.{is_blocked}
+use Rattle.svc_values.specs.meaning.Tables.{rows_at, with_writes}
+use Rattle.stmt_meaning.specs.meaning.Meaning.{Meant, mean}
+use Rattle.stmt_meaning.specs.meaning.SerialTest.{is_nil}
+use Rattle.ltxid_book.specs.meaning.Journal.{is_blocked}
 use Rattle.mutable_values.specs.declared.source.Drawn.{Drawn}
 use Rattle.mutable_values.specs.declared.source.Drawn.TheVariants as drawn
 use Rattle.mutable_values.specs.Sources.{Opening, HasRoom, DrawnFrom as Drew, draw_of, has_room, reserved_to}
 use Rattle.server_model.specs.Core.{Core, committed, all_blocked}
 use Rattle.server_model.specs.Sessions.{Life, New, Idle, Begun, Ended, Sess, begun_with, dropped, ended, with_piece, with_work, raised, entry_of}
-use Rattle.stmt_meaning.specs.Reads.{Read, ReadsDiffer, ReadsStand}
-use Rattle.stmt_meaning.specs.Asked.{asked_by_call, kind_drawn}
+use Rattle.stmt_meaning.specs.meaning.Reads.{Read}
+use Rattle.stmt_meaning.specs.Reads.{ReadsDiffer, ReadsStand}
+use Rattle.stmt_meaning.specs.meaning.Asked.{asked_by_call}
+use Rattle.stmt_meaning.specs.Asked.{kind_drawn}
 use Rattle.server_model.specs.Draws.{brought, Draws, Gives, Reserves, DrawsAll}
-use Rattle.server_model.specs.Outcomes.{Telling, Silent, Says, IsTold, down_of, if_blocks, verdict_on}
+use Rattle.server_model.specs.meaning.Outcomes.{Telling, Silent, Says}
+use Rattle.server_model.specs.Outcomes.{IsTold, down_of, if_blocks, verdict_on}
 use Rattle.server_model.specs.Serve.{Commits, InReplay, Blocks, Conflicts, Stores, Works, Answers, Reaches, Calls, IsWork, IsSet, IsAlter, AlterMarked, IsDisable, IsRollback, Serve, Connects, Begins, Ends, Closes, Asks, Runs, Refuses, Means, with_last, reply, with_opening, with_entry, with_alert, is_serving, is_out_of_order}
-use Rattle.svc_values.specs.Same.{same_rows, same_draw_kind as same_kind}
-use Rattle.server_model.specs.Legal.{differs}
+use Rattle.svc_values.specs.meaning.Same.{same_rows, same_draw_kind as same_kind}
+use Rattle.server_model.specs.meaning.Legal.{differs}
 use Rattle.svc_values.specs.SameLaws.{same_rows_decide, same_draw_kind_decides as same_kind_decides}
 use Rattle.server_model.proofs.StoppedHistories.{and-left, and-right}
 

@@ -3,11 +3,11 @@ use Rattle.std.specs.Prelude.{◌≡◌, ℕ, Bool, true, false, List, [], ◌�
 use Rattle.std.proofs.Common.{refl, sym, ◌∙◌, ap}
 use Rattle.svc_values.specs.declared.draw.Draw.{Draw}
 use Rattle.svc_values.specs.declared.draw.Draw.TheVariants as draw
-use Rattle.svc_values.specs.Same.{same_draw}
+use Rattle.svc_values.specs.meaning.Same.{same_draw}
 use Rattle.svc_values.specs.SameLaws.{bytes_decide, same_draw_decides}
 use Rattle.stmt_meaning.specs.Asked.{kind_drawn}
-use Rattle.server_model.specs.Base.{Base}
-use Rattle.server_model.specs.NewValues.{Numbers, Kept, New, and_before, origin_of, of_one_kind, grants, left_by, if_next, and_draws, one_drawn, drawn_by}
+use Rattle.server_model.specs.meaning.Base.{Base}
+use Rattle.server_model.specs.meaning.NewValues.{Numbers, Kept, New, and_before, origin_of, of_one_kind, grants, left_by, if_next, and_draws, one_drawn, drawn_by}
 
 -- ---- kinds
 

@@ -3,14 +3,15 @@ use Rattle.std.specs.Prelude.{◌≡◌, ◌&&◌, ℕ, Bool, true, false, List,
 use Rattle.std.proofs.Common.{refl, ◌∙◌, ap}
 use Rattle.svc_values.specs.declared.draw.Draw.{Draw}
 use Rattle.svc_values.specs.declared.draw.Draw.TheVariants as draw
-use Rattle.svc_values.specs.Draws.{is_of_kind}
+use Rattle.svc_values.specs.meaning.Draws.{is_of_kind}
 use Rattle.mutable_values.specs.Sources.{Opening, first_kept, without_first}
-use Rattle.mutable_values.specs.Granting.{is_granted, is_kept_sequence, granted_of}
-use Rattle.server_model.specs.Base.{Base}
-use Rattle.server_model.specs.Core.{sequence_at}
+use Rattle.mutable_values.specs.meaning.Granting.{is_granted, is_kept_sequence}
+use Rattle.mutable_values.specs.Granting.{granted_of}
+use Rattle.server_model.specs.meaning.Base.{Base}
+use Rattle.server_model.specs.meaning.Core.{sequence_at}
 use Rattle.stmt_meaning.specs.Asked.{kind_drawn}
 use Rattle.server_model.specs.Draws.{brought}
-use Rattle.server_model.specs.NewValues.{Origin, Kept, New, origin_of, of_one_kind, and_before, grants, kept_by}
+use Rattle.server_model.specs.meaning.NewValues.{Origin, Kept, New, origin_of, of_one_kind, and_before, grants, kept_by}
 
 -- the source's first kept draw, as an origin
 abbrev pub origin_by : Option Draw → List Draw → Origin

@@ -13,24 +13,25 @@ use Rattle.svc_values.specs.declared.call.Call.{Call}
 use Rattle.svc_values.specs.declared.answer.Answer.{Answer}
 use Rattle.svc_values.specs.declared.answer.Answer.TheVariants as answer
 use Rattle.svc_values.specs.declared.entry.Entry.{Entry}
-use Rattle.svc_values.specs.Calls.{is_lone_commit}
-use Rattle.svc_values.specs.Endings.{is_committed, is_conflict, ends_committed, ends_conflict}
-use Rattle.svc_values.specs.SettingsList.{same_settings}
+use Rattle.svc_values.specs.meaning.Calls.{is_lone_commit}
+use Rattle.svc_values.specs.meaning.Endings.{is_committed, is_conflict, ends_committed, ends_conflict}
+use Rattle.svc_values.specs.meaning.SettingsList.{same_settings}
 use Rattle.svc_values.specs.SameLaws.{same_settings_equiv, same_answers_decide, same_rows_decide, same_piece_decides, same_bool_decides}
 use Rattle.svc_values.specs.declared.tables.PlainRow.{PlainRow}
-use Rattle.svc_values.specs.Tables.{rows_at}
-use Rattle.stmt_meaning.specs.Meaning.{Meant}
-use Rattle.svc_values.specs.Same.{same_answers, same_rows}
-use Rattle.stmt_meaning.specs.SerialTest.{is_nil}
-use Rattle.svc_values.specs.Identifiers.{same_ltxid, session_of}
-use Rattle.ltxid_book.specs.Journal.{is_blocked}
-use Rattle.server_model.specs.Base.{Base}
+use Rattle.svc_values.specs.meaning.Tables.{rows_at}
+use Rattle.stmt_meaning.specs.meaning.Meaning.{Meant}
+use Rattle.svc_values.specs.meaning.Same.{same_answers, same_rows}
+use Rattle.stmt_meaning.specs.meaning.SerialTest.{is_nil}
+use Rattle.svc_values.specs.meaning.Identifiers.{same_ltxid, session_of}
+use Rattle.ltxid_book.specs.meaning.Journal.{is_blocked}
+use Rattle.server_model.specs.meaning.Base.{Base}
 use Rattle.server_model.specs.Core.{Core, committed}
 use Rattle.server_model.specs.Sessions.{Begun, Sess, with_work, entry_of}
-use Rattle.stmt_meaning.specs.Reads.{Read, HasChanged, ReadsStand}
+use Rattle.stmt_meaning.specs.meaning.Reads.{Read}
+use Rattle.stmt_meaning.specs.Reads.{HasChanged, ReadsStand}
 use Rattle.server_model.specs.Serve.{with_last}
-use Rattle.server_model.specs.Walk.{Walk, Performed, Deed, Nothing, Meaningless, Ran, with_call, next_of, ends, is_ending}
-use Rattle.server_model.specs.Legal.{differs, verdict, ending_with, answers_hold, is_free, is_entry_of, is_first_entry, stores}
+use Rattle.server_model.specs.meaning.Walk.{Walk, Performed, Deed, Nothing, Meaningless, Ran, with_call, next_of, ends, is_ending}
+use Rattle.server_model.specs.meaning.Legal.{differs, verdict, ending_with, answers_hold, is_free, is_entry_of, is_first_entry, stores}
 use Rattle.server_model.proofs.Following.{ltxid-self}
 use Rattle.server_model.proofs.Deeds.{At, performed, next, grows}
 

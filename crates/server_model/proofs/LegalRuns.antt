@@ -6,18 +6,20 @@ use Rattle.std.proofs.lemmas.Bool.Decides.{nat_tests}
 use Rattle.svc_values.specs.declared.entry.Entry.{Entry}
 use Rattle.svc_values.specs.declared.frame.Up.{Up}
 use Rattle.svc_values.specs.declared.frame.Down.TheVariants as down
-use Rattle.stmt_meaning.specs.SerialTest.{is_nil}
-use Rattle.ltxid_book.specs.Journal.{is_blocked, committed_of}
-use Rattle.server_model.specs.Base.{Base, IsSound}
+use Rattle.stmt_meaning.specs.meaning.SerialTest.{is_nil}
+use Rattle.ltxid_book.specs.meaning.Journal.{is_blocked, committed_of}
+use Rattle.server_model.specs.meaning.Base.{Base}
+use Rattle.server_model.specs.Base.{IsSound}
 use Rattle.server_model.specs.Core.{Core}
 use Rattle.svc_values.specs.declared.entry.SessionId.{SessionId}
-use Rattle.svc_values.specs.Identifiers.{session_of}
+use Rattle.svc_values.specs.meaning.Identifiers.{session_of}
 use Rattle.server_model.specs.Sessions.{Life, Ended, Sess, ended}
-use Rattle.server_model.specs.Outcomes.{Telling, Silent, Says, Stopped}
+use Rattle.server_model.specs.meaning.Outcomes.{Telling, Silent, Says, Stopped}
 use Rattle.server_model.specs.Runs.{Happened, Served, Asked, Server, Turns, Moves, Makes, Answers, Halts, Loses, AnswersAsk, HaltsInAsk, Reaps, Falls, Opens, StopsOpening, Runs, Start, Then, On, Halted, Power, is_running}
-use Rattle.server_model.specs.Items.{thing_of, item_of, items_from, items_of}
-use Rattle.server_model.specs.Walk.{Walk, walk_of, Deed, Nothing, Meaningless, Ran, entered, deed_of, next_of}
-use Rattle.server_model.specs.Legal.{legal, items_hold, all_stored, deed_holds, thing_holds, is_of_now, answers_hold, is_free, stores}
+use Rattle.server_model.specs.meaning.Items.{thing_of}
+use Rattle.server_model.specs.Items.{item_of, items_from, items_of}
+use Rattle.server_model.specs.meaning.Walk.{Walk, walk_of, Deed, Nothing, Meaningless, Ran, entered, deed_of, next_of}
+use Rattle.server_model.specs.meaning.Legal.{legal, items_hold, all_stored, deed_holds, thing_holds, is_of_now, answers_hold, is_free, stores}
 use Rattle.server_model.specs.Laws.{stops_last}
 use Rattle.server_model.proofs.Steps.{serve_alive}
 use Rattle.server_model.proofs.Counts.{count}

@@ -13,25 +13,26 @@ use Rattle.svc_values.specs.declared.entry.Entry.{Entry}
 use Rattle.svc_values.specs.declared.frame.Up.{Up}
 use Rattle.svc_values.specs.declared.frame.Up.TheVariants as up
 use Rattle.svc_values.specs.declared.frame.Down.TheVariants as down
-use Rattle.svc_values.specs.Endings.{ends_committed}
-use Rattle.svc_values.specs.SettingsList.{put_setting}
-use Rattle.svc_values.specs.Tables.{with_writes}
-use Rattle.stmt_meaning.specs.Meaning.{Meant, mean}
-use Rattle.ltxid_book.specs.Journal.{is_blocked}
+use Rattle.svc_values.specs.meaning.Endings.{ends_committed}
+use Rattle.svc_values.specs.meaning.SettingsList.{put_setting}
+use Rattle.svc_values.specs.meaning.Tables.{with_writes}
+use Rattle.stmt_meaning.specs.meaning.Meaning.{Meant, mean}
+use Rattle.ltxid_book.specs.meaning.Journal.{is_blocked}
 use Rattle.mutable_values.specs.Sources.{Opening}
 use Rattle.ltxid_book.specs.declared.verdict.Verdict.{Verdict}
 use Rattle.ltxid_book.specs.declared.verdict.Verdict.TheVariants as verdict_on
-use Rattle.server_model.specs.Base.{Base}
+use Rattle.server_model.specs.meaning.Base.{Base}
 use Rattle.server_model.specs.Core.{Core, committed, all_blocked}
 use Rattle.svc_values.specs.declared.entry.SessionId.{SessionId}
-use Rattle.svc_values.specs.Identifiers.{session_of}
+use Rattle.svc_values.specs.meaning.Identifiers.{session_of}
 use Rattle.server_model.specs.Sessions.{Begun, Sess, with_work, entry_of}
-use Rattle.server_model.specs.Outcomes.{Telling, Says, Outcomes, IsTold, BlockStops, down_of}
+use Rattle.server_model.specs.meaning.Outcomes.{Telling, Says}
+use Rattle.server_model.specs.Outcomes.{Outcomes, IsTold, BlockStops, down_of}
 use Rattle.server_model.specs.Serve.{Commits, InReplay, Blocks, Conflicts, Stores, StopsBefore, StopsAfter, Works, Answers, Reaches, HaltsInDraw, Calls, IsWork, IsSet, IsAlter, AlterStops, AlterMarked, IsDisable, IsRollback, Serve, Connects, Begins, Ends, Closes, Asks, Runs as Serves, Refuses, with_opening, with_last}
 use Rattle.server_model.specs.Runs.{is_answered}
-use Rattle.server_model.specs.Items.{Did, Thing, Called, thing_of, without_answer, with_answer}
-use Rattle.server_model.specs.Walk.{Walk, Ran, Deed, deed_of, deed, next_of}
-use Rattle.server_model.specs.Legal.{differs, verdict, is_free}
+use Rattle.server_model.specs.meaning.Items.{Did, Thing, Called, thing_of, without_answer, with_answer}
+use Rattle.server_model.specs.meaning.Walk.{Walk, Ran, Deed, deed_of, deed, next_of}
+use Rattle.server_model.specs.meaning.Legal.{differs, verdict, is_free}
 use Rattle.server_model.proofs.PlainAnswers.{work-ending, with-not}
 use Rattle.server_model.proofs.Deeds.{At, ran, performed}
 use Rattle.server_model.proofs.Followed.{Left}

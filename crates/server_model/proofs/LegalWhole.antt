@@ -3,14 +3,16 @@ use Rattle.std.specs.Prelude.{◌≡◌, ◌&&◌, Bool, true, List, [], ◌∷�
 use Rattle.std.proofs.Common.{refl, sym, ◌∙◌, ap, append-nil, append_assoc}
 use Rattle.svc_values.specs.declared.entry.Entry.{Entry}
 use Rattle.svc_values.specs.declared.entry.SessionId.{SessionId}
-use Rattle.svc_values.specs.Identifiers.{session_of}
-use Rattle.server_model.specs.Base.{Base, IsSound}
+use Rattle.svc_values.specs.meaning.Identifiers.{session_of}
+use Rattle.server_model.specs.meaning.Base.{Base}
+use Rattle.server_model.specs.Base.{IsSound}
 use Rattle.server_model.specs.Sessions.{Life}
-use Rattle.server_model.specs.Outcomes.{Stopped}
+use Rattle.server_model.specs.meaning.Outcomes.{Stopped}
 use Rattle.server_model.specs.Runs.{Happened, Served, Asked, Server, Moves, Makes, Answers, Halts, Loses, AnswersAsk, HaltsInAsk, Reaps, Falls, Opens, StopsOpening, Runs, Start, Then, On, is_running}
-use Rattle.server_model.specs.Items.{thing_of, item_of}
-use Rattle.server_model.specs.Walk.{Walk, walk_of, entered, deed_of}
-use Rattle.server_model.specs.Legal.{thing_holds}
+use Rattle.server_model.specs.meaning.Items.{thing_of}
+use Rattle.server_model.specs.Items.{item_of}
+use Rattle.server_model.specs.meaning.Walk.{Walk, walk_of, entered, deed_of}
+use Rattle.server_model.specs.meaning.Legal.{thing_holds}
 use Rattle.server_model.specs.Laws.{stops_last, RunsLegal}
 use Rattle.server_model.proofs.Steps.{serve_alive}
 use Rattle.server_model.proofs.Numbers.{Numbered}

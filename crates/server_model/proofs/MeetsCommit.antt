@@ -9,10 +9,11 @@ use Rattle.svc_values.specs.declared.draw.Draw.{Draw}
 use Rattle.svc_values.specs.declared.draw.Draw.TheVariants as draw
 use Rattle.svc_values.specs.declared.draw.DrawKind.{DrawKind}
 use Rattle.mutable_values.specs.declared.source.SeqState.{SeqState}
-use Rattle.mutable_values.specs.Sources.{Opening, sequence_of, identifier}
+use Rattle.mutable_values.specs.meaning.Sources.{identifier}
+use Rattle.mutable_values.specs.Sources.{Opening, sequence_of}
 use Rattle.mutable_values.proofs.Offered.{found_name}
 use Rattle.stmt_meaning.specs.Asked.{kind_drawn}
-use Rattle.server_model.specs.NewValues.{Count, Numbers, gave, settled, shifted, ways, ways_from, with_way, given_ways, may_give, meets_with, next_identifier, counted}
+use Rattle.server_model.specs.meaning.NewValues.{Count, Numbers, gave, settled, shifted, ways, ways_from, with_way, given_ways, may_give, meets_with, next_identifier, counted}
 use Rattle.server_model.specs.Draws.{DrawsAll}
 use Rattle.server_model.proofs.CountedBlocks.{raised, Follows, follows-gave, none-or-more, none-there, same-there, one-less}
 use Rattle.server_model.proofs.Takings.{names_are, some_same, raise, Takes, TakesKept, TakesTick, TakesName, TakesNext, takes}

@@ -7,11 +7,11 @@ use Rattle.std.proofs.Common.{refl, inl, inr, sym, ◌∙◌, ap, subst, arith}
 use Rattle.std.proofs.lemmas.Bool.Decides.{Decides-int_eq}
 use Rattle.svc_values.specs.declared.draw.Draw.{Draw}
 use Rattle.svc_values.specs.declared.draw.Draw.TheVariants as draw
-use Rattle.svc_values.specs.Same.{same_draw}
-use Rattle.mutable_values.specs.Sources.{identifier}
+use Rattle.svc_values.specs.meaning.Same.{same_draw}
+use Rattle.mutable_values.specs.meaning.Sources.{identifier}
 use Rattle.mutable_values.proofs.Offered.{same_incarnation, same_counter}
-use Rattle.server_model.specs.NewValues.{Count, Numbers, gave, gave_first, gave_often, if_gave, settled, shifted, ways_from, reopened, opened, if_next, with_counts, next_identifier, counted}
-use Rattle.server_model.specs.Fresh.{is_single}
+use Rattle.server_model.specs.meaning.NewValues.{Count, Numbers, gave, gave_first, gave_often, if_gave, settled, shifted, ways_from, reopened, opened, if_next, with_counts, next_identifier, counted}
+use Rattle.server_model.specs.meaning.Fresh.{is_single}
 use Rattle.server_model.proofs.Takings.{same_name, names_are, some_same, none_some}
 use Rattle.server_model.proofs.Tracking.{count_in, count_name, count_mapped, put_count, after_put, found_put}
 use Rattle.server_model.proofs.NewLater.{le-trans, le-self, le-same, le-more, le-block, le-up, le-down, le-next, le-far, le-self-far, not-equal, AboveOne, Above, BelowOne, Below, LaterOne, Later, WithinOne, AllWithin, OnDraws, later-self, on-same}

@@ -7,8 +7,8 @@ use Rattle.std.proofs.lemmas.Int.{ints}
 use Rattle.std.proofs.lemmas.Bool.Decides.{Decides-int_eq}
 use Rattle.svc_values.specs.declared.draw.Draw.{Draw}
 use Rattle.svc_values.specs.declared.draw.Draw.TheVariants as draw
-use Rattle.mutable_values.specs.Sources.{identifier}
-use Rattle.server_model.specs.NewValues.{Count, Numbers}
+use Rattle.mutable_values.specs.meaning.Sources.{identifier}
+use Rattle.server_model.specs.meaning.NewValues.{Count, Numbers}
 use Rattle.server_model.proofs.Tracking.{count_in}
 
 -- ---- numbers

@@ -7,13 +7,14 @@ use Rattle.svc_values.specs.declared.draw.Draw.{Draw}
 use Rattle.svc_values.specs.declared.call.Call.{Call}
 use Rattle.svc_values.specs.declared.entry.Ltxid.{Ltxid}
 use Rattle.svc_values.specs.declared.entry.SessionId.{SessionId}
-use Rattle.svc_values.specs.Same.{same_draw}
-use Rattle.stmt_meaning.specs.Asked.{asked_by_call}
-use Rattle.server_model.specs.Base.{Base}
-use Rattle.server_model.specs.Items.{Outcome, Uncommitted, Committed, ServerAhead, ClientAhead, Forgotten, Thing, Connected, Began, Called, MetBlock, TellsOutcome, EndedRequest, Closed, Refused, CallStopped, OutcomeStopped, Item, Did, AskTold, AskStopped}
-use Rattle.server_model.specs.NewValues.{Numbers, Origin, Kept, New, origin_of, left_by, one_drawn, if_next, and_draws, drawn_by, kept_by, if_new, new_among, is_identifier, asks_for, gave_often, stopped_count, opened}
-use Rattle.server_model.specs.Walk.{Walk, Deed, Nothing, Meaningless, Ran, or_same, after_deed, after_thing, if_nothing, if_uncommitted, deed_of, entered, after}
-use Rattle.server_model.specs.Fresh.{is_single, stands_again, none_twice, new_in, drawn_anew, is_spelled, have_room}
+use Rattle.svc_values.specs.meaning.Same.{same_draw}
+use Rattle.stmt_meaning.specs.meaning.Asked.{asked_by_call}
+use Rattle.server_model.specs.meaning.Base.{Base}
+use Rattle.server_model.specs.meaning.Items.{Outcome, Uncommitted, Committed, ServerAhead, ClientAhead, Forgotten, Thing, Connected, Began, Called, MetBlock, TellsOutcome, EndedRequest, Closed, Refused, CallStopped, OutcomeStopped, Item, Did, AskTold, AskStopped}
+use Rattle.server_model.specs.meaning.NewValues.{Numbers, Origin, Kept, New, origin_of, left_by, one_drawn, if_next, and_draws, drawn_by, kept_by, if_new, new_among, is_identifier, asks_for, gave_often, stopped_count, opened}
+use Rattle.server_model.specs.meaning.Walk.{Walk, Deed, Nothing, Meaningless, Ran, or_same, after_deed, after_thing, if_nothing, if_uncommitted, deed_of, entered, after}
+use Rattle.server_model.specs.meaning.Fresh.{is_single, stands_again, none_twice, new_in, drawn_anew}
+use Rattle.server_model.specs.Fresh.{is_spelled, have_room}
 use Rattle.server_model.proofs.CountedBlocks.{often-name}
 use Rattle.server_model.proofs.Takings.{some_same, none_some}
 use Rattle.server_model.proofs.StoppedHistories.{and-left, and-right, and-both}

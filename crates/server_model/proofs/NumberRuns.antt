@@ -6,16 +6,19 @@ use Rattle.std.proofs.lemmas.List.Elements.{All-nil, All-cons, All-head, All-tai
 use Rattle.svc_values.specs.declared.entry.Ltxid.{Ltxid}
 use Rattle.svc_values.specs.declared.entry.Entry.{Entry}
 use Rattle.svc_values.specs.declared.frame.Up.{Up}
-use Rattle.svc_values.specs.Identifiers.{is_of}
-use Rattle.ltxid_book.specs.Journal.{Committed, commits_of, is_blocked, next_ltxid, BlocksStand, committed_of}
+use Rattle.svc_values.specs.meaning.Identifiers.{is_of}
+use Rattle.ltxid_book.specs.meaning.Journal.{Committed, commits_of, is_blocked, next_ltxid, committed_of}
+use Rattle.ltxid_book.specs.Journal.{BlocksStand}
 use Rattle.ltxid_book.proofs.Offered.{follows_blocks}
 use Rattle.mutable_values.specs.Sources.{Opening}
 use Rattle.ltxid_book.specs.declared.verdict.Verdict.{Verdict}
 use Rattle.ltxid_book.specs.declared.verdict.Verdict.TheVariants as verdict
-use Rattle.server_model.specs.Base.{Base, IsSound}
+use Rattle.server_model.specs.meaning.Base.{Base}
+use Rattle.server_model.specs.Base.{IsSound}
 use Rattle.server_model.specs.Core.{Core, all_entries, all_blocked}
 use Rattle.server_model.specs.Sessions.{Sess, ended}
-use Rattle.server_model.specs.Outcomes.{Telling, Says, Outcomes, IsTold, BlockStops, if_blocks, verdict_on}
+use Rattle.server_model.specs.meaning.Outcomes.{Telling, Says}
+use Rattle.server_model.specs.Outcomes.{Outcomes, IsTold, BlockStops, if_blocks, verdict_on}
 use Rattle.server_model.specs.Serve.{Serve}
 use Rattle.server_model.specs.Runs.{Happened, Server, Turns, Moves, Makes, Answers, Halts, Loses, AnswersAsk, HaltsInAsk, Reaps, Falls, Opens, StopsOpening, Runs, Start, Then, Off, On, Halted, Power, is_running, reopened_core, forgetting, next_session}
 use Rattle.server_model.specs.Laws.{Stands, AreNumbered, StaysIn, RunsStand, EntryNumbers, NeverAfterBlock}

@@ -5,10 +5,11 @@ use Rattle.std.proofs.Common.{inl, inr, sym, ◌∙◌, ap, subst, arith, append
 use Rattle.std.proofs.lemmas.Bool.Decides.{nat_tests}
 use Rattle.svc_values.specs.declared.entry.Ltxid.{Ltxid}
 use Rattle.svc_values.specs.declared.entry.Entry.{Entry}
-use Rattle.ltxid_book.specs.Journal.{Committed, state_of, BlocksStand, committed_of}
-use Rattle.svc_values.specs.Identifiers.{is_of, session_of, ltxid_of}
+use Rattle.ltxid_book.specs.meaning.Journal.{Committed, state_of, committed_of}
+use Rattle.ltxid_book.specs.Journal.{BlocksStand}
+use Rattle.svc_values.specs.meaning.Identifiers.{is_of, session_of, ltxid_of}
 use Rattle.ltxid_book.proofs.Offered.{May, commit_stands, follows_blocks}
-use Rattle.server_model.specs.Base.{Base}
+use Rattle.server_model.specs.meaning.Base.{Base}
 use Rattle.server_model.specs.Core.{Core, all_entries, all_blocked}
 use Rattle.server_model.specs.Sessions.{Ended, Sess}
 use Rattle.svc_values.specs.declared.entry.SessionId.{SessionId}

@@ -15,8 +15,8 @@ use Rattle.svc_values.specs.declared.answer.Answer.{Answer}
 use Rattle.svc_values.specs.declared.answer.Answer.TheVariants as answer
 use Rattle.svc_values.specs.declared.answer.StatementFault.{StatementFault}
 use Rattle.svc_values.specs.declared.answer.StatementFault.TheVariants as fault
-use Rattle.svc_values.specs.Calls.{has_commit}
-use Rattle.svc_values.specs.Endings.{is_committed, ends_committed}
+use Rattle.svc_values.specs.meaning.Calls.{has_commit}
+use Rattle.svc_values.specs.meaning.Endings.{is_committed, ends_committed}
 use Rattle.stmt_meaning.specs.declared.plan.Plan.{Plan}
 use Rattle.stmt_meaning.specs.declared.plan.Plan.TheVariants as plan
 use Rattle.stmt_meaning.specs.declared.plan.RowWork.{RowWork}
@@ -24,15 +24,15 @@ use Rattle.stmt_meaning.specs.declared.plan.RowWork.TheVariants as row_work
 use Rattle.stmt_meaning.specs.declared.plan.TableWork.{TableWork}
 use Rattle.stmt_meaning.specs.declared.plan.TableWork.TheVariants as table_work
 use Rattle.svc_values.specs.declared.tables.PlainRow.{PlainRow}
-use Rattle.svc_values.specs.Tables.{with_writes}
-use Rattle.stmt_meaning.specs.Operands.{Reading}
-use Rattle.stmt_meaning.specs.Plans.{plan_of, place_of}
+use Rattle.svc_values.specs.meaning.Tables.{with_writes}
+use Rattle.stmt_meaning.specs.meaning.Operands.{Reading}
+use Rattle.stmt_meaning.specs.meaning.Plans.{plan_of, place_of}
 use Rattle.stmt_meaning.specs.declared.effect.Effect.{Effect}
-use Rattle.stmt_meaning.specs.Effects.{effect, total, row_effect, table_answer, first_of, wrote, refused, fits_i64, number_at}
-use Rattle.svc_values.specs.Tests.{selected}
-use Rattle.stmt_meaning.specs.Meaning.{Meant, mean, worked, OneDone, AllDone, mean1, done_at, seen_at, statements_done, and_on, ended_by, after_first, is_refusal, commit_answer}
+use Rattle.stmt_meaning.specs.meaning.Effects.{effect, total, row_effect, table_answer, first_of, wrote, refused, fits_i64, number_at}
+use Rattle.svc_values.specs.meaning.Tests.{selected}
+use Rattle.stmt_meaning.specs.meaning.Meaning.{Meant, mean, worked, OneDone, AllDone, mean1, done_at, seen_at, statements_done, and_on, ended_by, after_first, is_refusal, commit_answer}
 use Rattle.server_model.specs.Serve.{with_last}
-use Rattle.server_model.specs.Walk.{is_ending, ends}
+use Rattle.server_model.specs.meaning.Walk.{is_ending, ends}
 
 -- ---- one statement
 

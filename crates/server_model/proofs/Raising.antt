@@ -12,7 +12,7 @@ use Rattle.mutable_values.specs.declared.source.SeqState.{SeqState}
 use Rattle.mutable_values.specs.Sources.{Opening, first_kept, sequence_of}
 use Rattle.mutable_values.proofs.Offered.{found_name}
 use Rattle.stmt_meaning.specs.Asked.{kind_drawn}
-use Rattle.server_model.specs.NewValues.{is_of_sequence, is_identifier}
+use Rattle.server_model.specs.meaning.NewValues.{is_of_sequence, is_identifier}
 use Rattle.server_model.specs.Draws.{DrawsAll}
 use Rattle.server_model.proofs.CountedBlocks.{raised, raise_often}
 use Rattle.server_model.proofs.Takings.{same_name, names_are, yes_no, raise, Takes, TakesKept, TakesTick, TakesName, TakesNext, takes}

@@ -3,12 +3,14 @@ use Rattle.std.specs.Prelude.{◌≡◌, true, false, List, [], ◌∷◌, ◌++
 use Rattle.std.proofs.Common.{refl, sym, ◌∙◌, ap, subst}
 use Rattle.svc_values.specs.declared.schema.Shape.{Shape}
 use Rattle.svc_values.specs.declared.entry.Piece.{Piece}
-use Rattle.svc_values.specs.Endings.{ends_committed}
+use Rattle.svc_values.specs.meaning.Endings.{ends_committed}
 use Rattle.svc_values.specs.declared.tables.PlainRow.{PlainRow}
-use Rattle.svc_values.specs.Tables.{with_writes, AreTables}
-use Rattle.stmt_meaning.specs.Meaning.{Meant}
-use Rattle.stmt_meaning.specs.Reads.{reads_at}
-use Rattle.stmt_meaning.specs.Serial.{Replays, CommitLast}
+use Rattle.svc_values.specs.meaning.Tables.{with_writes}
+use Rattle.svc_values.specs.Tables.{AreTables}
+use Rattle.stmt_meaning.specs.meaning.Meaning.{Meant}
+use Rattle.stmt_meaning.specs.meaning.Reads.{reads_at}
+use Rattle.stmt_meaning.specs.meaning.Serial.{Replays}
+use Rattle.stmt_meaning.specs.Serial.{CommitLast}
 use Rattle.stmt_meaning.specs.Rerun.{CallAt, RanAt, AreOrdered, pieces_of, reads_of}
 use Rattle.stmt_meaning.proofs.Offered.{RanAt-more, reads-more}
 use Rattle.server_model.specs.Sessions.{Sess}

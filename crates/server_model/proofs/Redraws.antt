@@ -10,21 +10,22 @@ use Rattle.svc_values.specs.declared.entry.Entry.{Entry}
 use Rattle.svc_values.specs.declared.entry.SessionId.{SessionId}
 use Rattle.svc_values.specs.declared.frame.Down.TheVariants as down
 use Rattle.svc_values.specs.declared.frame.Up.TheVariants as up
-use Rattle.svc_values.specs.Endings.{is_committed, ends_committed, last_answer}
+use Rattle.svc_values.specs.meaning.Endings.{is_committed, ends_committed, last_answer}
 use Rattle.svc_values.specs.SameLaws.{same_answers_decide}
 use Rattle.stmt_meaning.specs.AskedIn.{is_unset, ends_unset}
 use Rattle.stmt_meaning.specs.DrawLaws.{SettingsAgree}
-use Rattle.stmt_meaning.specs.Meaning.{Meant, mean}
-use Rattle.stmt_meaning.specs.SerialTest.{is_nil}
+use Rattle.stmt_meaning.specs.meaning.Meaning.{Meant, mean}
+use Rattle.stmt_meaning.specs.meaning.SerialTest.{is_nil}
 use Rattle.stmt_meaning.proofs.Offered.{answers_tell}
-use Rattle.server_model.specs.Base.{Base}
-use Rattle.server_model.specs.Items.{Called, Item, Did, item_of, items_from, items_of}
-use Rattle.server_model.specs.Legal.{answered, answers_hold, deed_holds, differs, ending_with, is_free, is_of_now, item_holds, items_hold, legal, lines_of, lines_stand, stores, verdict}
-use Rattle.server_model.specs.NewValues.{drawn_by, kept_by}
-use Rattle.server_model.specs.Outcomes.{Says}
+use Rattle.server_model.specs.meaning.Base.{Base}
+use Rattle.server_model.specs.meaning.Items.{Called, Item, Did}
+use Rattle.server_model.specs.Items.{item_of, items_from, items_of}
+use Rattle.server_model.specs.meaning.Legal.{answered, answers_hold, deed_holds, differs, ending_with, is_free, is_of_now, item_holds, items_hold, legal, lines_of, lines_stand, stores, verdict}
+use Rattle.server_model.specs.meaning.NewValues.{drawn_by, kept_by}
+use Rattle.server_model.specs.meaning.Outcomes.{Says}
 use Rattle.server_model.specs.Redraws.{AgreesAgain, HasServed, LegalRedraws, RunsRedraw, settings_behind}
 use Rattle.server_model.specs.Runs.{Happened, Served}
-use Rattle.server_model.specs.Walk.{Walk, Performed, deed_of, entered, meaning, view, walk_of, with_call, with_meaning}
+use Rattle.server_model.specs.meaning.Walk.{Walk, Performed, deed_of, entered, meaning, view, walk_of, with_call, with_meaning}
 use Rattle.server_model.proofs.KeptAgain.{granted_again}
 use Rattle.server_model.proofs.LegalWhole.{runs_legal}
 use Rattle.server_model.proofs.SettingsTold.{behind_all, enters, holds_at, settings_of, settings_told}

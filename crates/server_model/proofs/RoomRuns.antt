@@ -4,14 +4,15 @@ use Rattle.std.proofs.Common.{sym, ◌∙◌, ap, subst, arith, append-nil, appe
 use Rattle.std.proofs.lemmas.Bool.Decides.{nat_tests}
 use Rattle.svc_values.specs.declared.entry.Entry.{Entry}
 use Rattle.svc_values.specs.declared.frame.Down.TheVariants as down
-use Rattle.server_model.specs.Base.{Base, IsSound}
+use Rattle.server_model.specs.meaning.Base.{Base}
+use Rattle.server_model.specs.Base.{IsSound}
 use Rattle.server_model.specs.Fresh.{is_spelled, have_room}
 use Rattle.server_model.specs.Items.{items_from}
 use Rattle.server_model.specs.Laws.{RunsHaveRoom, stops_last}
-use Rattle.server_model.specs.NewValues.{Numbers}
-use Rattle.server_model.specs.Outcomes.{Silent, Says, Stopped}
+use Rattle.server_model.specs.meaning.NewValues.{Numbers}
+use Rattle.server_model.specs.meaning.Outcomes.{Silent, Says, Stopped}
 use Rattle.server_model.specs.Runs.{Happened, Served, Asked, Server, Runs, Start, Then}
-use Rattle.server_model.specs.Walk.{Walk, walk_of}
+use Rattle.server_model.specs.meaning.Walk.{Walk, walk_of}
 use Rattle.server_model.proofs.DrawnRuns.{runs-draws}
 use Rattle.server_model.proofs.Following.{walk_behind, walked}
 use Rattle.server_model.proofs.Fronts.{AtMostOne, None1, Some1, moves_front, moves_one}

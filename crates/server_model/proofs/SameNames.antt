@@ -12,9 +12,10 @@ use Rattle.svc_values.specs.Draws.{is_there}
 use Rattle.mutable_values.specs.declared.source.SeqState.{SeqState}
 use Rattle.mutable_values.specs.declared.source.Drawn.TheVariants as drawn
 use Rattle.mutable_values.specs.Sources.{Opening, DrawnFrom as Drew, draw_of, draw_from, new_draw, new_value, first_kept, sequence_of, names_of, changed, next_value, reservation_size, reserved_to}
-use Rattle.mutable_values.specs.Granting.{is_kept_sequence}
-use Rattle.server_model.specs.Base.{Base}
-use Rattle.server_model.specs.Core.{sequence_at, reopened}
+use Rattle.mutable_values.specs.meaning.Granting.{is_kept_sequence}
+use Rattle.server_model.specs.meaning.Base.{Base}
+use Rattle.server_model.specs.meaning.Core.{sequence_at}
+use Rattle.server_model.specs.Core.{reopened}
 use Rattle.stmt_meaning.specs.Asked.{kind_drawn}
 use Rattle.server_model.specs.Draws.{Draws, Gives, Reserves, DrawsAll, HaltsAt, BlockLost, BlockStands}
 

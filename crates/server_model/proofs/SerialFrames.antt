@@ -13,22 +13,26 @@ use Rattle.svc_values.specs.declared.entry.Ltxid.{Ltxid}
 use Rattle.svc_values.specs.declared.entry.Piece.{Piece}
 use Rattle.svc_values.specs.declared.entry.Entry.{Entry}
 use Rattle.svc_values.specs.declared.frame.Up.{Up}
-use Rattle.svc_values.specs.Endings.{ends_committed}
+use Rattle.svc_values.specs.meaning.Endings.{ends_committed}
 use Rattle.svc_values.specs.declared.tables.PlainRow.{PlainRow}
-use Rattle.svc_values.specs.Tables.{with_writes, AreTables}
-use Rattle.stmt_meaning.specs.Meaning.{AllDone, Meant, mean, worked, statements_done, commit_answer}
-use Rattle.stmt_meaning.specs.Serial.{Replays, CommitLast, Transaction, Serial}
+use Rattle.svc_values.specs.meaning.Tables.{with_writes}
+use Rattle.svc_values.specs.Tables.{AreTables}
+use Rattle.stmt_meaning.specs.meaning.Meaning.{AllDone, Meant, mean, worked, statements_done, commit_answer}
+use Rattle.stmt_meaning.specs.meaning.Serial.{Replays, Transaction, Serial}
+use Rattle.stmt_meaning.specs.Serial.{CommitLast}
 use Rattle.stmt_meaning.specs.Rerun.{CallAt, pieces_of}
 use Rattle.svc_values.proofs.Offered.{AreTables-with_writes, with_writes-append}
 use Rattle.stmt_meaning.proofs.Offered.{RanAt-more, reads-more, rerun-transaction, Serial-next}
 use Rattle.mutable_values.specs.Sources.{Opening}
 use Rattle.ltxid_book.specs.declared.verdict.Verdict.{Verdict}
 use Rattle.ltxid_book.specs.declared.verdict.Verdict.TheVariants as verdict
-use Rattle.server_model.specs.Base.{Base}
+use Rattle.server_model.specs.meaning.Base.{Base}
 use Rattle.server_model.specs.Core.{Core, committed, tables_with, writes_in}
 use Rattle.server_model.specs.Sessions.{Sess, Idle, with_work, entry_of, piece_of}
-use Rattle.stmt_meaning.specs.Reads.{Read, reads_at, ReadsStand}
-use Rattle.server_model.specs.Outcomes.{Telling, Silent, Says, Stopped, Outcomes, IsTold, BlockStops, if_blocks}
+use Rattle.stmt_meaning.specs.meaning.Reads.{Read, reads_at}
+use Rattle.stmt_meaning.specs.Reads.{ReadsStand}
+use Rattle.server_model.specs.meaning.Outcomes.{Telling, Silent, Says, Stopped}
+use Rattle.server_model.specs.Outcomes.{Outcomes, IsTold, BlockStops, if_blocks}
 use Rattle.server_model.specs.Serve.{Commits, InReplay, Blocks, Conflicts, Stores, StopsBefore, StopsAfter, Means, Works, Answers, Reaches, HaltsInDraw, Calls, IsWork, IsSet, IsAlter, AlterStops, AlterMarked, IsDisable, IsRollback, Serve, Connects, Begins, Ends, Closes, Asks, Runs, Refuses, with_opening, with_entry, if_told}
 use Rattle.server_model.proofs.Ran.{Ran, Ran-more, Ran-none, AreOrdered-more, pieces-more, CommitLast-more}
 

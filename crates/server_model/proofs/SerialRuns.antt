@@ -3,8 +3,9 @@ use Rattle.std.specs.Prelude.{◌≡◌, List, [], ◌∷◌, ◌++◌}
 use Rattle.std.proofs.Common.{refl, inl, inr, sym, ◌∙◌, subst}
 use Rattle.svc_values.specs.declared.schema.Shape.{Shape}
 use Rattle.svc_values.specs.Tables.{AreTables}
-use Rattle.stmt_meaning.specs.Serial.{Serial}
-use Rattle.server_model.specs.Base.{Base, IsSound}
+use Rattle.stmt_meaning.specs.meaning.Serial.{Serial}
+use Rattle.server_model.specs.meaning.Base.{Base}
+use Rattle.server_model.specs.Base.{IsSound}
 use Rattle.server_model.specs.Core.{Core, committed}
 use Rattle.server_model.specs.Sessions.{Sess, ended}
 use Rattle.server_model.specs.Runs.{Happened, Server, Turns, Moves, Makes, Answers, Halts, Loses, AnswersAsk, HaltsInAsk, Reaps, Falls, Opens, StopsOpening, Runs, Start, Then, Off, On, Halted, Power}

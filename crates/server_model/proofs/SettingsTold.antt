@@ -10,16 +10,16 @@ use Rattle.svc_values.specs.declared.entry.Piece.{Piece}
 use Rattle.svc_values.specs.declared.entry.SessionId.{SessionId}
 use Rattle.svc_values.specs.declared.schema.Shape.{Shape}
 use Rattle.svc_values.specs.declared.tables.PlainRow.{PlainRow}
-use Rattle.svc_values.specs.Calls.{has_commit}
-use Rattle.svc_values.specs.Identifiers.{same_session}
-use Rattle.svc_values.specs.SettingsList.{NamedValues, with_set}
-use Rattle.stmt_meaning.specs.Meaning.{AllDone, Meant, mean, worked, statements_done}
-use Rattle.server_model.specs.Base.{Base}
-use Rattle.server_model.specs.Items.{Outcome, Uncommitted, Thing, Began, Called, TellsOutcome, CallStopped, Item, Did, AskTold, AskStopped}
-use Rattle.server_model.specs.Legal.{deed_holds, is_of_now, item_holds, items_hold}
-use Rattle.server_model.specs.NewValues.{opened}
+use Rattle.svc_values.specs.meaning.Calls.{has_commit}
+use Rattle.svc_values.specs.meaning.Identifiers.{same_session}
+use Rattle.svc_values.specs.meaning.SettingsList.{NamedValues, with_set}
+use Rattle.stmt_meaning.specs.meaning.Meaning.{AllDone, Meant, mean, worked, statements_done}
+use Rattle.server_model.specs.meaning.Base.{Base}
+use Rattle.server_model.specs.meaning.Items.{Outcome, Uncommitted, Thing, Began, Called, TellsOutcome, CallStopped, Item, Did, AskTold, AskStopped}
+use Rattle.server_model.specs.meaning.Legal.{deed_holds, is_of_now, item_holds, items_hold}
+use Rattle.server_model.specs.meaning.NewValues.{opened}
 use Rattle.server_model.specs.Redraws.{set_by, set_in}
-use Rattle.server_model.specs.Walk.{Walk, Transaction, begun, transaction_in, with_transaction, next_of, Performed, stands, if_stands, performed_if, Deed, meaning, deed, with_meaning, deed_of, ends, with_call, if_ended, after_deed, after_thing, if_uncommitted, entered, after}
+use Rattle.server_model.specs.meaning.Walk.{Walk, Transaction, begun, transaction_in, with_transaction, next_of, Performed, stands, if_stands, performed_if, Deed, meaning, deed, with_meaning, deed_of, ends, with_call, if_ended, after_deed, after_thing, if_uncommitted, entered, after}
 use Rattle.server_model.proofs.Following.{found-other, found-same, same-session}
 use Rattle.server_model.proofs.StoppedHistories.{and-left, and-right}
 

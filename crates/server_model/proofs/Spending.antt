@@ -13,9 +13,10 @@ use Rattle.mutable_values.specs.declared.source.SeqState.{SeqState}
 use Rattle.mutable_values.specs.declared.source.Drawn.TheVariants as drawn
 use Rattle.mutable_values.specs.Sources.{Opening, DrawnFrom as Told, draw_of, sequence_of, reservation_size, reserved_to}
 use Rattle.mutable_values.proofs.Offered.{DrawsBy, absent, first, ticked, named, valued, reserves, draws_by, found_name, change_of, sequence_changed}
-use Rattle.stmt_meaning.specs.Asked.{kind_drawn, asked_by_call}
+use Rattle.stmt_meaning.specs.meaning.Asked.{asked_by_call}
+use Rattle.stmt_meaning.specs.Asked.{kind_drawn}
 use Rattle.server_model.specs.Core.{reopened as seq_reopened, opening_after}
-use Rattle.server_model.specs.NewValues.{Count, Numbers, gave_often, asks_for, stopped_count, stopped_in, unseen_in, reopened, opened, is_of_sequence}
+use Rattle.server_model.specs.meaning.NewValues.{Count, Numbers, gave_often, asks_for, stopped_count, stopped_in, unseen_in, reopened, opened, is_of_sequence}
 use Rattle.server_model.specs.Draws.{DrawsAll, HaltsAt, BlockLost, BlockStands}
 use Rattle.server_model.proofs.CountedBlocks.{often-name, raise_often, SetAside, aside-none, aside-often, aside-next, Follows, Spends, follows-spends, follows-often, spends-stopped, spends-reopened}
 use Rattle.server_model.proofs.Takings.{same_name, names_are, some_same, yes_no, told, answers_are, no_value, none_some, reserves_are}

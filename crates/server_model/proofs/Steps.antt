@@ -9,18 +9,19 @@ use Rattle.svc_values.specs.declared.entry.Ltxid.{Ltxid}
 use Rattle.svc_values.specs.declared.entry.Entry.{Entry}
 use Rattle.svc_values.specs.declared.frame.Up.{Up}
 use Rattle.svc_values.specs.declared.tables.PlainRow.{PlainRow}
-use Rattle.stmt_meaning.specs.Meaning.{Meant}
+use Rattle.stmt_meaning.specs.meaning.Meaning.{Meant}
 use Rattle.ltxid_book.specs.declared.State.{State}
-use Rattle.ltxid_book.specs.Sessions.{is_forgotten, can_commit, may_commit}
-use Rattle.ltxid_book.specs.Journal.{is_blocked}
+use Rattle.ltxid_book.specs.meaning.Sessions.{is_forgotten, can_commit, may_commit}
+use Rattle.ltxid_book.specs.meaning.Journal.{is_blocked}
 use Rattle.mutable_values.specs.Sources.{Opening}
 use Rattle.ltxid_book.specs.declared.verdict.Verdict.{Verdict}
 use Rattle.ltxid_book.specs.declared.verdict.Verdict.TheVariants as verdict
-use Rattle.ltxid_book.specs.Outcomes.{outcome_in}
+use Rattle.ltxid_book.specs.meaning.Outcomes.{outcome_in}
 use Rattle.server_model.specs.Core.{Core, committed, all_blocked, book}
 use Rattle.server_model.specs.Sessions.{Life, New, Idle, Begun, Ended, Sess, with_work}
-use Rattle.svc_values.specs.Identifiers.{session_of, ltxid_of}
-use Rattle.server_model.specs.Outcomes.{Telling, Silent, Says, Stopped, Outcomes, IsTold, BlockStops, if_blocks, verdict_on}
+use Rattle.svc_values.specs.meaning.Identifiers.{session_of, ltxid_of}
+use Rattle.server_model.specs.meaning.Outcomes.{Telling, Silent, Says, Stopped}
+use Rattle.server_model.specs.Outcomes.{Outcomes, IsTold, BlockStops, if_blocks, verdict_on}
 use Rattle.server_model.specs.Serve.{Commits, InReplay, Blocks, Conflicts, Stores, StopsBefore, StopsAfter, Works, Answers, Reaches, HaltsInDraw, Calls, IsWork, IsSet, IsAlter, AlterStops, AlterMarked, IsDisable, IsRollback, Serve, Connects, Begins, Ends, Closes, Asks, Runs, Refuses, with_opening, if_told, is_serving, is_out_of_order}
 
 -- the identifier is its session's next one, and not blocked

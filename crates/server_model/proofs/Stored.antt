@@ -6,10 +6,10 @@ use Rattle.std.proofs.lemmas.List.Elements.{All-cons, All-nil}
 use Rattle.svc_values.specs.declared.entry.Ltxid.{Ltxid}
 use Rattle.svc_values.specs.declared.entry.Entry.{Entry}
 use Rattle.svc_values.specs.declared.frame.Up.{Up}
-use Rattle.svc_values.specs.Identifiers.{session_of}
+use Rattle.svc_values.specs.meaning.Identifiers.{session_of}
 use Rattle.server_model.specs.Core.{Core}
 use Rattle.server_model.specs.Sessions.{Sess}
-use Rattle.server_model.specs.Outcomes.{Telling, Stopped}
+use Rattle.server_model.specs.meaning.Outcomes.{Telling, Stopped}
 use Rattle.server_model.specs.Serve.{Serve}
 use Rattle.server_model.specs.Runs.{Happened, Served, is_answered}
 use Rattle.server_model.specs.Laws.{CommitsAs}

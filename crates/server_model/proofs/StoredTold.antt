@@ -14,9 +14,10 @@ use Rattle.svc_values.specs.declared.frame.Down.TheVariants as down
 use Rattle.mutable_values.specs.Sources.{Opening}
 use Rattle.ltxid_book.specs.declared.verdict.Verdict.{Verdict}
 use Rattle.ltxid_book.specs.declared.verdict.Verdict.TheVariants as verdict
-use Rattle.server_model.specs.Base.{Base}
+use Rattle.server_model.specs.meaning.Base.{Base}
 use Rattle.server_model.specs.Core.{Core, all_entries, all_blocked}
-use Rattle.server_model.specs.Outcomes.{Telling, Silent, Says, Stopped, Outcomes, IsTold, BlockStops, down_of, if_blocks, verdict_on}
+use Rattle.server_model.specs.meaning.Outcomes.{Telling, Silent, Says, Stopped}
+use Rattle.server_model.specs.Outcomes.{Outcomes, IsTold, BlockStops, down_of, if_blocks, verdict_on}
 use Rattle.server_model.specs.Seen.{Store}
 use Rattle.server_model.specs.Serve.{Commits, InReplay, Blocks, Conflicts, Stores, StopsBefore, StopsAfter, Works, Answers as AnswersCall, Reaches, HaltsInDraw, Calls, IsWork, IsSet, IsAlter, AlterStops, AlterMarked, IsDisable, IsRollback, Serve, Connects, Begins, Ends, Closes, Asks, Runs as Serves, Refuses, reply, with_opening}
 use Rattle.server_model.specs.ServiceCalls.{AddsLine, StoresTold, BlocksAsTold, may_block}

@@ -6,11 +6,11 @@ use Rattle.svc_values.specs.declared.statement.Statement.{Statement}
 use Rattle.svc_values.specs.declared.call.Call.{Call}
 use Rattle.svc_values.specs.declared.call.Call.TheVariants as call
 use Rattle.svc_values.specs.declared.frame.Up.TheVariants as up
-use Rattle.svc_values.specs.Calls.{has_commit}
-use Rattle.svc_values.specs.Tables.{with_writes}
-use Rattle.server_model.specs.Base.{Base}
+use Rattle.svc_values.specs.meaning.Calls.{has_commit}
+use Rattle.svc_values.specs.meaning.Tables.{with_writes}
+use Rattle.server_model.specs.meaning.Base.{Base}
 use Rattle.server_model.specs.Core.{Core, committed}
-use Rattle.server_model.specs.Outcomes.{Telling}
+use Rattle.server_model.specs.meaning.Outcomes.{Telling}
 use Rattle.server_model.specs.Runs.{Happened, Server, Start, Then, Runs as RunsTo}
 use Rattle.server_model.specs.Serve.{Serve, Calls, Works, Answers, Reaches, HaltsInDraw, IsWork, IsSet, IsAlter, AlterStops, AlterMarked, IsDisable, IsRollback, Runs, Refuses, with_alert}
 use Rattle.server_model.specs.Sessions.{Sess}

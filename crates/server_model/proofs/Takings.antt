@@ -11,7 +11,8 @@ use Rattle.svc_values.specs.declared.draw.DrawKind.TheVariants as kind
 use Rattle.mutable_values.specs.declared.source.SeqState.{SeqState}
 use Rattle.mutable_values.specs.declared.source.Drawn.{Drawn}
 use Rattle.mutable_values.specs.declared.source.Drawn.TheVariants as drawn
-use Rattle.mutable_values.specs.Sources.{Opening, DrawnFrom as Told, draw_of, first_kept, without_first, sequence_of, changed, next_value, identifier, reservation_size, reserved_to}
+use Rattle.mutable_values.specs.meaning.Sources.{identifier}
+use Rattle.mutable_values.specs.Sources.{Opening, DrawnFrom as Told, draw_of, first_kept, without_first, sequence_of, changed, next_value, reservation_size, reserved_to}
 use Rattle.mutable_values.proofs.Offered.{DrawsBy, absent, first, ticked, named, valued, reserves, draws_by, found_name, change_of, sequence_changed}
 use Rattle.stmt_meaning.specs.Asked.{kind_drawn}
 use Rattle.server_model.specs.Draws.{Draws, Gives, Reserves}

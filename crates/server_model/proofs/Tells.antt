@@ -10,15 +10,16 @@ use Rattle.svc_values.specs.declared.frame.Up.{Up}
 use Rattle.svc_values.specs.declared.frame.Up.TheVariants as up
 use Rattle.svc_values.specs.declared.frame.Down.{Down}
 use Rattle.svc_values.specs.declared.frame.Down.TheVariants as down
-use Rattle.ltxid_book.specs.Journal.{next_ltxid, committed_of}
+use Rattle.ltxid_book.specs.meaning.Journal.{next_ltxid, committed_of}
 use Rattle.ltxid_book.specs.declared.verdict.Verdict.{Verdict}
 use Rattle.ltxid_book.specs.declared.verdict.Verdict.TheVariants as verdict
-use Rattle.server_model.specs.Base.{Base}
+use Rattle.server_model.specs.meaning.Base.{Base}
 use Rattle.server_model.specs.Core.{Core, all_entries, committed}
 use Rattle.server_model.specs.Sessions.{Life, Begun, Ended, Sess, with_work}
 use Rattle.svc_values.specs.declared.entry.SessionId.{SessionId}
-use Rattle.svc_values.specs.Identifiers.{session_of}
-use Rattle.server_model.specs.Outcomes.{Telling, Silent, Says, Stopped, Outcomes, IsTold, BlockStops, down_of, verdict_on}
+use Rattle.svc_values.specs.meaning.Identifiers.{session_of}
+use Rattle.server_model.specs.meaning.Outcomes.{Telling, Silent, Says, Stopped}
+use Rattle.server_model.specs.Outcomes.{Outcomes, IsTold, BlockStops, down_of, verdict_on}
 use Rattle.server_model.specs.Serve.{Commits, InReplay, Blocks, Conflicts, Stores, StopsBefore, StopsAfter, Works, Answers as AnswersCall, Reaches, HaltsInDraw, Calls, IsWork, IsSet, IsAlter, AlterStops, AlterMarked, IsDisable, IsRollback, Serve, Connects, Begins, Ends, Closes, Asks, Runs as Serves, Refuses, with_opening}
 use Rattle.server_model.specs.Runs.{Happened, Served, Asked, Server, Moves, Makes, Answers, Halts, Loses, AnswersAsk, HaltsInAsk, Reaps, Falls, Opens, StopsOpening, Runs, Start, Then}
 use Rattle.server_model.specs.Laws.{SameStore, LastOf, RunsLast, identifier_in, TellsNext, TellsOutcomes, TellsAsks}

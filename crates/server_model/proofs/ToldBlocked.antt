@@ -9,17 +9,18 @@ use Rattle.svc_values.specs.declared.frame.Up.{Up}
 use Rattle.svc_values.specs.declared.frame.Up.TheVariants as up
 use Rattle.svc_values.specs.declared.frame.Down.TheVariants as down
 use Rattle.ltxid_book.specs.declared.State.{State}
-use Rattle.svc_values.specs.Identifiers.{same_ltxid, session_of}
-use Rattle.ltxid_book.specs.Journal.{is_blocked, next_ltxid, state_of, committed_of}
+use Rattle.svc_values.specs.meaning.Identifiers.{same_ltxid, session_of}
+use Rattle.ltxid_book.specs.meaning.Journal.{is_blocked, next_ltxid, state_of, committed_of}
 use Rattle.ltxid_book.specs.declared.verdict.Verdict.{Verdict}
 use Rattle.ltxid_book.specs.declared.verdict.Verdict.TheVariants as verdict
-use Rattle.ltxid_book.specs.Sessions.{untouched}
-use Rattle.ltxid_book.specs.Outcomes.{outcome_in}
-use Rattle.server_model.specs.Base.{Base}
+use Rattle.ltxid_book.specs.meaning.Sessions.{untouched}
+use Rattle.ltxid_book.specs.meaning.Outcomes.{outcome_in}
+use Rattle.server_model.specs.meaning.Base.{Base}
 use Rattle.server_model.specs.Core.{Core, all_entries, all_blocked}
 use Rattle.svc_values.specs.declared.entry.SessionId.{SessionId}
 use Rattle.server_model.specs.Sessions.{Sess}
-use Rattle.server_model.specs.Outcomes.{Telling, Silent, Says, Stopped, Outcomes, IsTold, BlockStops, down_of, if_blocks, with_block, verdict_on}
+use Rattle.server_model.specs.meaning.Outcomes.{Telling, Silent, Says, Stopped}
+use Rattle.server_model.specs.Outcomes.{Outcomes, IsTold, BlockStops, down_of, if_blocks, with_block, verdict_on}
 use Rattle.server_model.specs.Serve.{Serve, Connects, Begins, Ends, Closes, Asks, Runs as Serves, Refuses}
 use Rattle.server_model.specs.Runs.{Happened, Served, Asked, Server, Turns, Moves, Makes, Answers, Halts, Loses, AnswersAsk, HaltsInAsk, Reaps, Falls, Opens, StopsOpening, Runs, Start, Then, Power}
 use Rattle.server_model.specs.Laws.{TellsUncommitted, BlocksAreStored}

@@ -13,20 +13,21 @@ use Rattle.svc_values.specs.declared.frame.Up.{Up}
 use Rattle.svc_values.specs.declared.frame.Up.TheVariants as up
 use Rattle.svc_values.specs.declared.frame.Down.{Down}
 use Rattle.svc_values.specs.declared.frame.Down.TheVariants as down
-use Rattle.svc_values.specs.Identifiers.{same_ltxid}
-use Rattle.ltxid_book.specs.Journal.{Committed, state_of, committed_of}
+use Rattle.svc_values.specs.meaning.Identifiers.{same_ltxid}
+use Rattle.ltxid_book.specs.meaning.Journal.{Committed, state_of, committed_of}
 use Rattle.ltxid_book.specs.declared.verdict.Verdict.{Verdict}
 use Rattle.ltxid_book.specs.declared.verdict.Verdict.TheVariants as verdict
 use Rattle.ltxid_book.specs.declared.State.{State}
-use Rattle.ltxid_book.specs.Sessions.{untouched}
-use Rattle.ltxid_book.specs.Outcomes.{outcome_in}
+use Rattle.ltxid_book.specs.meaning.Sessions.{untouched}
+use Rattle.ltxid_book.specs.meaning.Outcomes.{outcome_in}
 use Rattle.server_model.specs.Core.{Core, all_entries, all_blocked}
 use Rattle.svc_values.specs.declared.entry.SessionId.{SessionId}
 use Rattle.server_model.specs.Sessions.{Life, New, Idle, Begun, Ended, Sess}
-use Rattle.server_model.specs.Outcomes.{Telling, Silent, Says, Outcomes, IsTold, BlockStops, down_of, verdict_on}
+use Rattle.server_model.specs.meaning.Outcomes.{Telling, Silent, Says}
+use Rattle.server_model.specs.Outcomes.{Outcomes, IsTold, BlockStops, down_of, verdict_on}
 use Rattle.server_model.specs.Serve.{Commits, InReplay, Blocks, Conflicts, Stores, StopsBefore, StopsAfter, Works, Answers, Reaches, HaltsInDraw, Calls, IsWork, IsSet, IsAlter, AlterStops, AlterMarked, IsDisable, IsRollback, Serve, Connects, Begins, Ends, Closes, Asks, Runs as Serves, Refuses, is_serving, is_out_of_order, if_told}
 use Rattle.server_model.specs.Runs.{is_answered}
-use Rattle.server_model.specs.Walk.{Walk, next_of}
+use Rattle.server_model.specs.meaning.Walk.{Walk, next_of}
 use Rattle.server_model.specs.ToldRight.{life_after, told_holds, same_outcome, outcome_on, tells_outcome, ask_holds, is_refused}
 use Rattle.server_model.proofs.Following.{ltxid-self}
 

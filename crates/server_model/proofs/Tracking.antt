@@ -8,10 +8,11 @@ use Rattle.svc_values.specs.declared.draw.Draw.{Draw}
 use Rattle.svc_values.specs.declared.draw.Draw.TheVariants as draw
 use Rattle.svc_values.specs.SameLaws.{same_draw_decides}
 use Rattle.mutable_values.specs.declared.source.SeqState.{SeqState}
-use Rattle.mutable_values.specs.Sources.{Opening, first_kept, without_first, sequence_of, identifier}
+use Rattle.mutable_values.specs.meaning.Sources.{identifier}
+use Rattle.mutable_values.specs.Sources.{Opening, first_kept, without_first, sequence_of}
 use Rattle.mutable_values.proofs.Offered.{found_name}
 use Rattle.stmt_meaning.specs.Asked.{kind_drawn}
-use Rattle.server_model.specs.NewValues.{Count, Numbers, Kept, New, origin_of, left_by, one_drawn, if_next, and_draws, drawn_by, gave, if_gave, with_first, behind, counts_after, with_counts, next_identifier, counted}
+use Rattle.server_model.specs.meaning.NewValues.{Count, Numbers, Kept, New, origin_of, left_by, one_drawn, if_next, and_draws, drawn_by, gave, if_gave, with_first, behind, counts_after, with_counts, next_identifier, counted}
 use Rattle.server_model.specs.Draws.{DrawsAll}
 use Rattle.server_model.proofs.CountedBlocks.{raised, Follows, IsFound, find-way, follows-gave}
 use Rattle.server_model.proofs.KeptDraws.{origin_by, kept-origin}

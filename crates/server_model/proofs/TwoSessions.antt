@@ -18,14 +18,14 @@ use Rattle.svc_values.specs.declared.frame.Up.{Up}
 use Rattle.svc_values.specs.declared.frame.Up.TheVariants as up
 use Rattle.svc_values.specs.declared.frame.Down.TheVariants as down
 use Rattle.svc_values.specs.declared.tables.PlainRow.{PlainRow}
-use Rattle.svc_values.specs.Identifiers.{session_of, ltxid_of}
-use Rattle.server_model.specs.Base.{Base}
+use Rattle.svc_values.specs.meaning.Identifiers.{session_of, ltxid_of}
+use Rattle.server_model.specs.meaning.Base.{Base}
 use Rattle.server_model.specs.Core.{Core, core_of}
 use Rattle.server_model.specs.Sessions.{Sess, made}
-use Rattle.server_model.specs.Outcomes.{Silent, Says}
+use Rattle.server_model.specs.meaning.Outcomes.{Silent, Says}
 use Rattle.server_model.specs.Runs.{Happened, Served, Server, On, is_answered, Makes, Answers, Opens, Runs, Start, Then, reopened_core, forgetting}
 use Rattle.server_model.specs.Items.{items_of}
-use Rattle.server_model.specs.Legal.{legal}
+use Rattle.server_model.specs.meaning.Legal.{legal}
 use Rattle.server_model.specs.ToldRight.{told_right}
 use Rattle.server_model.proofs.Interpreter.{Done, done, interpret, interpret-is}
 

@@ -6,17 +6,18 @@ use Rattle.svc_values.specs.declared.entry.Ltxid.{Ltxid}
 use Rattle.svc_values.specs.declared.entry.Entry.{Entry}
 use Rattle.svc_values.specs.declared.entry.SessionId.{SessionId}
 use Rattle.svc_values.specs.declared.tables.PlainRow.{PlainRow}
-use Rattle.svc_values.specs.Endings.{ends_committed}
-use Rattle.svc_values.specs.Identifiers.{same_session}
-use Rattle.svc_values.specs.Tables.{with_writes}
+use Rattle.svc_values.specs.meaning.Endings.{ends_committed}
+use Rattle.svc_values.specs.meaning.Identifiers.{same_session}
+use Rattle.svc_values.specs.meaning.Tables.{with_writes}
 use Rattle.svc_values.proofs.Offered.{with_writes-append}
-use Rattle.stmt_meaning.specs.Meaning.{Meant}
+use Rattle.stmt_meaning.specs.meaning.Meaning.{Meant}
 use Rattle.stmt_meaning.proofs.Offered.{mean-tables}
-use Rattle.server_model.specs.Base.{Base}
-use Rattle.server_model.specs.Items.{Outcome, Uncommitted, Committed, ServerAhead, ClientAhead, Forgotten, Thing, Connected, Began, Called, MetBlock, TellsOutcome, EndedRequest, Closed, Refused, CallStopped, OutcomeStopped, Item, Did, AskTold, AskStopped, item_of}
+use Rattle.server_model.specs.meaning.Base.{Base}
+use Rattle.server_model.specs.meaning.Items.{Outcome, Uncommitted, Committed, ServerAhead, ClientAhead, Forgotten, Thing, Connected, Began, Called, MetBlock, TellsOutcome, EndedRequest, Closed, Refused, CallStopped, OutcomeStopped, Item, Did, AskTold, AskStopped}
+use Rattle.server_model.specs.Items.{item_of}
 use Rattle.server_model.specs.Runs.{Happened}
-use Rattle.server_model.specs.NewValues.{opened}
-use Rattle.server_model.specs.Walk.{Walk, walk_of, Transaction, begun, Performed, Deed, Nothing, Meaningless, Ran, transaction_in, with_transaction, view_in, without_view, or_made, made_view, view, views_after, meaning, with_meaning, deed, deed_of, performed_by, with_call, ends, if_ended, if_commits, with_numbers, after_deed, after_thing, if_uncommitted, if_nothing, entered, after}
+use Rattle.server_model.specs.meaning.NewValues.{opened}
+use Rattle.server_model.specs.meaning.Walk.{Walk, walk_of, Transaction, begun, Performed, Deed, Nothing, Meaningless, Ran, transaction_in, with_transaction, view_in, without_view, or_made, made_view, view, views_after, meaning, with_meaning, deed, deed_of, performed_by, with_call, ends, if_ended, if_commits, with_numbers, after_deed, after_thing, if_uncommitted, if_nothing, entered, after}
 use Rattle.server_model.proofs.Following.{walk_behind, same-session, found-same, found-other}
 
 -- each view that the walk keeps is the session's writes over what is committed

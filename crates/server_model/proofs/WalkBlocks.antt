@@ -9,20 +9,20 @@ use Rattle.svc_values.specs.declared.frame.Up.{Up}
 use Rattle.svc_values.specs.declared.frame.Up.TheVariants as up
 use Rattle.svc_values.specs.declared.frame.Down.{Down}
 use Rattle.svc_values.specs.declared.frame.Down.TheVariants as down
-use Rattle.svc_values.specs.Endings.{ends_committed}
+use Rattle.svc_values.specs.meaning.Endings.{ends_committed}
 use Rattle.svc_values.specs.declared.frame.Ahead.TheVariants as ahead
 use Rattle.svc_values.specs.declared.entry.Write.{Write}
 use Rattle.svc_values.specs.declared.entry.Entry.{Entry}
-use Rattle.svc_values.specs.Identifiers.{same_ltxid}
-use Rattle.ltxid_book.specs.Journal.{is_blocked}
-use Rattle.server_model.specs.Base.{Base}
+use Rattle.svc_values.specs.meaning.Identifiers.{same_ltxid}
+use Rattle.ltxid_book.specs.meaning.Journal.{is_blocked}
+use Rattle.server_model.specs.meaning.Base.{Base}
 use Rattle.server_model.specs.Core.{Core, all_blocked}
 use Rattle.svc_values.specs.declared.entry.SessionId.{SessionId}
-use Rattle.server_model.specs.Outcomes.{Telling, Silent, Says, Stopped}
+use Rattle.server_model.specs.meaning.Outcomes.{Telling, Silent, Says, Stopped}
 use Rattle.server_model.specs.Runs.{Happened, Served, Asked, Server, Runs}
-use Rattle.server_model.specs.Items.{Outcome, Uncommitted, Committed, ServerAhead, ClientAhead, Forgotten, Thing, Connected, Began, Called, MetBlock, TellsOutcome, EndedRequest, Closed, Refused, CallStopped, OutcomeStopped, thing_of, Did}
-use Rattle.server_model.specs.NewValues.{opened}
-use Rattle.server_model.specs.Walk.{Walk, walk_of, Deed, Nothing, Meaningless, Ran, Performed, after_deed, after_thing, if_nothing, if_uncommitted, if_commits, with_numbers, with_call, entered, deed_of}
+use Rattle.server_model.specs.meaning.Items.{Outcome, Uncommitted, Committed, ServerAhead, ClientAhead, Forgotten, Thing, Connected, Began, Called, MetBlock, TellsOutcome, EndedRequest, Closed, Refused, CallStopped, OutcomeStopped, thing_of, Did}
+use Rattle.server_model.specs.meaning.NewValues.{opened}
+use Rattle.server_model.specs.meaning.Walk.{Walk, walk_of, Deed, Nothing, Meaningless, Ran, Performed, after_deed, after_thing, if_nothing, if_uncommitted, if_commits, with_numbers, with_call, entered, deed_of}
 use Rattle.server_model.specs.Laws.{TellsUncommitted}
 use Rattle.server_model.proofs.Following.{walk_behind, walked}
 use Rattle.server_model.proofs.ToldBlocked.{blocked-more, AllAsked, runs_asked, tells-blocked}

@@ -4,18 +4,18 @@ use Rattle.std.proofs.Common.{refl, inl, inr, sym, ◌∙◌, ap, subst, arith}
 use Rattle.std.proofs.lemmas.Bool.Decides.{nat_tests}
 use Rattle.svc_values.specs.declared.entry.Entry.{Entry}
 use Rattle.svc_values.specs.declared.frame.Up.{Up}
-use Rattle.ltxid_book.specs.Journal.{committed_of}
-use Rattle.server_model.specs.Base.{Base}
+use Rattle.ltxid_book.specs.meaning.Journal.{committed_of}
+use Rattle.server_model.specs.meaning.Base.{Base}
 use Rattle.server_model.specs.Core.{Core, committed, all_entries}
 use Rattle.svc_values.specs.declared.entry.SessionId.{SessionId}
-use Rattle.svc_values.specs.Identifiers.{session_of, same_session}
+use Rattle.svc_values.specs.meaning.Identifiers.{session_of, same_session}
 use Rattle.server_model.specs.Sessions.{Life, New, Begun, Ended, Sess}
-use Rattle.server_model.specs.Outcomes.{Telling, Stopped}
+use Rattle.server_model.specs.meaning.Outcomes.{Telling, Stopped}
 use Rattle.server_model.specs.Serve.{Serve}
 use Rattle.server_model.specs.Runs.{Happened, Served, Server, Turns, Power, is_running, is_answered}
 use Rattle.server_model.specs.Items.{item_of}
-use Rattle.server_model.specs.NewValues.{opened}
-use Rattle.server_model.specs.Walk.{Walk, transaction_in, entered, next_of}
+use Rattle.server_model.specs.meaning.NewValues.{opened}
+use Rattle.server_model.specs.meaning.Walk.{Walk, transaction_in, entered, next_of}
 use Rattle.server_model.specs.ToldRight.{life_in, with_life, life_after, told_holds}
 use Rattle.server_model.specs.Laws.{stops_last}
 use Rattle.server_model.proofs.Stays.{serve_stays}

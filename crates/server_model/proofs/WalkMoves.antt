@@ -8,16 +8,17 @@ use Rattle.svc_values.specs.declared.frame.Up.TheVariants as up
 use Rattle.ltxid_book.specs.declared.verdict.Verdict.{Verdict}
 use Rattle.ltxid_book.specs.declared.verdict.Verdict.TheVariants as verdict
 use Rattle.mutable_values.specs.Sources.{Opening}
-use Rattle.ltxid_book.specs.Journal.{committed_of}
-use Rattle.server_model.specs.Base.{Base}
+use Rattle.ltxid_book.specs.meaning.Journal.{committed_of}
+use Rattle.server_model.specs.meaning.Base.{Base}
 use Rattle.server_model.specs.Core.{Core, committed, tables_with}
 use Rattle.svc_values.specs.declared.entry.SessionId.{SessionId}
-use Rattle.svc_values.specs.Identifiers.{session_of}
+use Rattle.svc_values.specs.meaning.Identifiers.{session_of}
 use Rattle.server_model.specs.Sessions.{Life, New, Begun, Ended, Sess, ended, with_work, entry_of}
-use Rattle.server_model.specs.Outcomes.{Telling, Says, Stopped, Outcomes, IsTold, down_of, if_blocks}
+use Rattle.server_model.specs.meaning.Outcomes.{Telling, Says, Stopped}
+use Rattle.server_model.specs.Outcomes.{Outcomes, IsTold, down_of, if_blocks}
 use Rattle.server_model.specs.Runs.{Happened, Served, Asked, Server, Turns, Moves, Makes, Answers, Halts, Loses, AnswersAsk, HaltsInAsk, Reaps, Falls, Opens, StopsOpening, Off, On, Halted, Power, is_running, reopened_core, forgetting, next_session}
 use Rattle.server_model.specs.Items.{item_of}
-use Rattle.server_model.specs.Walk.{Walk, transaction_in, entered}
+use Rattle.server_model.specs.meaning.Walk.{Walk, transaction_in, entered}
 use Rattle.server_model.specs.ToldRight.{ask_holds, life_in, with_life, life_after, lives_after, told_from}
 use Rattle.server_model.specs.Laws.{stops_last}
 use Rattle.server_model.proofs.Stays.{serve_stays, outcomes_stay}

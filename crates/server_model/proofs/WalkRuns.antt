@@ -5,15 +5,16 @@ use Rattle.std.proofs.Common.{refl, inl, inr, sym, ◌∙◌, ap, subst, append-
 use Rattle.svc_values.specs.declared.entry.Ltxid.{Ltxid}
 use Rattle.svc_values.specs.declared.entry.Entry.{Entry}
 use Rattle.svc_values.specs.declared.frame.Up.{Up}
-use Rattle.server_model.specs.Base.{Base, IsSound}
+use Rattle.server_model.specs.meaning.Base.{Base}
+use Rattle.server_model.specs.Base.{IsSound}
 use Rattle.server_model.specs.Core.{Core}
 use Rattle.svc_values.specs.declared.entry.SessionId.{SessionId}
-use Rattle.svc_values.specs.Identifiers.{session_of}
+use Rattle.svc_values.specs.meaning.Identifiers.{session_of}
 use Rattle.server_model.specs.Sessions.{Life, Sess}
-use Rattle.server_model.specs.Outcomes.{Telling, Stopped}
+use Rattle.server_model.specs.meaning.Outcomes.{Telling, Stopped}
 use Rattle.server_model.specs.Runs.{Happened, Served, Server, Moves, Makes, Answers, Halts, Loses, AnswersAsk, HaltsInAsk, Reaps, Falls, Opens, StopsOpening, Runs, Start, Then}
 use Rattle.server_model.specs.Items.{item_of}
-use Rattle.server_model.specs.Walk.{Walk, walk_of, entered}
+use Rattle.server_model.specs.meaning.Walk.{Walk, walk_of, entered}
 use Rattle.server_model.specs.ToldRight.{lives_after, told_from, happened_holds}
 use Rattle.server_model.specs.Laws.{Grows, Same, One, stops_last, RunsTold}
 use Rattle.server_model.proofs.Growth.{outcomes-entries, serve_grows}

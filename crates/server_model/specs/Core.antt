@@ -1,16 +1,18 @@
 -- What the sessions of a service share: its store and its source of values.
+-- Here is what contracts and proofs say of it besides.
 use Rattle.std.specs.Prelude.{ℕ, pos, ◌+ℤ◌, List, [], ◌++◌, map}
 use Rattle.std.specs.List.{flat_map}
 use Rattle.svc_values.specs.declared.entry.Entry.{Entry}
 use Rattle.svc_values.specs.declared.entry.Ltxid.{Ltxid}
 use Rattle.svc_values.specs.declared.entry.Write.{Write}
 use Rattle.svc_values.specs.declared.tables.PlainRow.{PlainRow}
-use Rattle.svc_values.specs.Tables.{with_writes}
-use Rattle.ltxid_book.specs.Sessions.{Sessions}
-use Rattle.ltxid_book.specs.Journal.{book_of, committed_of}
+use Rattle.svc_values.specs.meaning.Tables.{with_writes}
+use Rattle.ltxid_book.specs.meaning.Sessions.{Sessions}
+use Rattle.ltxid_book.specs.meaning.Journal.{book_of, committed_of}
 use Rattle.mutable_values.specs.declared.source.SeqState.{SeqState}
 use Rattle.mutable_values.specs.Sources.{Opening}
-use Rattle.server_model.specs.Base.{Sequence, Base}
+use Rattle.server_model.specs.meaning.Base.{Base}
+use Rattle.server_model.specs.meaning.Core.{sequence_at}
 
 -- `entries`, `blocked` and `alerts` are what the store has gained since the service was made, each
 -- in the order in which it was stored. Outcomes of incarnations below `horizon` are forgotten.
@@ -51,9 +53,6 @@ reopened sequence = record sequence { next = sequence.upto +ℤ pos 1 }
 -- the source of a new opening
 abbrev pub opening_after : Opening → ℕ → Opening
 opening_after opening incarnation = record { incarnation = incarnation; identifiers = 0; sequences = map reopened opening.sequences }
-
-abbrev pub sequence_at : Sequence → SeqState
-sequence_at sequence = record { name = sequence.name; next = sequence.upto +ℤ pos 1; upto = sequence.upto; keep = sequence.keep }
 
 -- a service as it is made has gained nothing
 abbrev pub core_of : Base → Core

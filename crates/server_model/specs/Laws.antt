@@ -9,22 +9,27 @@ use Rattle.svc_values.specs.declared.frame.Up.{Up}
 use Rattle.svc_values.specs.declared.frame.Up.TheVariants as up
 use Rattle.svc_values.specs.declared.frame.Down.{Down}
 use Rattle.svc_values.specs.declared.frame.Down.TheVariants as down
-use Rattle.svc_values.specs.Endings.{ends_committed}
-use Rattle.stmt_meaning.specs.Serial.{Serial}
-use Rattle.ltxid_book.specs.Journal.{is_blocked, next_ltxid, BlocksStand, committed_of}
-use Rattle.server_model.specs.Base.{Base, IsSound}
+use Rattle.svc_values.specs.meaning.Endings.{ends_committed}
+use Rattle.stmt_meaning.specs.meaning.Serial.{Serial}
+use Rattle.ltxid_book.specs.meaning.Journal.{is_blocked, next_ltxid, committed_of}
+use Rattle.ltxid_book.specs.Journal.{BlocksStand}
+use Rattle.server_model.specs.meaning.Base.{Base}
+use Rattle.server_model.specs.Base.{IsSound}
 use Rattle.server_model.specs.Core.{Core, committed, all_entries, all_blocked, tables_with}
 use Rattle.svc_values.specs.declared.entry.SessionId.{SessionId}
-use Rattle.svc_values.specs.Identifiers.{session_of}
+use Rattle.svc_values.specs.meaning.Identifiers.{session_of}
 use Rattle.server_model.specs.Sessions.{Sess}
-use Rattle.server_model.specs.Outcomes.{Telling, Says, Stopped, down_of, verdict_on}
+use Rattle.server_model.specs.meaning.Outcomes.{Telling, Says, Stopped}
+use Rattle.server_model.specs.Outcomes.{down_of, verdict_on}
 use Rattle.server_model.specs.Serve.{Serve}
 use Rattle.server_model.specs.Runs.{Happened, Served, Asked, Server, On, is_running, Moves, Runs}
 use Rattle.server_model.specs.Items.{items_of}
-use Rattle.server_model.specs.Legal.{legal, lines_of, lines_stand}
-use Rattle.server_model.specs.Fresh.{drawn_anew, fresh_new, has_room}
-use Rattle.server_model.specs.SetAside.{SetAside, ends_of}
-use Rattle.server_model.specs.Walk.{walk_of}
+use Rattle.server_model.specs.meaning.Legal.{legal, lines_of, lines_stand}
+use Rattle.server_model.specs.meaning.Fresh.{drawn_anew, fresh_new}
+use Rattle.server_model.specs.Fresh.{has_room}
+use Rattle.server_model.specs.meaning.SetAside.{SetAside}
+use Rattle.server_model.specs.SetAside.{ends_of}
+use Rattle.server_model.specs.meaning.Walk.{walk_of}
 use Rattle.server_model.specs.ToldRight.{told_right}
 use Rattle.server_model.specs.Seen.{Seen, IsHistory}
 

@@ -3,7 +3,6 @@ pub mod Core
 pub mod Draws
 pub mod Fresh
 pub mod Items
-pub mod Legal
 pub mod NewValues
 pub mod Outcomes
 pub mod Runs
@@ -11,8 +10,8 @@ pub mod Serve
 pub mod Sessions
 pub mod SetAside
 pub mod ToldRight
-pub mod Walk
 pub mod Seen
 pub mod ServiceCalls
 pub mod Laws
 pub mod Redraws
+pub mod meaning

@@ -1,25 +1,15 @@
 -- What is told of an identifier, by the outcome table.
-use Rattle.std.specs.Prelude.{◌≡◌, ◌⊎◌, true, false, [], ◌∷◌, ◌++◌, Option, Some, None}
+-- Here is what contracts and proofs say of it besides.
+use Rattle.std.specs.Prelude.{◌≡◌, ◌⊎◌, true, false, [], ◌∷◌, ◌++◌}
 use Rattle.svc_values.specs.declared.entry.Ltxid.{Ltxid}
 use Rattle.svc_values.specs.declared.frame.Down.{Down}
 use Rattle.svc_values.specs.declared.frame.Down.TheVariants as down
 use Rattle.svc_values.specs.declared.frame.Ahead.TheVariants as ahead
 use Rattle.ltxid_book.specs.declared.verdict.Verdict.{Verdict}
 use Rattle.ltxid_book.specs.declared.verdict.Verdict.TheVariants as verdict
-use Rattle.ltxid_book.specs.Outcomes.{verdict_of}
+use Rattle.ltxid_book.specs.meaning.Outcomes.{verdict_of}
 use Rattle.server_model.specs.Core.{Core, book}
-
--- What is told of a frame: nothing, a frame, or nothing because the store was stopped before the
--- answer.
-pub data Telling : Type 0 where
-  Silent : Telling
-  Says : (frame : Down) → Telling
-  Stopped : Telling
-
--- of an answer, which is a frame or none
-abbrev pub telling_of : Option Down → Telling
-telling_of None = Silent
-telling_of (Some frame) = Says frame
+use Rattle.server_model.specs.meaning.Outcomes.{Says, Stopped, Telling}
 
 -- the frame that tells a verdict. An identifier that is to be blocked is so before it is told
 abbrev pub down_of : Verdict → Down

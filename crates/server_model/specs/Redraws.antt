@@ -8,15 +8,17 @@ use Rattle.svc_values.specs.declared.entry.Ltxid.{Ltxid}
 use Rattle.svc_values.specs.declared.entry.SessionId.{SessionId}
 use Rattle.svc_values.specs.declared.frame.Down.TheVariants as down
 use Rattle.svc_values.specs.declared.frame.Up.TheVariants as up
-use Rattle.svc_values.specs.Identifiers.{same_session}
-use Rattle.svc_values.specs.SettingsList.{NamedValues, with_set}
+use Rattle.svc_values.specs.meaning.Identifiers.{same_session}
+use Rattle.svc_values.specs.meaning.SettingsList.{NamedValues, with_set}
 use Rattle.stmt_meaning.specs.AskedIn.{ends_unset}
-use Rattle.server_model.specs.Base.{Base, IsSound}
-use Rattle.server_model.specs.Items.{Thing, Began, Called, Item, Did, AskTold, AskStopped, items_of}
+use Rattle.server_model.specs.meaning.Base.{Base}
+use Rattle.server_model.specs.Base.{IsSound}
+use Rattle.server_model.specs.meaning.Items.{Thing, Began, Called, Item, Did, AskTold, AskStopped}
+use Rattle.server_model.specs.Items.{items_of}
 use Rattle.server_model.specs.Laws.{stops_last}
-use Rattle.server_model.specs.Legal.{legal}
-use Rattle.server_model.specs.NewValues.{grants}
-use Rattle.server_model.specs.Outcomes.{Says}
+use Rattle.server_model.specs.meaning.Legal.{legal}
+use Rattle.server_model.specs.meaning.NewValues.{grants}
+use Rattle.server_model.specs.meaning.Outcomes.{Says}
 use Rattle.server_model.specs.Runs.{Happened, Served, Server, Runs}
 
 -- ---- settings

@@ -2,9 +2,9 @@
 use Rattle.std.specs.Prelude.{◌≡◌, ◌≢◌, ◌+◌, ◌==◌, ◌<◌, ◌≤◌, ℕ, Bool, true, false, List, [], ◌++◌, map, Option, Some, None, if◌then◌else◌}
 use Rattle.svc_values.specs.declared.entry.Entry.{Entry}
 use Rattle.svc_values.specs.declared.entry.Ltxid.{Ltxid}
-use Rattle.ltxid_book.specs.Journal.{committed_of, book_of}
-use Rattle.ltxid_book.specs.Sessions.{Sessions}
-use Rattle.server_model.specs.Base.{Base}
+use Rattle.ltxid_book.specs.meaning.Journal.{committed_of, book_of}
+use Rattle.ltxid_book.specs.meaning.Sessions.{Sessions}
+use Rattle.server_model.specs.meaning.Base.{Base}
 use Rattle.svc_values.specs.declared.entry.SessionId.{SessionId}
 use Rattle.server_model.specs.Runs.{Happened, Server, Power, Off, On, Runs}
 

@@ -12,18 +12,19 @@ use Rattle.svc_values.specs.declared.entry.Ltxid.{Ltxid}
 use Rattle.svc_values.specs.declared.frame.Up.{Up}
 use Rattle.svc_values.specs.declared.frame.Up.TheVariants as up
 use Rattle.svc_values.specs.declared.frame.Down.TheVariants as down
-use Rattle.svc_values.specs.Endings.{ends_committed}
-use Rattle.svc_values.specs.SettingsList.{put_setting}
-use Rattle.svc_values.specs.Tables.{with_writes}
+use Rattle.svc_values.specs.meaning.Endings.{ends_committed}
+use Rattle.svc_values.specs.meaning.SettingsList.{put_setting}
+use Rattle.svc_values.specs.meaning.Tables.{with_writes}
 use Rattle.stmt_meaning.specs.Asked.{kind_drawn}
-use Rattle.stmt_meaning.specs.Meaning.{Meant, mean}
-use Rattle.ltxid_book.specs.Journal.{is_blocked}
+use Rattle.stmt_meaning.specs.meaning.Meaning.{Meant, mean}
+use Rattle.ltxid_book.specs.meaning.Journal.{is_blocked}
 use Rattle.mutable_values.specs.Sources.{Opening}
 use Rattle.server_model.specs.Core.{Core, committed, all_blocked}
 use Rattle.stmt_meaning.specs.Reads.{ReadsStand, ReadsDiffer}
 use Rattle.server_model.specs.Sessions.{Life, New, Idle, Begun, Ended, Sess, begun_with, dropped, ended, with_piece, with_work, raised, entry_of}
 use Rattle.server_model.specs.Draws.{brought, DrawsAll, HaltsAt}
-use Rattle.server_model.specs.Outcomes.{Telling, Silent, Says, Stopped, Outcomes}
+use Rattle.server_model.specs.meaning.Outcomes.{Telling, Silent, Says, Stopped}
+use Rattle.server_model.specs.Outcomes.{Outcomes}
 
 -- the answers with another last one
 abbrev pub with_last : List Answer → Answer → List Answer

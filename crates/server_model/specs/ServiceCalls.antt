@@ -1,5 +1,6 @@
 -- What each call of a service does to what is seen of it.
-use Rattle.std.specs.Prelude.{◌≡◌, ◌≢◌, ◌⊎◌, ◌+◌, ◌*◌, ◌%◌, ◌<◌, ◌≤◌, ℕ, Bool, true, false, List, [], ◌∷◌, ◌++◌, length, Option, Some, None, All, Contains, nat_lt, max, if◌then◌else◌}
+-- Here is what contracts and proofs say of it besides.
+use Rattle.std.specs.Prelude.{◌≡◌, ◌≢◌, ◌⊎◌, ◌+◌, ◌*◌, ◌<◌, ◌≤◌, ℕ, Bool, true, false, List, [], ◌∷◌, ◌++◌, length, Option, Some, None, All, Contains, max, if◌then◌else◌}
 use Rattle.svc_values.specs.declared.draw.Draw.{Draw}
 use Rattle.svc_values.specs.declared.call.Call.{Call}
 use Rattle.svc_values.specs.declared.call.Call.TheVariants as call
@@ -11,16 +12,18 @@ use Rattle.svc_values.specs.declared.frame.Up.TheVariants as up
 use Rattle.svc_values.specs.declared.frame.Down.TheVariants as down
 use Rattle.ltxid_book.specs.declared.verdict.Verdict.{Verdict}
 use Rattle.ltxid_book.specs.declared.verdict.Verdict.TheVariants as verdict
-use Rattle.ltxid_book.specs.Journal.{is_blocked}
-use Rattle.ltxid_book.specs.Outcomes.{verdict_of}
+use Rattle.ltxid_book.specs.meaning.Journal.{is_blocked}
+use Rattle.ltxid_book.specs.meaning.Outcomes.{verdict_of}
 use Rattle.svc_values.specs.declared.entry.SessionId.{SessionId}
-use Rattle.svc_values.specs.Calls.{sequences_in}
-use Rattle.svc_values.specs.Endings.{ends_committed}
-use Rattle.svc_values.specs.Identifiers.{ltxid_of}
-use Rattle.server_model.specs.Outcomes.{Telling, Silent, Says, Stopped, down_of}
+use Rattle.svc_values.specs.meaning.Calls.{sequences_in}
+use Rattle.svc_values.specs.meaning.Endings.{ends_committed}
+use Rattle.svc_values.specs.meaning.Identifiers.{ltxid_of}
+use Rattle.server_model.specs.meaning.Outcomes.{Telling, Silent, Says, Stopped}
+use Rattle.server_model.specs.Outcomes.{down_of}
 use Rattle.server_model.specs.Runs.{Happened, Served, Asked}
 use Rattle.server_model.specs.Laws.{CommitsAs}
 use Rattle.server_model.specs.Seen.{Store, book_in, Connections, none_living, SameLiving, ServiceState, Seen, without_connection, with_connection, Rose, Keeps, KeepsStore}
+use Rattle.server_model.specs.meaning.ServiceCalls.{is_failover}
 
 -- ---- connect, reap, stop_after
 
@@ -186,11 +189,6 @@ pub record ServedOne (old : Seen) (connection now : ℕ) (frame : Up) (told : Te
   pub cause : StopCause old new (1 + sequences_in frame) told
   -- a frame that stores nothing is never stopped
   pub silent : may_store frame ≡ false → (told ≢ Stopped) × (new.state.faults ≡ old.state.faults) × (new.state.store ≡ old.state.store)
-
--- ---- crash and up
-
-abbrev pub is_failover : ℕ → Bool
-is_failover pick = nat_lt 3 (pick % 8)
 
 -- A crash ends all connections and takes the stop away. What a service that was up, or settled,
 -- held stays. Behind a pick that takes a store away there is one store.

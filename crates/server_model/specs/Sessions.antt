@@ -8,12 +8,12 @@ use Rattle.svc_values.specs.declared.entry.Ltxid.{Ltxid}
 use Rattle.svc_values.specs.declared.entry.Piece.{Piece}
 use Rattle.svc_values.specs.declared.entry.Write.{Write}
 use Rattle.svc_values.specs.declared.entry.Entry.{Entry}
-use Rattle.svc_values.specs.Calls.{is_lone_commit}
+use Rattle.svc_values.specs.meaning.Calls.{is_lone_commit}
 use Rattle.svc_values.specs.declared.tables.PlainRow.{PlainRow}
-use Rattle.svc_values.specs.Identifiers.{session_of, ltxid_of}
+use Rattle.svc_values.specs.meaning.Identifiers.{session_of, ltxid_of}
 use Rattle.svc_values.specs.declared.entry.SessionId.{SessionId}
-use Rattle.stmt_meaning.specs.Meaning.{Meant}
-use Rattle.stmt_meaning.specs.Reads.{Read, reads_at}
+use Rattle.stmt_meaning.specs.meaning.Meaning.{Meant}
+use Rattle.stmt_meaning.specs.meaning.Reads.{Read, reads_at}
 
 -- before its Connect, between requests, in a request, and at its end
 pub data Life : Type 0 where

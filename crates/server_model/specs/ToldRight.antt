@@ -11,17 +11,18 @@ use Rattle.svc_values.specs.declared.frame.Down.{Down}
 use Rattle.svc_values.specs.declared.frame.Down.TheVariants as down
 use Rattle.svc_values.specs.declared.frame.Ahead.{Ahead}
 use Rattle.svc_values.specs.declared.frame.Ahead.TheVariants as ahead
-use Rattle.svc_values.specs.Identifiers.{same_ltxid, same_session}
-use Rattle.ltxid_book.specs.Journal.{book_of, committed_of}
-use Rattle.ltxid_book.specs.Outcomes.{verdict_of}
-use Rattle.server_model.specs.Base.{Base}
+use Rattle.svc_values.specs.meaning.Identifiers.{same_ltxid, same_session}
+use Rattle.ltxid_book.specs.meaning.Journal.{book_of, committed_of}
+use Rattle.ltxid_book.specs.meaning.Outcomes.{verdict_of}
+use Rattle.server_model.specs.meaning.Base.{Base}
 use Rattle.svc_values.specs.declared.entry.SessionId.{SessionId}
 use Rattle.server_model.specs.Sessions.{Life, New, Idle, Begun, Ended}
-use Rattle.svc_values.specs.Same.{same_bool}
-use Rattle.server_model.specs.Outcomes.{Telling, Silent, Says, Stopped, down_of}
+use Rattle.svc_values.specs.meaning.Same.{same_bool}
+use Rattle.server_model.specs.meaning.Outcomes.{Telling, Silent, Says, Stopped}
+use Rattle.server_model.specs.Outcomes.{down_of}
 use Rattle.server_model.specs.Runs.{Happened, Served, Asked}
 use Rattle.server_model.specs.Items.{item_of}
-use Rattle.server_model.specs.Walk.{Walk, walk_of, next_of, deed_of, entered, after}
+use Rattle.server_model.specs.meaning.Walk.{Walk, walk_of, next_of, deed_of, entered, after}
 
 -- ---- where each session is in its life, by the frames that it served
 

@@ -13,20 +13,22 @@ use Rattle.svc_values.specs.declared.frame.Down.{Down}
 use Rattle.svc_values.specs.declared.frame.Down.TheVariants as down
 use Rattle.svc_values.specs.declared.tables.PlainRow.{PlainRow}
 use Rattle.svc_values.specs.declared.tables.Place.{Place}
-use Rattle.svc_values.specs.Identifiers.{is_of}
-use Rattle.svc_values.specs.SettingsList.{NamedValues}
-use Rattle.ltxid_book.specs.Journal.{committed_of, is_blocked}
-use Rattle.ltxid_book.specs.Sessions.{Sessions, sessions_in, can_commit, may_commit, is_forgotten}
+use Rattle.svc_values.specs.meaning.Identifiers.{is_of}
+use Rattle.svc_values.specs.meaning.SettingsList.{NamedValues}
+use Rattle.ltxid_book.specs.meaning.Journal.{committed_of, is_blocked}
+use Rattle.ltxid_book.specs.meaning.Sessions.{Sessions, can_commit, may_commit, is_forgotten}
+use Rattle.ltxid_book.specs.Sessions.{sessions_in}
 use Rattle.ltxid_book.proofs.Offered.{tells_blocks}
 use Rattle.mutable_values.specs.Sources.{Opening}
 use Rattle.table_store.specs.Stored.{Stored}
 use Rattle.commit_log.specs.declared.records.Record.TheVariants as kept
-use Rattle.commit_log.specs.Journals.{journal_of}
-use Rattle.commit_log.specs.Rules.{sessions_of, with_record}
-use Rattle.stmt_meaning.specs.Reads.{Read, ReadsStand, ReadsDiffer, IsConflict}
+use Rattle.commit_log.specs.meaning.Journals.{journal_of}
+use Rattle.commit_log.specs.meaning.Rules.{sessions_of, with_record}
+use Rattle.stmt_meaning.specs.meaning.Reads.{Read}
+use Rattle.stmt_meaning.specs.Reads.{ReadsStand, ReadsDiffer, IsConflict}
 use Rattle.table_txn.specs.Readings.{AreReadings}
 use Rattle.server_model.specs.Core.{Core as Plain, committed, all_blocked}
-use Rattle.server_model.specs.Outcomes.{Telling, Says, Stopped}
+use Rattle.server_model.specs.meaning.Outcomes.{Telling, Says, Stopped}
 use Rattle.server_model.specs.Sessions.{Life, Sess, ended, entry_of}
 use Rattle.server_model.specs.Serve.{InReplay, Blocks, Conflicts, Stores as StoresIt, StopsBefore, StopsAfter, MayStore, with_entry, with_last}
 use Rattle.server_session.specs.declared.shared.Core.{Core}

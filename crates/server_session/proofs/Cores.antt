@@ -8,19 +8,20 @@ use Rattle.redo_store.specs.declared.fault.RedoFault.{RedoFault}
 use Rattle.redo_store.specs.declared.fault.RedoFault.TheVariants as log_fault
 use Rattle.svc_values.specs.declared.entry.Entry.{Entry}
 use Rattle.svc_values.specs.declared.entry.Ltxid.{Ltxid}
-use Rattle.svc_values.specs.Fitting.{writes_fit}
-use Rattle.svc_values.specs.Identifiers.{is_of}
-use Rattle.svc_values.specs.Tables.{with_writes}
+use Rattle.svc_values.specs.meaning.Fitting.{writes_fit}
+use Rattle.svc_values.specs.meaning.Identifiers.{is_of}
+use Rattle.svc_values.specs.meaning.Tables.{with_writes}
 use Rattle.ltxid_book.specs.declared.State.{State}
-use Rattle.ltxid_book.specs.Sessions.{Contents, Sessions, sessions_in, may_commit as may_note, after_commit, after_block}
+use Rattle.ltxid_book.specs.meaning.Sessions.{Sessions, may_commit as may_note}
+use Rattle.ltxid_book.specs.Sessions.{Contents, sessions_in, after_commit, after_block}
 use Rattle.table_store.specs.Stored.{Stored}
 use Rattle.commit_log.specs.declared.journal.Journal.{Journal}
 use Rattle.commit_log.specs.declared.log.Log.{Log}
 use Rattle.commit_log.specs.declared.records.Record.TheVariants as kept
 use Rattle.commit_log.specs.Adds.{Adds, MayAdd}
-use Rattle.commit_log.specs.Bases.{schemas_of, start_of}
-use Rattle.commit_log.specs.Journals.{journal_of}
-use Rattle.commit_log.specs.Rules.{may_block, may_commit, with_record}
+use Rattle.commit_log.specs.meaning.Bases.{schemas_of, start_of}
+use Rattle.commit_log.specs.meaning.Journals.{journal_of}
+use Rattle.commit_log.specs.meaning.Rules.{may_block, may_commit, with_record}
 use Rattle.commit_log.proofs.Offered.{may_beside, notes_commit, block_beside, notes_block}
 use Rattle.server_session.specs.declared.shared.Core.{Core}
 use Rattle.server_session.specs.Alone.{MovesOn, counted}

@@ -8,7 +8,7 @@ use Rattle.svc_values.specs.declared.draw.Draw.{Draw}
 use Rattle.svc_values.specs.declared.draw.Draw.TheVariants as draw
 use Rattle.svc_values.specs.declared.draw.DrawKind.{DrawKind}
 use Rattle.svc_values.specs.declared.draw.DrawKind.TheVariants as kind
-use Rattle.svc_values.specs.Draws.{is_of_kind}
+use Rattle.svc_values.specs.meaning.Draws.{is_of_kind}
 use Rattle.mutable_values.specs.declared.source.Drawn.TheVariants as drawn
 use Rattle.mutable_values.specs.Sources.{Opening, HasRoom, DrawnFrom, draw_of, reserved_to}
 use Rattle.redo_store.specs.declared.fault.RedoFault.{RedoFault}
@@ -19,7 +19,7 @@ use Rattle.commit_log.specs.declared.records.Record.{Record}
 use Rattle.commit_log.specs.declared.records.Record.TheVariants as kept
 use Rattle.commit_log.specs.Adds.{Adds}
 use Rattle.commit_log.specs.Growth.{IsGrown}
-use Rattle.commit_log.specs.Rules.{with_record}
+use Rattle.commit_log.specs.meaning.Rules.{with_record}
 use Rattle.stmt_meaning.specs.Asked.{kind_drawn, sequences_drawn, is_of_sequence}
 use Rattle.server_model.specs.Draws.{Draws, Gives, Reserves as ReservesFirst, DrawsAll}
 use Rattle.server_session.specs.Adding.{HasGained, HasHalted}

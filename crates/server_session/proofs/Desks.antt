@@ -7,10 +7,10 @@ use Rattle.disk_model.specs.Disk.{DiskState, Meanwhile}
 use Rattle.svc_values.specs.declared.call.Call.TheVariants as call
 use Rattle.svc_values.specs.declared.draw.Draw.{Draw}
 use Rattle.svc_values.specs.declared.frame.Up.TheVariants as up
-use Rattle.svc_values.specs.Calls.{sequences_in}
-use Rattle.svc_values.specs.Draws.{is_of_kind}
-use Rattle.svc_values.specs.Fitting.{writes_fit}
-use Rattle.svc_values.specs.Tables.{with_writes}
+use Rattle.svc_values.specs.meaning.Calls.{sequences_in}
+use Rattle.svc_values.specs.meaning.Draws.{is_of_kind}
+use Rattle.svc_values.specs.meaning.Fitting.{writes_fit}
+use Rattle.svc_values.specs.meaning.Tables.{with_writes}
 use Rattle.commit_log.specs.Growth.{IsGrown}
 use Rattle.commit_log.proofs.Offered.{grown_then}
 use Rattle.mutable_values.specs.Sources.{names_of}
@@ -18,7 +18,7 @@ use Rattle.stmt_meaning.specs.declared.fault.TxnFault.{TxnFault}
 use Rattle.stmt_meaning.specs.declared.fault.TxnFault.TheVariants as txn_fault
 use Rattle.stmt_meaning.specs.Asked.{sequences_drawn}
 use Rattle.stmt_meaning.specs.Drawing.{DrewAll, Ends, EndedBy, AreAsked, is_first}
-use Rattle.stmt_meaning.specs.Meaning.{Meant}
+use Rattle.stmt_meaning.specs.meaning.Meaning.{Meant}
 use Rattle.stmt_meaning.proofs.Offered.{sequences-few}
 use Rattle.table_txn.specs.declared.txn.Ran.{Ran}
 use Rattle.table_txn.specs.Readings.{StayUnchanged}

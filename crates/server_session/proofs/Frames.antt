@@ -10,17 +10,18 @@ use Rattle.svc_values.specs.declared.entry.Ltxid.{Ltxid}
 use Rattle.svc_values.specs.declared.frame.Down.{Down}
 use Rattle.svc_values.specs.declared.frame.Down.TheVariants as down
 use Rattle.svc_values.specs.declared.frame.Up.TheVariants as up
-use Rattle.svc_values.specs.Calls.{sequences_in}
+use Rattle.svc_values.specs.meaning.Calls.{sequences_in}
 use Rattle.ltxid_book.specs.declared.verdict.Verdict.{Verdict}
-use Rattle.ltxid_book.specs.Sessions.{Sessions}
+use Rattle.ltxid_book.specs.meaning.Sessions.{Sessions}
 use Rattle.mutable_values.specs.Sources.{Opening}
 use Rattle.commit_log.specs.declared.records.Record.{Record}
 use Rattle.commit_log.specs.declared.records.Record.TheVariants as kept
-use Rattle.commit_log.specs.Journals.{journal_of}
-use Rattle.commit_log.specs.Rules.{with_record}
-use Rattle.stmt_meaning.specs.Reads.{Read}
+use Rattle.commit_log.specs.meaning.Journals.{journal_of}
+use Rattle.commit_log.specs.meaning.Rules.{with_record}
+use Rattle.stmt_meaning.specs.meaning.Reads.{Read}
 use Rattle.server_model.specs.Core.{Core as Plain}
-use Rattle.server_model.specs.Outcomes.{Says, Stopped, down_of, if_blocks, IsTold}
+use Rattle.server_model.specs.meaning.Outcomes.{Says, Stopped}
+use Rattle.server_model.specs.Outcomes.{down_of, if_blocks, IsTold}
 use Rattle.server_model.specs.Sessions.{ended, piece_of}
 use Rattle.server_model.specs.Serve.{IsAlter, AlterStops, Asks, is_serving, with_alert}
 use Rattle.server_session.specs.declared.shared.Core.{Core}

@@ -9,9 +9,9 @@ use Rattle.svc_values.specs.declared.frame.Down.{Down}
 use Rattle.svc_values.specs.declared.frame.Down.TheVariants as down
 use Rattle.svc_values.specs.declared.frame.Up.{Up}
 use Rattle.svc_values.specs.declared.frame.Up.TheVariants as up
-use Rattle.svc_values.specs.Calls.{sequences_in}
-use Rattle.svc_values.specs.SettingsList.{NamedValues}
-use Rattle.server_model.specs.Outcomes.{Telling, Silent, Says}
+use Rattle.svc_values.specs.meaning.Calls.{sequences_in}
+use Rattle.svc_values.specs.meaning.SettingsList.{NamedValues}
+use Rattle.server_model.specs.meaning.Outcomes.{Telling, Silent, Says}
 use Rattle.server_model.specs.Serve.{Runs, is_connect, is_out_of_order, is_serving}
 use Rattle.server_model.specs.Sessions.{Life, New, Idle, Begun, Ended}
 use Rattle.server_model.specs.declared.fault.ServeFault.{ServeFault}

@@ -10,14 +10,15 @@ use Rattle.commit_log.specs.declared.journal.Reservation.{Reservation}
 use Rattle.commit_log.specs.declared.records.Record.{Record}
 use Rattle.commit_log.specs.declared.records.Record.TheVariants as kept
 use Rattle.commit_log.specs.Growth.{HasAdded, IsGrown, with_payloads, with_records}
-use Rattle.commit_log.specs.Journals.{whole_record, journal_of}
+use Rattle.commit_log.specs.meaning.Journals.{whole_record, journal_of}
 use Rattle.commit_log.specs.RecordBytes.{spell_record}
-use Rattle.commit_log.specs.Rules.{with_record}
-use Rattle.redo_store.specs.Records.{records_of}
-use Rattle.stmt_meaning.specs.Reads.{Read}
+use Rattle.commit_log.specs.meaning.Rules.{with_record}
+use Rattle.redo_store.specs.meaning.Records.{records_of}
+use Rattle.stmt_meaning.specs.meaning.Reads.{Read}
 use Rattle.table_txn.specs.Readings.{AreReadings}
 use Rattle.server_model.specs.Core.{Core as Plain}
-use Rattle.server_model.specs.Outcomes.{Telling, Stopped, Outcomes}
+use Rattle.server_model.specs.meaning.Outcomes.{Telling, Stopped}
+use Rattle.server_model.specs.Outcomes.{Outcomes}
 use Rattle.server_model.specs.Sessions.{Sess, ended}
 use Rattle.server_session.specs.declared.shared.Core.{Core}
 use Rattle.server_session.specs.Adding.{IsLeftOf}

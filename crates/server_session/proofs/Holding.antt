@@ -5,10 +5,11 @@ use Rattle.std.proofs.lemmas.List.Elements.{Contains-get_or}
 use Rattle.std.specs.Prelude.{IfSome, Option, Some, None, filter, nat_lt}
 use Rattle.std.specs.List.{Contains}
 use Rattle.svc_values.specs.declared.tables.PlainRow.{PlainRow}
-use Rattle.svc_values.specs.Tables.{rows_at}
+use Rattle.svc_values.specs.meaning.Tables.{rows_at}
 use Rattle.svc_values.specs.Same.{same_place}
 use Rattle.svc_values.specs.SameLaws.{same_place_decides}
-use Rattle.stmt_meaning.specs.Reads.{Read, IsConflict}
+use Rattle.stmt_meaning.specs.meaning.Reads.{Read}
+use Rattle.stmt_meaning.specs.Reads.{IsConflict}
 use Rattle.table_txn.specs.Readings.{Reading, found_at, reading_of, IsReadingOf, AreReadings, AreUnchanged, StayUnchanged}
 use Rattle.server_session.specs.declared.shared.Core.{Core}
 use Rattle.server_session.specs.Alone.{HoldsSince, MovesOn, begun_at, counted, is_alone}

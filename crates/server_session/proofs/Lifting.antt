@@ -6,10 +6,10 @@ use Rattle.svc_values.specs.declared.entry.Ltxid.{Ltxid}
 use Rattle.svc_values.specs.declared.frame.Down.{Down}
 use Rattle.ltxid_book.specs.Sessions.{sessions_in}
 use Rattle.commit_log.specs.declared.records.Record.{Record}
-use Rattle.stmt_meaning.specs.Reads.{Read}
+use Rattle.stmt_meaning.specs.meaning.Reads.{Read}
 use Rattle.table_txn.specs.Readings.{AreReadings}
 use Rattle.server_model.specs.Core.{Core as Plain}
-use Rattle.server_model.specs.Outcomes.{Telling, Stopped}
+use Rattle.server_model.specs.meaning.Outcomes.{Telling, Stopped}
 use Rattle.server_model.specs.Sessions.{Sess, ended}
 use Rattle.server_session.specs.declared.shared.Core.{Core}
 use Rattle.server_model.specs.declared.fault.ServeFault.{ServeFault}

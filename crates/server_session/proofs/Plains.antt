@@ -5,15 +5,15 @@ use Rattle.disk_model.specs.Disk.{DiskState}
 use Rattle.svc_values.specs.declared.entry.Entry.{Entry}
 use Rattle.svc_values.specs.declared.entry.Ltxid.{Ltxid}
 use Rattle.svc_values.specs.declared.tables.PlainRow.{PlainRow}
-use Rattle.svc_values.specs.Tables.{with_writes}
+use Rattle.svc_values.specs.meaning.Tables.{with_writes}
 use Rattle.svc_values.proofs.Offered.{with_writes-append}
 use Rattle.commit_log.specs.declared.journal.Journal.{Journal}
 use Rattle.commit_log.specs.declared.records.Record.{Record}
 use Rattle.commit_log.specs.declared.records.Record.TheVariants as kept
-use Rattle.commit_log.specs.Bases.{start_of}
+use Rattle.commit_log.specs.meaning.Bases.{start_of}
 use Rattle.commit_log.specs.Growth.{HasAdded}
-use Rattle.commit_log.specs.Journals.{journal_of}
-use Rattle.commit_log.specs.Rules.{with_record}
+use Rattle.commit_log.specs.meaning.Journals.{journal_of}
+use Rattle.commit_log.specs.meaning.Rules.{with_record}
 use Rattle.server_model.specs.Core.{Core as Plain, tables_with}
 use Rattle.server_model.specs.Outcomes.{with_block}
 use Rattle.server_model.specs.Serve.{with_entry, with_alert}

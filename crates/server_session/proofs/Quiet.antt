@@ -11,11 +11,11 @@ use Rattle.svc_values.specs.declared.frame.Up.TheVariants as up
 use Rattle.svc_values.specs.declared.frame.Down.TheVariants as down
 use Rattle.svc_values.specs.declared.value.Value.{Value}
 use Rattle.svc_values.specs.Calls.{IsMade}
-use Rattle.svc_values.specs.SettingsList.{NamedValues, put_setting}
+use Rattle.svc_values.specs.meaning.SettingsList.{NamedValues, put_setting}
 use Rattle.canon_bytes.specs.Entries.{IsMadePiece}
 use Rattle.table_txn.specs.Readings.{AreReadings}
 use Rattle.table_txn.specs.Transactions.{empty}
-use Rattle.server_model.specs.Outcomes.{Silent, Says}
+use Rattle.server_model.specs.meaning.Outcomes.{Silent, Says}
 use Rattle.server_model.specs.Sessions.{New, Idle, Begun, piece_of}
 use Rattle.server_model.specs.Serve.{IsSet, AlterMarked, IsDisable, IsRollback, Connects, Begins, Ends, Closes, Refuses, is_out_of_order, is_serving}
 use Rattle.server_session.specs.SeenSession.{SeenSession, begun_so, ended_so}

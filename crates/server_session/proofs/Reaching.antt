@@ -14,14 +14,16 @@ use Rattle.svc_values.specs.declared.frame.Down.{Down}
 use Rattle.svc_values.specs.declared.frame.Down.TheVariants as down
 use Rattle.svc_values.specs.declared.tables.Place.{Place}
 use Rattle.svc_values.specs.Calls.{IsMade}
-use Rattle.svc_values.specs.Fitting.{writes_fit}
+use Rattle.svc_values.specs.meaning.Fitting.{writes_fit}
 use Rattle.svc_values.specs.Identifiers.{IsLtxid}
 use Rattle.canon_bytes.specs.Entries.{IsMadeEntry}
-use Rattle.ltxid_book.specs.Sessions.{sessions_in, can_commit, may_commit}
+use Rattle.ltxid_book.specs.meaning.Sessions.{can_commit, may_commit}
+use Rattle.ltxid_book.specs.Sessions.{sessions_in}
 use Rattle.commit_log.specs.declared.records.Record.TheVariants as kept
-use Rattle.stmt_meaning.specs.Reads.{Read, IsConflict}
+use Rattle.stmt_meaning.specs.meaning.Reads.{Read}
+use Rattle.stmt_meaning.specs.Reads.{IsConflict}
 use Rattle.table_txn.specs.Readings.{AreReadings}
-use Rattle.server_model.specs.Outcomes.{Says}
+use Rattle.server_model.specs.meaning.Outcomes.{Says}
 use Rattle.server_model.specs.Serve.{with_last}
 use Rattle.server_model.specs.Sessions.{entry_of}
 use Rattle.server_model.specs.declared.fault.ServeFault.{ServeFault}

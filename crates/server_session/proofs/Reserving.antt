@@ -19,9 +19,9 @@ use Rattle.commit_log.specs.declared.journal.Journal.{Journal}
 use Rattle.commit_log.specs.declared.journal.Reservation.{Reservation}
 use Rattle.commit_log.specs.declared.records.Record.TheVariants as kept
 use Rattle.commit_log.specs.Adds.{MayAdd}
-use Rattle.commit_log.specs.Journals.{journal_of}
-use Rattle.commit_log.specs.Rules.{end_of, is_next_reservation, may_reserve as may_store, with_record}
-use Rattle.server_model.specs.Base.{Sequence}
+use Rattle.commit_log.specs.meaning.Journals.{journal_of}
+use Rattle.commit_log.specs.meaning.Rules.{end_of, is_next_reservation, may_reserve as may_store, with_record}
+use Rattle.server_model.specs.meaning.Base.{Sequence}
 use Rattle.server_session.specs.Dealing.{reservation_of}
 use Rattle.server_session.specs.Fits.{IsSourceOf, sequence_in, sequence_of as sequence_of_journal}
 

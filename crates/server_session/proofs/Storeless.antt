@@ -9,9 +9,9 @@ use Rattle.svc_values.specs.declared.frame.Down.{Down}
 use Rattle.svc_values.specs.declared.frame.Down.TheVariants as down
 use Rattle.svc_values.specs.declared.frame.Up.TheVariants as up
 use Rattle.svc_values.specs.declared.value.Value.{Value}
-use Rattle.svc_values.specs.Calls.{sequences_in}
-use Rattle.svc_values.specs.SettingsList.{put_setting}
-use Rattle.server_model.specs.Outcomes.{Says}
+use Rattle.svc_values.specs.meaning.Calls.{sequences_in}
+use Rattle.svc_values.specs.meaning.SettingsList.{put_setting}
+use Rattle.server_model.specs.meaning.Outcomes.{Says}
 use Rattle.server_model.specs.Sessions.{piece_of}
 use Rattle.server_session.specs.declared.shared.Core.{Core}
 use Rattle.server_session.specs.Fits.{Fits, Belongs}

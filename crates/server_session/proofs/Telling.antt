@@ -6,17 +6,19 @@ use Rattle.svc_values.specs.declared.entry.Ltxid.{Ltxid}
 use Rattle.ltxid_book.specs.declared.State.{State}
 use Rattle.ltxid_book.specs.declared.verdict.Verdict.{Verdict}
 use Rattle.ltxid_book.specs.declared.verdict.Verdict.TheVariants as verdict
-use Rattle.ltxid_book.specs.Journal.{committed_of, book_of}
-use Rattle.ltxid_book.specs.Outcomes.{outcome_in, verdict_of}
-use Rattle.ltxid_book.specs.Sessions.{Sessions, sessions_in, may_commit, can_commit, is_forgotten}
+use Rattle.ltxid_book.specs.meaning.Journal.{committed_of, book_of}
+use Rattle.ltxid_book.specs.meaning.Outcomes.{outcome_in, verdict_of}
+use Rattle.ltxid_book.specs.meaning.Sessions.{Sessions, may_commit, can_commit, is_forgotten}
+use Rattle.ltxid_book.specs.Sessions.{sessions_in}
 use Rattle.mutable_values.specs.Sources.{Opening}
 use Rattle.commit_log.specs.declared.journal.Journal.{Journal}
 use Rattle.commit_log.specs.declared.records.Record.{Record}
 use Rattle.commit_log.specs.declared.records.Record.TheVariants as kept
-use Rattle.commit_log.specs.Journals.{journal_of}
-use Rattle.commit_log.specs.Rules.{sessions_of, with_record}
+use Rattle.commit_log.specs.meaning.Journals.{journal_of}
+use Rattle.commit_log.specs.meaning.Rules.{sessions_of, with_record}
 use Rattle.server_model.specs.Core.{Core as Plain, book}
-use Rattle.server_model.specs.Outcomes.{Stopped, with_block, if_blocks, verdict_on, Outcomes, BlockStops}
+use Rattle.server_model.specs.meaning.Outcomes.{Stopped}
+use Rattle.server_model.specs.Outcomes.{with_block, if_blocks, verdict_on, Outcomes, BlockStops}
 use Rattle.server_session.specs.declared.shared.Core.{Core}
 use Rattle.server_model.specs.declared.fault.ServeFault.{ServeFault}
 use Rattle.server_model.specs.declared.fault.ServeFault.TheVariants as fault

@@ -10,8 +10,9 @@ use Rattle.svc_values.specs.declared.frame.Down.{Down}
 use Rattle.svc_values.specs.declared.frame.Down.TheVariants as down
 use Rattle.svc_values.specs.declared.frame.Up.TheVariants as up
 use Rattle.svc_values.specs.declared.statement.Statement.{Statement}
-use Rattle.svc_values.specs.Calls.{IsMade, sequences_in}
-use Rattle.svc_values.specs.Endings.{ends_committed}
+use Rattle.svc_values.specs.meaning.Calls.{sequences_in}
+use Rattle.svc_values.specs.Calls.{IsMade}
+use Rattle.svc_values.specs.meaning.Endings.{ends_committed}
 use Rattle.table_txn.specs.declared.txn.Ran.{Ran}
 use Rattle.table_txn.specs.Transactions.{Transaction}
 use Rattle.stmt_meaning.specs.Laws.{closed_by}

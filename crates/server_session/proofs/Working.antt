@@ -13,13 +13,14 @@ use Rattle.svc_values.specs.declared.frame.Up.TheVariants as up
 use Rattle.svc_values.specs.declared.schema.Shape.{Shape}
 use Rattle.svc_values.specs.declared.statement.Statement.{Statement}
 use Rattle.svc_values.specs.declared.tables.PlainRow.{PlainRow}
-use Rattle.svc_values.specs.Calls.{IsMade, sequences_in}
+use Rattle.svc_values.specs.meaning.Calls.{sequences_in}
+use Rattle.svc_values.specs.Calls.{IsMade}
 use Rattle.std.specs.List.{AllByRecursion}
-use Rattle.svc_values.specs.Endings.{ends_committed}
-use Rattle.svc_values.specs.Fitting.{writes_fit}
+use Rattle.svc_values.specs.meaning.Endings.{ends_committed}
+use Rattle.svc_values.specs.meaning.Fitting.{writes_fit}
 use Rattle.canon_bytes.specs.Entries.{IsMadePiece}
-use Rattle.svc_values.specs.Tables.{with_writes}
-use Rattle.ltxid_book.specs.Sessions.{is_forgotten}
+use Rattle.svc_values.specs.meaning.Tables.{with_writes}
+use Rattle.ltxid_book.specs.meaning.Sessions.{is_forgotten}
 use Rattle.mutable_values.specs.declared.grants.Grants.{Grants}
 use Rattle.mutable_values.specs.Sources.{Opening, names_of}
 use Rattle.table_store.specs.Stored.{Stored}
@@ -31,20 +32,20 @@ use Rattle.commit_log.specs.declared.journal.Journal.{Journal}
 use Rattle.commit_log.specs.declared.journal.Reservation.{Reservation}
 use Rattle.commit_log.specs.declared.records.Record.{Record}
 use Rattle.commit_log.specs.declared.records.Record.TheVariants as kept
-use Rattle.commit_log.specs.Bases.{sequence_name, shape_of as shape_of_base}
+use Rattle.commit_log.specs.meaning.Bases.{sequence_name, shape_of as shape_of_base}
 use Rattle.commit_log.specs.Growth.{HasAdded, IsGrown, with_records}
-use Rattle.commit_log.specs.Journals.{journal_of}
+use Rattle.commit_log.specs.meaning.Journals.{journal_of}
 use Rattle.commit_log.specs.Judging.{IsBookFor}
-use Rattle.commit_log.specs.Rules.{sessions_of, with_record}
+use Rattle.commit_log.specs.meaning.Rules.{sessions_of, with_record}
 use Rattle.commit_log.proofs.Offered.{grown_then}
 use Rattle.stmt_meaning.specs.Laws.{closed_by}
-use Rattle.stmt_meaning.specs.Meaning.{Meant, mean}
-use Rattle.stmt_meaning.specs.Reads.{Read, reads_at}
+use Rattle.stmt_meaning.specs.meaning.Meaning.{Meant, mean}
+use Rattle.stmt_meaning.specs.meaning.Reads.{Read, reads_at}
 use Rattle.stmt_meaning.proofs.Offered.{commits_last, sequences-few}
-use Rattle.server_model.specs.Base.{Sequence}
+use Rattle.server_model.specs.meaning.Base.{Sequence}
 use Rattle.server_model.specs.Core.{Core as Plain, committed}
 use Rattle.server_model.specs.Draws.{brought, DrawsAll}
-use Rattle.server_model.specs.Outcomes.{Telling, Says, Stopped}
+use Rattle.server_model.specs.meaning.Outcomes.{Telling, Says, Stopped}
 use Rattle.server_model.specs.Sessions.{Sess, ended, piece_of, with_piece, with_work}
 use Rattle.server_model.specs.Serve.{Commits, Means, Works, Answers, Reaches, HaltsInDraw, IsWork, reply, with_opening}
 use Rattle.server_session.specs.declared.shared.Core.{Core}

@@ -4,14 +4,14 @@ use Rattle.disk_model.specs.Disk.{DiskState, Meanwhile}
 use Rattle.svc_values.specs.declared.draw.Draw.{Draw}
 use Rattle.svc_values.specs.declared.draw.DrawKind.{DrawKind}
 use Rattle.svc_values.specs.declared.draw.DrawKind.TheVariants as kind
-use Rattle.svc_values.specs.Draws.{is_of_kind}
+use Rattle.svc_values.specs.meaning.Draws.{is_of_kind}
 use Rattle.commit_log.specs.declared.journal.Journal.{Journal}
 use Rattle.commit_log.specs.declared.journal.Reservation.{Reservation}
 use Rattle.commit_log.specs.declared.log.Log.{Log}
 use Rattle.commit_log.specs.declared.records.Record.{Record}
 use Rattle.commit_log.specs.declared.records.Record.TheVariants as kept
 use Rattle.commit_log.specs.Growth.{IsGrown}
-use Rattle.commit_log.specs.Journals.{journal_of}
+use Rattle.commit_log.specs.meaning.Journals.{journal_of}
 use Rattle.commit_log.specs.Logs.{is_live, CanLog}
 use Rattle.mutable_values.specs.declared.source.Drawn.TheVariants as drawn
 use Rattle.mutable_values.specs.Sources.{Opening, draw_of, reserved_to}

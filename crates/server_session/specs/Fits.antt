@@ -2,20 +2,21 @@
 use Rattle.std.specs.Prelude.{◌≡◌, false, IsTrue, map, Ok}
 use Rattle.std.specs.List.{AllByRecursion}
 use Rattle.disk_model.specs.Disk.{DiskState}
-use Rattle.svc_values.specs.Fitting.{writes_fit}
-use Rattle.ltxid_book.specs.Sessions.{sessions_in, is_forgotten}
+use Rattle.svc_values.specs.meaning.Fitting.{writes_fit}
+use Rattle.ltxid_book.specs.meaning.Sessions.{is_forgotten}
+use Rattle.ltxid_book.specs.Sessions.{sessions_in}
 use Rattle.canon_bytes.specs.Entries.{IsMadePiece}
 use Rattle.mutable_values.specs.declared.source.SeqState.{SeqState}
 use Rattle.mutable_values.specs.Sources.{Opening}
 use Rattle.commit_log.specs.declared.base.BaseSequence.{BaseSequence}
 use Rattle.commit_log.specs.declared.journal.Journal.{Journal}
-use Rattle.commit_log.specs.Bases.{schemas_of, start_of}
-use Rattle.commit_log.specs.Rules.{end_of, sessions_of}
-use Rattle.commit_log.specs.Journals.{journal_of}
+use Rattle.commit_log.specs.meaning.Bases.{schemas_of, start_of}
+use Rattle.commit_log.specs.meaning.Rules.{end_of, sessions_of}
+use Rattle.commit_log.specs.meaning.Journals.{journal_of}
 use Rattle.commit_log.specs.Judging.{IsBookFor}
 use Rattle.commit_log.specs.Logs.{CanLog}
 use Rattle.table_store.specs.Stored.{Stored}
-use Rattle.server_model.specs.Base.{Sequence}
+use Rattle.server_model.specs.meaning.Base.{Sequence}
 use Rattle.server_model.specs.Core.{tables_with}
 use Rattle.server_session.specs.declared.shared.Core.{Core}
 use Rattle.server_session.specs.Alone.{HoldsSince}

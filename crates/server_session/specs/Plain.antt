@@ -2,8 +2,8 @@
 use Rattle.std.specs.Prelude.{◌≡◌, ◌++◌, IfOk}
 use Rattle.disk_model.specs.Disk.{DiskState}
 use Rattle.commit_log.specs.declared.journal.Journal.{Journal}
-use Rattle.commit_log.specs.Bases.{shape_of}
-use Rattle.commit_log.specs.Journals.{journal_of}
+use Rattle.commit_log.specs.meaning.Bases.{shape_of}
+use Rattle.commit_log.specs.meaning.Journals.{journal_of}
 use Rattle.server_model.specs.Core.{Core as Plain, committed, all_entries, all_blocked}
 use Rattle.server_session.specs.declared.shared.Core.{Core}
 use Rattle.server_session.specs.Fits.{tables_of, IsSourceOf}

@@ -4,8 +4,8 @@ use Rattle.std.specs.Option.{option_map}
 use Rattle.disk_model.specs.Disk.{DiskState}
 use Rattle.svc_values.specs.declared.draw.Draw.{Draw}
 use Rattle.svc_values.specs.declared.statement.Statement.{Statement}
-use Rattle.svc_values.specs.Fitting.{writes_fit}
-use Rattle.svc_values.specs.SettingsList.{NamedValues}
+use Rattle.svc_values.specs.meaning.Fitting.{writes_fit}
+use Rattle.svc_values.specs.meaning.SettingsList.{NamedValues}
 use Rattle.mutable_values.specs.Sources.{names_of}
 use Rattle.stmt_meaning.specs.Asked.{kind_drawn}
 use Rattle.stmt_meaning.specs.Drawing.{AreAsked}

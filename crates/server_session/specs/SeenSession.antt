@@ -1,8 +1,8 @@
 -- What is seen of a session.
 use Rattle.std.specs.Prelude.{ℕ, Bool, true, false, List, [], Option, Some, None}
 use Rattle.svc_values.specs.declared.entry.Ltxid.{Ltxid}
-use Rattle.svc_values.specs.SettingsList.{NamedValues}
-use Rattle.stmt_meaning.specs.Reads.{Read}
+use Rattle.svc_values.specs.meaning.SettingsList.{NamedValues}
+use Rattle.stmt_meaning.specs.meaning.Reads.{Read}
 use Rattle.table_txn.specs.Transactions.{Transaction, empty}
 use Rattle.server_model.specs.Sessions.{Life, New, Ended, Sess}
 

@@ -8,15 +8,15 @@ use Rattle.svc_values.specs.declared.draw.Draw.{Draw}
 use Rattle.svc_values.specs.declared.frame.Down.{Down}
 use Rattle.svc_values.specs.declared.frame.Up.{Up}
 use Rattle.svc_values.specs.declared.schema.Schema.{Schema}
-use Rattle.svc_values.specs.Fitting.{writes_fit}
+use Rattle.svc_values.specs.meaning.Fitting.{writes_fit}
 use Rattle.canon_bytes.specs.Entries.{IsMadePiece}
 use Rattle.commit_log.specs.declared.records.Record.{Record}
 use Rattle.commit_log.specs.Growth.{IsGrown}
-use Rattle.commit_log.specs.Journals.{journal_of}
-use Rattle.stmt_meaning.specs.Reads.{Read}
+use Rattle.commit_log.specs.meaning.Journals.{journal_of}
+use Rattle.stmt_meaning.specs.meaning.Reads.{Read}
 use Rattle.table_txn.specs.Readings.{AreReadings}
 use Rattle.server_model.specs.Core.{Core as Plain}
-use Rattle.server_model.specs.Outcomes.{Telling, Silent, Says, Stopped}
+use Rattle.server_model.specs.meaning.Outcomes.{Telling, Silent, Says, Stopped}
 use Rattle.server_model.specs.Serve.{Serve, Calls, Commits, MayStore}
 use Rattle.server_model.specs.Sessions.{Sess, ended}
 use Rattle.server_session.specs.declared.shared.Core.{Core}

@@ -3,14 +3,16 @@ use Rattle.std.specs.Prelude.{◌≡◌, ◌≢◌, ◌≤◌, ℕ, List, [], �
 use Rattle.disk_model.specs.Disk.{DiskState}
 use Rattle.svc_values.specs.declared.entry.Ltxid.{Ltxid}
 use Rattle.ltxid_book.specs.declared.verdict.Verdict.{Verdict}
-use Rattle.ltxid_book.specs.Sessions.{Sessions, sessions_in, after_commit, after_block}
-use Rattle.ltxid_book.specs.Outcomes.{verdict_of}
+use Rattle.ltxid_book.specs.meaning.Sessions.{Sessions}
+use Rattle.ltxid_book.specs.Sessions.{sessions_in, after_commit, after_block}
+use Rattle.ltxid_book.specs.meaning.Outcomes.{verdict_of}
 use Rattle.commit_log.specs.declared.records.Record.{Record}
 use Rattle.commit_log.specs.declared.records.Record.TheVariants as kept
 use Rattle.commit_log.specs.Growth.{IsGrown}
-use Rattle.commit_log.specs.Journals.{journal_of}
+use Rattle.commit_log.specs.meaning.Journals.{journal_of}
 use Rattle.server_model.specs.Core.{Core as Plain}
-use Rattle.server_model.specs.Outcomes.{Stopped, if_blocks, verdict_on, Outcomes}
+use Rattle.server_model.specs.meaning.Outcomes.{Stopped}
+use Rattle.server_model.specs.Outcomes.{if_blocks, verdict_on, Outcomes}
 use Rattle.server_session.specs.declared.shared.Core.{Core}
 use Rattle.server_model.specs.declared.fault.ServeFault.{ServeFault}
 use Rattle.server_model.specs.declared.fault.ServeFault.TheVariants as fault

@@ -1,7 +1,8 @@
 //! Whether others have committed beside a session's transaction.
 ghost use Rattle.std.specs.Prelude.{◌≡◌, List};
 ghost use Rattle.std.specs.Option.{option_copied};
-ghost use Rattle.stmt_meaning.specs.Reads.{Read, IsConflict};
+ghost use Rattle.stmt_meaning.specs.meaning.Reads.{Read};
+ghost use Rattle.stmt_meaning.specs.Reads.{IsConflict};
 ghost use Rattle.table_txn.specs.Readings.{AreReadings};
 ghost use Rattle.server_session.specs.Alone.{is_alone as is_alone_def};
 ghost use Rattle.server_session.specs.Fits.{Belongs};

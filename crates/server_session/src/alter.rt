@@ -3,7 +3,7 @@ ghost use Rattle.std.specs.Prelude.{◌≡◌, ◌+◌, ℕ, List};
 ghost use Rattle.svc_values.specs.declared.call.Call.TheVariants as call_variant;
 ghost use Rattle.svc_values.specs.declared.draw.Draw.{Draw as One};
 ghost use Rattle.svc_values.specs.declared.frame.Up.TheVariants as up;
-ghost use Rattle.svc_values.specs.Calls.{sequences_in};
+ghost use Rattle.svc_values.specs.meaning.Calls.{sequences_in};
 ghost use Rattle.commit_log.specs.declared.records.Record.TheVariants as kept_record;
 ghost use Rattle.server_session.specs.Fits.{Fits, Belongs};
 ghost use Rattle.server_session.specs.Serving.{Serves, called_as};

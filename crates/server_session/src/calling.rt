@@ -2,7 +2,8 @@
 ghost use Rattle.std.specs.Prelude.{◌≡◌, ◌+◌};
 ghost use Rattle.svc_values.specs.declared.call.Call.TheVariants as call_variant;
 ghost use Rattle.svc_values.specs.declared.frame.Up.TheVariants as up;
-ghost use Rattle.svc_values.specs.Calls.{IsMade, sequences_in};
+ghost use Rattle.svc_values.specs.meaning.Calls.{sequences_in};
+ghost use Rattle.svc_values.specs.Calls.{IsMade};
 ghost use Rattle.server_session.specs.Fits.{Fits, Belongs};
 ghost use Rattle.server_session.specs.Serving.{Serves, called_as};
 

@@ -1,6 +1,6 @@
 //! Calls that touch no store.
 ghost use Rattle.std.specs.Prelude.{◌≡◌, ◌++◌, ◌∷◌, [], Some, IfOk, OnOk};
-ghost use Rattle.svc_values.specs.SettingsList.{put_setting};
+ghost use Rattle.svc_values.specs.meaning.SettingsList.{put_setting};
 ghost use Rattle.svc_values.specs.declared.answer.Answer.TheVariants as answer;
 ghost use Rattle.svc_values.specs.declared.call.Call.TheVariants as call_variant;
 ghost use Rattle.svc_values.specs.declared.frame.Down.TheVariants as down;

@@ -2,8 +2,9 @@
 ghost use Rattle.std.specs.Prelude.{◌≡◌, ◌≤◌, [], IsTrue, IfOk};
 ghost use Rattle.svc_values.specs.declared.frame.Down.TheVariants as down;
 ghost use Rattle.svc_values.specs.Calls.{IsMade};
-ghost use Rattle.svc_values.specs.Fitting.{writes_fit};
-ghost use Rattle.ltxid_book.specs.Sessions.{sessions_in, can_commit, may_commit};
+ghost use Rattle.svc_values.specs.meaning.Fitting.{writes_fit};
+ghost use Rattle.ltxid_book.specs.meaning.Sessions.{can_commit, may_commit};
+ghost use Rattle.ltxid_book.specs.Sessions.{sessions_in};
 ghost use Rattle.canon_bytes.specs.Entries.{IsMadeEntry};
 ghost use Rattle.commit_log.specs.declared.records.Record.TheVariants as kept;
 ghost use Rattle.stmt_meaning.specs.Laws.{closed_by};

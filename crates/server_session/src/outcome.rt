@@ -1,9 +1,10 @@
 //! The outcome of an identifier.
 ghost use Rattle.std.specs.Prelude.{◌≡◌, ◌+◌, ℕ, IsTrue};
 ghost use Rattle.svc_values.specs.declared.frame.Up.TheVariants as up;
-ghost use Rattle.svc_values.specs.Calls.{sequences_in};
+ghost use Rattle.svc_values.specs.meaning.Calls.{sequences_in};
 ghost use Rattle.svc_values.specs.Identifiers.{IsLtxid};
-ghost use Rattle.ltxid_book.specs.Sessions.{sessions_in, may_commit};
+ghost use Rattle.ltxid_book.specs.meaning.Sessions.{may_commit};
+ghost use Rattle.ltxid_book.specs.Sessions.{sessions_in};
 ghost use Rattle.commit_log.specs.declared.records.Record.TheVariants as kept;
 ghost use Rattle.server_model.specs.Outcomes.{down_of as down_of_def};
 ghost use Rattle.server_model.specs.Serve.{is_serving};

@@ -2,8 +2,8 @@
 ghost use Rattle.std.specs.Prelude.{◌≡◌, ◌+◌, [], true, IsTrue, IfOk};
 ghost use Rattle.svc_values.specs.declared.call.Call.TheVariants as call_variant;
 ghost use Rattle.svc_values.specs.declared.frame.Up.TheVariants as up;
-ghost use Rattle.svc_values.specs.Calls.{sequences_in};
-ghost use Rattle.svc_values.specs.Fitting.{writes_fit};
+ghost use Rattle.svc_values.specs.meaning.Calls.{sequences_in};
+ghost use Rattle.svc_values.specs.meaning.Fitting.{writes_fit};
 ghost use Rattle.table_txn.specs.Readings.{AreUnchanged};
 ghost use Rattle.server_model.specs.Draws.{brought as brought_def};
 ghost use Rattle.server_session.specs.Dealing.{IsPrepared};

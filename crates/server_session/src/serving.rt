@@ -1,6 +1,6 @@
 //! A frame, served.
 ghost use Rattle.std.specs.Prelude.{◌≡◌, ◌+◌, true, false, OnErr, IsErrOf};
-ghost use Rattle.svc_values.specs.Calls.{sequences_in};
+ghost use Rattle.svc_values.specs.meaning.Calls.{sequences_in};
 ghost use Rattle.canon_bytes.specs.UpBytes.{IsMadeUp};
 ghost use Rattle.server_model.specs.ServiceCalls.{may_store};
 ghost use Rattle.server_session.specs.Fits.{Fits, Belongs};

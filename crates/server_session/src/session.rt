@@ -1,6 +1,6 @@
 //! A session, and what it does with frames that touch no store.
 ghost use Rattle.std.specs.Prelude.{◌≡◌, [], OnOk};
-ghost use Rattle.svc_values.specs.Identifiers.{session_of};
+ghost use Rattle.svc_values.specs.meaning.Identifiers.{session_of};
 ghost use Rattle.svc_values.specs.declared.frame.Down.TheVariants as down;
 ghost use Rattle.table_txn.specs.Readings.{AreReadings};
 ghost use Rattle.table_txn.specs.Transactions.{empty};

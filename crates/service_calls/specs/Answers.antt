@@ -7,7 +7,7 @@ use Rattle.outage_schedule.specs.declared.note.OutsideNote.{OutsideNote}
 use Rattle.svc_values.specs.declared.frame.Down.{Down}
 use Rattle.server_model.specs.declared.fault.ServeFault.{ServeFault}
 use Rattle.server_model.specs.declared.fault.ServeFault.TheVariants as fault
-use Rattle.server_model.specs.Outcomes.{Telling, Stopped, telling_of}
+use Rattle.server_model.specs.meaning.Outcomes.{Telling, Stopped, telling_of}
 
 -- what is told of a frame, with its answer or at a stop
 abbrev pub IfTold : Result (Option Down) ServeFault → (Telling → Type 0) → Type 0

@@ -1,7 +1,7 @@
 -- What every call of a service keeps, and what the bytes of its store say.
 use Rattle.std.specs.Prelude.{◌≡◌, ℕ, List, Ok}
 use Rattle.commit_log.specs.declared.journal.Journal.{Journal}
-use Rattle.commit_log.specs.Journals.{journal_of}
+use Rattle.commit_log.specs.meaning.Journals.{journal_of}
 use Rattle.server_model.specs.Seen.{Store, ServiceState, Seen, IsHistory}
 
 -- the journal says what the store holds

@@ -8,7 +8,7 @@ ghost use Rattle.canon_bytes.specs.DownBytes.{IsMadeDown};
 ghost use Rattle.server_model.specs.Seen.{Seen, Lives};
 ghost use Rattle.server_model.specs.ServiceCalls.{Connected, Reaped, with_stop, ServedOne, MayCrash, Crashed, MayForget, Opened, StoppedOpening, RanOutside, StoppedOutside, AskedOne, StoppedAsk, Looked, StoppedLook};
 ghost use Rattle.service_calls.specs.Answers.{IfTold, Ends, NotMemory, runs_of};
-ghost use Rattle.commit_log.specs.Journals.{journal_of};
+ghost use Rattle.commit_log.specs.meaning.Journals.{journal_of};
 ghost use Rattle.service_calls.specs.Kept.{Goes, HaveOneBase};
 
 use commit_log::Journal;

@@ -5,7 +5,8 @@ use Rattle.disk_model.specs.Moment.{MayLeave}
 use Rattle.disk_model.specs.Disk.{DiskState}
 use Rattle.svc_values.specs.declared.entry.Ltxid.{Ltxid}
 use Rattle.ltxid_book.specs.declared.verdict.Verdict.{Verdict}
-use Rattle.server_model.specs.Outcomes.{Says, Stopped, down_of}
+use Rattle.server_model.specs.meaning.Outcomes.{Says, Stopped}
+use Rattle.server_model.specs.Outcomes.{down_of}
 use Rattle.server_model.specs.Runs.{Asked}
 use Rattle.server_model.specs.ServiceCalls.{AskedOne, IsAnswer, StoppedAsk}
 use Rattle.server_session.specs.declared.shared.Core.{Core}

@@ -8,20 +8,22 @@ use Rattle.std.proofs.lemmas.List.Folds.{list_all-append}
 use Rattle.std.proofs.lemmas.Slice.Eq.{bytes_eq-Decides}
 use Rattle.svc_values.specs.declared.value.Value.{Value}
 use Rattle.svc_values.specs.declared.schema.Schema.{Schema}
-use Rattle.svc_values.specs.Kinds.{row_fits}
-use Rattle.svc_values.specs.Names.{is_name_of, names_differ}
-use Rattle.svc_values.specs.Same.{same_value}
+use Rattle.svc_values.specs.meaning.Kinds.{row_fits}
+use Rattle.svc_values.specs.meaning.Names.{is_name_of, names_differ}
+use Rattle.svc_values.specs.meaning.Same.{same_value}
 use Rattle.svc_values.specs.SameLaws.{same_value_decides}
-use Rattle.svc_values.specs.Schemas.{is_declared, schema_of, key_of}
+use Rattle.svc_values.specs.meaning.Schemas.{is_declared, schema_of, key_of}
 use Rattle.svc_values.specs.declared.tables.PlainRow.{PlainRow}
 use Rattle.svc_values.specs.declared.tables.Place.{Place}
 use Rattle.svc_values.specs.declared.tables.Place.TheVariants as place
-use Rattle.svc_values.specs.Tables.{is_at, rows_at}
-use Rattle.svc_values.specs.Fitting.{is_row_of, tables_fit}
+use Rattle.svc_values.specs.meaning.Tables.{is_at, rows_at}
+use Rattle.svc_values.specs.meaning.Fitting.{is_row_of}
+use Rattle.svc_values.specs.Fitting.{tables_fit}
 use Rattle.table_store.specs.Stored.{AreApart}
 use Rattle.commit_log.specs.declared.base.Base.{Base}
 use Rattle.commit_log.specs.declared.base.BaseTable.{BaseTable}
-use Rattle.commit_log.specs.Bases.{IsBase, is_base, is_table, is_sequence, keys_differ, table_name, sequence_name, rows_of, schema_in, schemas_of}
+use Rattle.commit_log.specs.meaning.Bases.{is_base, is_table, is_sequence, keys_differ, table_name, sequence_name, rows_of, schema_in, schemas_of}
+use Rattle.commit_log.specs.Bases.{IsBase}
 use Rattle.service_core.specs.InnerOpening.{plain_row}
 
 pub first_true : (a b : Bool) → (a && b) ≡ true → a ≡ true

@@ -9,15 +9,17 @@ use Rattle.svc_values.specs.declared.entry.Entry.{Entry}
 use Rattle.svc_values.specs.declared.entry.Write.{Write}
 use Rattle.svc_values.specs.declared.tables.PlainRow.{PlainRow}
 use Rattle.svc_values.specs.declared.tables.Place.TheVariants as place
-use Rattle.svc_values.specs.Tables.{is_at, rows_at, comes_before, put_row, with_write, with_writes, in_order, AreTables}
-use Rattle.svc_values.specs.Fitting.{tables_fit, write_fits, writes_fit}
+use Rattle.svc_values.specs.meaning.Tables.{is_at, rows_at, comes_before, put_row, with_write, with_writes, in_order}
+use Rattle.svc_values.specs.Tables.{AreTables}
+use Rattle.svc_values.specs.meaning.Fitting.{write_fits, writes_fit}
+use Rattle.svc_values.specs.Fitting.{tables_fit}
 use Rattle.svc_values.proofs.Offered.{HasNone, AreTables-put_row, AreTables-with_writes}
 use Rattle.table_store.specs.Stored.{AreApart}
 use Rattle.table_store.proofs.Offered.{fits_one, fits_if_any, all_with_write}
 use Rattle.mutable_values.specs.declared.grants.Grants.{Grants}
 use Rattle.commit_log.specs.declared.base.BaseSequence.{BaseSequence}
 use Rattle.commit_log.specs.declared.journal.Journal.{Journal}
-use Rattle.commit_log.specs.Bases.{rows_of, schemas_of, sequence_name, start_of}
+use Rattle.commit_log.specs.meaning.Bases.{rows_of, schemas_of, sequence_name, start_of}
 use Rattle.commit_log.specs.Keeping.{KeepsJournal}
 use Rattle.server_model.specs.Base.{IsSound, name_of}
 use Rattle.server_model.specs.Core.{writes_in}

@@ -1,14 +1,15 @@
 -- What an outcome that is told leaves of the plain server and of the store beside it: a block more, or nothing.
 use Rattle.std.proofs.Common.{◌≡◌, ◌∙◌, ◌≤◌, ℕ, refl, sym, ap, List, [], ◌∷◌, ◌++◌, length, inl, inr, append_assoc, arith}
 use Rattle.std.specs.Prelude.{◌⊎◌, Ok}
-use Rattle.redo_store.specs.Records.{records_of, record_count}
+use Rattle.redo_store.specs.meaning.Records.{records_of}
+use Rattle.redo_store.specs.Records.{record_count}
 use Rattle.svc_values.specs.declared.entry.Ltxid.{Ltxid}
 use Rattle.ltxid_book.specs.declared.verdict.Verdict.{Verdict}
 use Rattle.ltxid_book.specs.declared.verdict.Verdict.TheVariants as verdict
 use Rattle.commit_log.specs.declared.journal.Journal.{Journal}
 use Rattle.commit_log.specs.declared.records.Record.{Record}
 use Rattle.commit_log.specs.Growth.{HasAdded}
-use Rattle.commit_log.specs.Journals.{journal_of}
+use Rattle.commit_log.specs.meaning.Journals.{journal_of}
 use Rattle.server_model.specs.Core.{Core as Plain, all_entries, all_blocked}
 use Rattle.server_model.specs.Outcomes.{if_blocks, with_block}
 use Rattle.server_model.specs.Seen.{Store}

@@ -5,10 +5,10 @@ use Rattle.std.specs.Prelude.{Some, None, All}
 use Rattle.disk_model.specs.Moment.{MayLeave}
 use Rattle.disk_model.specs.Disk.{DiskState, with_fault}
 use Rattle.svc_values.specs.declared.entry.SessionId.{SessionId}
-use Rattle.svc_values.specs.Identifiers.{session_of}
+use Rattle.svc_values.specs.meaning.Identifiers.{session_of}
 use Rattle.mutable_values.specs.declared.grants.Grants.{Grants}
-use Rattle.server_model.specs.Base.{Base}
-use Rattle.server_model.specs.Outcomes.{Stopped}
+use Rattle.server_model.specs.meaning.Base.{Base}
+use Rattle.server_model.specs.meaning.Outcomes.{Stopped}
 use Rattle.server_model.specs.Runs.{Happened, Served}
 use Rattle.server_model.specs.Seen.{Seen}
 use Rattle.server_model.specs.ServiceCalls.{Gains, IsOf, StoppedOutside, next_session as next_id}

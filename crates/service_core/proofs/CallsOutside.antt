@@ -5,7 +5,7 @@ use Rattle.disk_model.specs.Moment.{MayLeave}
 use Rattle.disk_model.specs.Disk.{DiskState}
 use Rattle.svc_values.specs.declared.call.Call.{Call}
 use Rattle.svc_values.specs.declared.entry.Ltxid.{Ltxid}
-use Rattle.svc_values.specs.Identifiers.{ltxid_of}
+use Rattle.svc_values.specs.meaning.Identifiers.{ltxid_of}
 use Rattle.outage_schedule.specs.declared.note.NoteRun.{NoteRun}
 use Rattle.server_model.specs.ServiceCalls.{RanOutside, StoppedOutside}
 use Rattle.server_session.specs.declared.shared.Core.{Core}

@@ -5,10 +5,10 @@ use Rattle.disk_model.specs.Disk.{DiskState}
 use Rattle.svc_values.specs.declared.call.Call.{Call}
 use Rattle.svc_values.specs.declared.entry.Ltxid.{Ltxid}
 use Rattle.svc_values.specs.declared.entry.SessionId.{SessionId}
-use Rattle.svc_values.specs.Identifiers.{ltxid_of, session_of}
+use Rattle.svc_values.specs.meaning.Identifiers.{ltxid_of, session_of}
 use Rattle.mutable_values.specs.declared.grants.Grants.{Grants}
 use Rattle.outage_schedule.specs.declared.note.NoteRun.{NoteRun}
-use Rattle.server_model.specs.Base.{Base}
+use Rattle.server_model.specs.meaning.Base.{Base}
 use Rattle.server_model.specs.Runs.{Happened}
 use Rattle.server_model.specs.Seen.{Seen}
 use Rattle.server_model.specs.ServiceCalls.{Gains, RanOutside, RunsAre, begins_outside, next_session as next_id}

@@ -10,11 +10,12 @@ use Rattle.svc_values.specs.declared.frame.Up.TheVariants as up
 use Rattle.svc_values.specs.declared.frame.Down.TheVariants as down
 use Rattle.ltxid_book.specs.declared.verdict.Verdict.{Verdict}
 use Rattle.ltxid_book.specs.declared.verdict.Verdict.TheVariants as verdict
-use Rattle.ltxid_book.specs.Outcomes.{verdict_of}
-use Rattle.ltxid_book.specs.Sessions.{Sessions}
+use Rattle.ltxid_book.specs.meaning.Outcomes.{verdict_of}
+use Rattle.ltxid_book.specs.meaning.Sessions.{Sessions}
 use Rattle.server_model.specs.Core.{Core, book, committed}
 use Rattle.server_model.specs.Sessions.{Life, New, Idle, Begun, Ended, Sess, with_work}
-use Rattle.server_model.specs.Outcomes.{Telling, Says, IsTold, BlockStops, down_of}
+use Rattle.server_model.specs.meaning.Outcomes.{Telling, Says}
+use Rattle.server_model.specs.Outcomes.{IsTold, BlockStops, down_of}
 use Rattle.server_model.specs.Serve.{Commits, InReplay, Blocks, Conflicts, Stores, StopsBefore, StopsAfter, Works, Answers, Reaches, HaltsInDraw, Calls, IsWork, IsSet, IsAlter, AlterStops, AlterMarked, IsDisable, IsRollback, Serve, Connects, Begins, Ends, Closes, Asks, Runs, Refuses, is_serving, with_opening}
 use Rattle.server_model.specs.Runs.{is_answered}
 use Rattle.server_model.specs.Seen.{Store, book_in}

@@ -6,9 +6,10 @@ use Rattle.disk_model.specs.Disk.{DiskState, IsSettled}
 use Rattle.mutable_values.specs.declared.grants.Grants.{Grants}
 use Rattle.commit_log.specs.declared.base.Base.{Base as Begun}
 use Rattle.commit_log.specs.declared.journal.Journal.{Journal}
-use Rattle.server_model.specs.Base.{Base}
+use Rattle.server_model.specs.meaning.Base.{Base}
 use Rattle.server_model.specs.Runs.{Happened, Server, Off, Runs, Then, Falls}
-use Rattle.server_model.specs.ServiceCalls.{Crashed, is_failover}
+use Rattle.server_model.specs.meaning.ServiceCalls.{is_failover}
+use Rattle.server_model.specs.ServiceCalls.{Crashed}
 use Rattle.server_session.specs.declared.shared.Core.{Core}
 use Rattle.service_calls.specs.Kept.{Goes, HaveOneBase}
 use Rattle.service_core.specs.declared.notes.Notes.{Notes}

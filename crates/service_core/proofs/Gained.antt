@@ -3,22 +3,24 @@ use Rattle.std.proofs.Common.{◌≡◌, ◌∙◌, ◌+◌, ◌≤◌, ℕ, ref
 use Rattle.std.proofs.lemmas.List.{length-map}
 use Rattle.std.proofs.lemmas.List.Elements.{All-weaker}
 use Rattle.std.specs.Prelude.{Result, Ok, Err}
-use Rattle.redo_store.specs.Records.{records_of, record_count}
+use Rattle.redo_store.specs.meaning.Records.{records_of}
+use Rattle.redo_store.specs.Records.{record_count}
 use Rattle.svc_values.specs.declared.entry.Entry.{Entry}
 use Rattle.svc_values.specs.declared.entry.Ltxid.{Ltxid}
 use Rattle.svc_values.specs.declared.frame.Up.{Up}
-use Rattle.ltxid_book.specs.Journal.{book_of, committed_of}
+use Rattle.ltxid_book.specs.meaning.Journal.{book_of, committed_of}
 use Rattle.commit_log.specs.declared.journal.Journal.{Journal}
 use Rattle.commit_log.specs.declared.records.Record.{Record}
 use Rattle.commit_log.specs.declared.records.Record.TheVariants as kept
 use Rattle.commit_log.specs.Growth.{HasAdded, with_records, with_payloads}
 use Rattle.commit_log.specs.RecordBytes.{spell_record}
-use Rattle.commit_log.specs.Rules.{SoFar, with_record}
-use Rattle.commit_log.specs.Journals.{journal_of, journal_in, so_far_of, with_gates}
-use Rattle.server_model.specs.Base.{Base}
+use Rattle.commit_log.specs.meaning.Rules.{SoFar, with_record}
+use Rattle.commit_log.specs.meaning.Journals.{journal_of, journal_in, so_far_of, with_gates}
+use Rattle.server_model.specs.meaning.Base.{Base}
 use Rattle.server_model.specs.Core.{Core as Plain, book}
 use Rattle.server_model.specs.Laws.{CommitsAs}
-use Rattle.server_model.specs.Outcomes.{Telling, Outcomes}
+use Rattle.server_model.specs.meaning.Outcomes.{Telling}
+use Rattle.server_model.specs.Outcomes.{Outcomes}
 use Rattle.server_model.specs.Runs.{Happened}
 use Rattle.server_model.specs.Seen.{Store, book_in}
 use Rattle.server_model.specs.Serve.{Serve}

@@ -9,8 +9,8 @@ use Rattle.std.specs.List.{list_all, flat_map}
 use Rattle.disk_model.specs.Disk.{DiskState, Lowered}
 use Rattle.svc_values.specs.declared.entry.Entry.{Entry}
 use Rattle.svc_values.specs.declared.tables.PlainRow.{PlainRow}
-use Rattle.svc_values.specs.Names.{names_differ}
-use Rattle.svc_values.specs.Tables.{with_writes}
+use Rattle.svc_values.specs.meaning.Names.{names_differ}
+use Rattle.svc_values.specs.meaning.Tables.{with_writes}
 use Rattle.svc_values.proofs.Offered.{with_writes-append}
 use Rattle.table_store.specs.Stored.{Stored}
 use Rattle.mutable_values.specs.declared.grants.Grants.{Grants}
@@ -19,13 +19,14 @@ use Rattle.mutable_values.specs.Sources.{Opening, are_sequences, is_within, name
 use Rattle.commit_log.specs.declared.base.BaseSequence.{BaseSequence}
 use Rattle.commit_log.specs.declared.journal.Journal.{Journal}
 use Rattle.commit_log.specs.declared.log.Log.{Log}
-use Rattle.commit_log.specs.Bases.{IsBase, is_sequence, sequence_name}
+use Rattle.commit_log.specs.meaning.Bases.{is_sequence, sequence_name}
+use Rattle.commit_log.specs.Bases.{IsBase}
 use Rattle.commit_log.specs.Growth.{HasAdded, opening_of, with_opening}
-use Rattle.commit_log.specs.Journals.{so_far_of, journal_of}
+use Rattle.commit_log.specs.meaning.Journals.{so_far_of, journal_of}
 use Rattle.commit_log.specs.Keeping.{KeepsJournal, EachKeeps}
 use Rattle.commit_log.specs.Logs.{CanLog}
-use Rattle.commit_log.specs.Rules.{end_of, sessions_of}
-use Rattle.ltxid_book.specs.Sessions.{is_forgotten}
+use Rattle.commit_log.specs.meaning.Rules.{end_of, sessions_of}
+use Rattle.ltxid_book.specs.meaning.Sessions.{is_forgotten}
 use Rattle.server_model.specs.Core.{tables_with, writes_in}
 use Rattle.server_session.specs.declared.shared.Core.{Core}
 use Rattle.server_session.specs.Fits.{Fits, sequence_in, sequence_of}

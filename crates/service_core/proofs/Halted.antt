@@ -3,15 +3,16 @@ use Rattle.std.proofs.Common.{◌≡◌, ◌≢◌, ◌∙◌, ◌+◌, ◌<◌,
 use Rattle.std.specs.Prelude.{Option, Some, None, Result, Ok, IfOk, IsErrOf, is_some}
 use Rattle.disk_model.specs.Moment.{MayLeave}
 use Rattle.disk_model.specs.Disk.{DiskState, Meanwhile, LoweredByLess, Caused, with_fault}
-use Rattle.redo_store.specs.Records.{records_of, record_count}
+use Rattle.redo_store.specs.meaning.Records.{records_of}
+use Rattle.redo_store.specs.Records.{record_count}
 use Rattle.commit_log.specs.declared.journal.Journal.{Journal}
 use Rattle.commit_log.specs.Growth.{IsGrown, opening_of}
-use Rattle.commit_log.specs.Journals.{so_far_of, journal_of}
+use Rattle.commit_log.specs.meaning.Journals.{so_far_of, journal_of}
 use Rattle.commit_log.specs.Laws.{RaisesHorizon}
 use Rattle.mutable_values.specs.declared.grants.Grants.{Grants}
 use Rattle.server_model.specs.declared.fault.ServeFault.{ServeFault}
 use Rattle.server_model.specs.declared.fault.ServeFault.TheVariants as fault
-use Rattle.server_model.specs.Base.{Base}
+use Rattle.server_model.specs.meaning.Base.{Base}
 use Rattle.server_model.specs.Runs.{Happened, Server, Off, On, Runs, Then, StopsOpening, MayOpen}
 use Rattle.server_model.specs.Seen.{Store, HasPower}
 use Rattle.server_model.specs.ServiceCalls.{StoppedOpening, OpenedSoFar, Neither, Forgets, Both, MayForget as MayForgetAt}

@@ -11,10 +11,11 @@ use Rattle.svc_values.specs.Identifiers.{IsLtxid}
 use Rattle.canon_bytes.specs.DownBytes.{IsMadeDown}
 use Rattle.ltxid_book.specs.declared.verdict.Verdict.{Verdict}
 use Rattle.ltxid_book.specs.declared.verdict.Verdict.TheVariants as verdict
-use Rattle.stmt_meaning.specs.Reads.{Read}
+use Rattle.stmt_meaning.specs.meaning.Reads.{Read}
 use Rattle.table_txn.specs.Readings.{AreReadings}
 use Rattle.server_model.specs.Core.{Core as Plain, committed}
-use Rattle.server_model.specs.Outcomes.{Telling, Silent, Says, Stopped, IsTold, BlockStops, down_of, telling_of}
+use Rattle.server_model.specs.meaning.Outcomes.{Telling, Silent, Says, Stopped, telling_of}
+use Rattle.server_model.specs.Outcomes.{IsTold, BlockStops, down_of}
 use Rattle.server_model.specs.Serve.{Commits, InReplay, Blocks, Conflicts, Stores, StopsBefore, StopsAfter, Works, Answers, Reaches, HaltsInDraw, Calls, IsWork, IsSet, IsAlter, AlterStops, AlterMarked, IsDisable, IsRollback, Serve, Connects, Begins, Ends, Closes, Asks, Runs, Refuses, with_opening}
 use Rattle.server_model.specs.Sessions.{Sess, with_work}
 use Rattle.server_session.specs.declared.shared.Core.{Core}

@@ -6,8 +6,9 @@ use Rattle.disk_model.specs.Disk.{DiskState}
 use Rattle.mutable_values.specs.declared.grants.Grants.{Grants}
 use Rattle.commit_log.specs.declared.base.BaseSequence.{BaseSequence}
 use Rattle.commit_log.specs.declared.journal.Journal.{Journal}
-use Rattle.commit_log.specs.Journals.{journal_of}
-use Rattle.server_model.specs.Core.{core_of, sequence_at}
+use Rattle.commit_log.specs.meaning.Journals.{journal_of}
+use Rattle.server_model.specs.meaning.Core.{sequence_at}
+use Rattle.server_model.specs.Core.{core_of}
 use Rattle.server_model.specs.Runs.{server_of, Start}
 use Rattle.server_model.specs.Seen.{Store, IsNew}
 use Rattle.server_session.specs.Fits.{sequence_in, sequence_of}

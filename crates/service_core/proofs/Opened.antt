@@ -4,19 +4,21 @@ use Rattle.std.proofs.lemmas.Bool.Decides.{nat_tests}
 use Rattle.std.proofs.lemmas.List.Elements.{All-tail, All-head}
 use Rattle.std.specs.Prelude.{Option, Some, None, Result, Ok, Err, IsErrOf, IfOk, is_some, All, max, length, nat_lt, if◌then◌else◌}
 use Rattle.disk_model.specs.Disk.{DiskState, Caused}
-use Rattle.redo_store.specs.Records.{records_of, record_count}
+use Rattle.redo_store.specs.meaning.Records.{records_of}
+use Rattle.redo_store.specs.Records.{record_count}
 use Rattle.svc_values.specs.declared.entry.Entry.{Entry}
-use Rattle.svc_values.specs.Identifiers.{is_of}
+use Rattle.svc_values.specs.meaning.Identifiers.{is_of}
 use Rattle.ltxid_book.specs.declared.State.{State}
-use Rattle.ltxid_book.specs.Journal.{Committed, committed_of, commits_of, state_of as state_by}
-use Rattle.ltxid_book.specs.Sessions.{sessions_in, untouched}
+use Rattle.ltxid_book.specs.meaning.Journal.{Committed, committed_of, commits_of, state_of as state_by}
+use Rattle.ltxid_book.specs.meaning.Sessions.{untouched}
+use Rattle.ltxid_book.specs.Sessions.{sessions_in}
 use Rattle.commit_log.specs.declared.journal.Journal.{Journal}
-use Rattle.commit_log.specs.Journals.{journal_of}
+use Rattle.commit_log.specs.meaning.Journals.{journal_of}
 use Rattle.commit_log.specs.Keeping.{EachKeeps}
-use Rattle.commit_log.specs.Rules.{sessions_of}
+use Rattle.commit_log.specs.meaning.Rules.{sessions_of}
 use Rattle.server_model.specs.declared.fault.ServeFault.{ServeFault}
 use Rattle.server_model.specs.declared.fault.ServeFault.TheVariants as fault
-use Rattle.server_model.specs.Base.{Base}
+use Rattle.server_model.specs.meaning.Base.{Base}
 use Rattle.server_model.specs.Core.{Core as Plain}
 use Rattle.server_model.specs.Runs.{Happened, Server, Off, On, Runs, Then, Opens, MayOpen}
 use Rattle.server_model.specs.Seen.{Store, HasPower}

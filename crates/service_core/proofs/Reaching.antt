@@ -7,8 +7,8 @@ use Rattle.disk_model.proofs.Offered.{crash_now}
 use Rattle.commit_log.specs.declared.journal.Journal.{Journal}
 use Rattle.commit_log.specs.declared.records.Record.{Record}
 use Rattle.commit_log.specs.declared.records.Record.TheVariants as kept
-use Rattle.commit_log.specs.Rules.{SoFar, Empty, Begun, rises, with_record}
-use Rattle.commit_log.specs.Journals.{so_far_of, journal_in, journal_of}
+use Rattle.commit_log.specs.meaning.Rules.{SoFar, Empty, Begun, rises, with_record}
+use Rattle.commit_log.specs.meaning.Journals.{so_far_of, journal_in, journal_of}
 use Rattle.commit_log.specs.Growth.{IsGrown, horizon_of, first_of_opening, opening_of, with_records}
 use Rattle.commit_log.specs.Laws.{RaisesHorizon}
 use Rattle.commit_log.proofs.Offered.{has_itself, grows_by_none}

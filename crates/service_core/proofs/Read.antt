@@ -5,7 +5,7 @@ use Rattle.disk_model.specs.Moment.{DiskMoment, MayLeave}
 use Rattle.disk_model.specs.Disk.{DiskState, IsSettled, OnlyReads, with_fault}
 use Rattle.mutable_values.specs.declared.grants.Grants.{Grants}
 use Rattle.commit_log.specs.declared.base.Base.{Base as Begun}
-use Rattle.server_model.specs.Base.{Base}
+use Rattle.server_model.specs.meaning.Base.{Base}
 use Rattle.server_model.specs.Runs.{Happened}
 use Rattle.server_model.specs.ServiceCalls.{Looked, StoppedLook}
 use Rattle.server_session.specs.declared.shared.Core.{Core}

@@ -7,9 +7,10 @@ use Rattle.mutable_values.specs.declared.source.SeqState.{SeqState}
 use Rattle.commit_log.specs.declared.base.BaseSequence.{BaseSequence}
 use Rattle.commit_log.specs.declared.journal.Journal.{Journal}
 use Rattle.commit_log.specs.Growth.{with_opening}
-use Rattle.commit_log.specs.Journals.{journal_of}
-use Rattle.server_model.specs.Base.{Sequence}
-use Rattle.server_model.specs.Core.{Core as Plain, reopened, sequence_at}
+use Rattle.commit_log.specs.meaning.Journals.{journal_of}
+use Rattle.server_model.specs.meaning.Base.{Sequence}
+use Rattle.server_model.specs.meaning.Core.{sequence_at}
+use Rattle.server_model.specs.Core.{Core as Plain, reopened}
 use Rattle.server_model.specs.Runs.{reopened_core, forgetting}
 use Rattle.server_session.specs.declared.shared.Core.{Core}
 use Rattle.server_session.specs.Fits.{sequence_in, sequence_of}

@@ -7,9 +7,9 @@ use Rattle.svc_values.specs.declared.draw.Draw.{Draw}
 use Rattle.svc_values.specs.declared.entry.Ltxid.{Ltxid}
 use Rattle.svc_values.specs.declared.frame.Down.TheVariants as down
 use Rattle.svc_values.specs.declared.frame.Up.TheVariants as up
-use Rattle.svc_values.specs.SettingsList.{NamedValues}
+use Rattle.svc_values.specs.meaning.SettingsList.{NamedValues}
 use Rattle.server_model.specs.Core.{Core, committed}
-use Rattle.server_model.specs.Outcomes.{Telling, Silent, Says, Stopped}
+use Rattle.server_model.specs.meaning.Outcomes.{Telling, Silent, Says, Stopped}
 use Rattle.server_model.specs.Serve.{Commits, InReplay, Blocks, Conflicts, Stores, StopsBefore, StopsAfter, Works, Answers, Reaches, HaltsInDraw, Calls, IsWork, IsSet, IsAlter, AlterStops, AlterMarked, IsDisable, IsRollback, Serve, Connects, Begins, Runs, Refuses, is_out_of_order, with_opening}
 use Rattle.server_model.specs.Sessions.{Life, New, Idle, Begun, Sess, with_work}
 

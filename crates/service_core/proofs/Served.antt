@@ -5,16 +5,16 @@ use Rattle.std.specs.Prelude.{nat_eq, ◌≢◌, not, IsTrue, Option, Some, None
 use Rattle.disk_model.specs.Disk.{DiskState, Lowered}
 use Rattle.svc_values.specs.declared.entry.SessionId.{SessionId}
 use Rattle.svc_values.specs.declared.frame.Up.{Up}
-use Rattle.svc_values.specs.Calls.{sequences_in}
-use Rattle.svc_values.specs.Identifiers.{ltxid_of, session_of}
+use Rattle.svc_values.specs.meaning.Calls.{sequences_in}
+use Rattle.svc_values.specs.meaning.Identifiers.{ltxid_of, session_of}
 use Rattle.mutable_values.specs.declared.grants.Grants.{Grants}
 use Rattle.commit_log.specs.declared.journal.Journal.{Journal}
 use Rattle.commit_log.specs.declared.records.Record.{Record}
-use Rattle.stmt_meaning.specs.Reads.{Read}
+use Rattle.stmt_meaning.specs.meaning.Reads.{Read}
 use Rattle.table_txn.specs.Readings.{AreReadings}
-use Rattle.server_model.specs.Base.{Base}
+use Rattle.server_model.specs.meaning.Base.{Base}
 use Rattle.server_model.specs.Core.{Core as Plain}
-use Rattle.server_model.specs.Outcomes.{Telling, Silent, Says, Stopped}
+use Rattle.server_model.specs.meaning.Outcomes.{Telling, Silent, Says, Stopped}
 use Rattle.server_model.specs.Runs.{Happened, Served, Server, On, Then, Answers, Turns, is_answered}
 use Rattle.server_model.specs.Seen.{Store, Seen, Connections, Keeps, SameLiving, with_connection, without_connection}
 use Rattle.server_model.specs.ServiceCalls.{ServedOne, HoldsBehind, StopCause, ends_session, living_after, is_up_after, may_store}

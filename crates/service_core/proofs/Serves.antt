@@ -5,10 +5,10 @@ use Rattle.disk_model.specs.Moment.{MayLeave}
 use Rattle.disk_model.specs.Disk.{DiskState}
 use Rattle.svc_values.specs.declared.frame.Down.{Down}
 use Rattle.svc_values.specs.declared.frame.Up.{Up}
-use Rattle.svc_values.specs.Calls.{sequences_in}
-use Rattle.svc_values.specs.Identifiers.{session_of}
+use Rattle.svc_values.specs.meaning.Calls.{sequences_in}
+use Rattle.svc_values.specs.meaning.Identifiers.{session_of}
 use Rattle.canon_bytes.specs.DownBytes.{IsMadeDown}
-use Rattle.server_model.specs.Outcomes.{Telling, Stopped, telling_of}
+use Rattle.server_model.specs.meaning.Outcomes.{Telling, Stopped, telling_of}
 use Rattle.server_model.specs.Runs.{Served, is_answered}
 use Rattle.server_model.specs.ServiceCalls.{ServedOne, may_store}
 use Rattle.server_session.specs.declared.shared.Core.{Core}

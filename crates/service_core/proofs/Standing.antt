@@ -4,7 +4,7 @@ use Rattle.std.proofs.lemmas.Bool.Decides.{nat_tests}
 use Rattle.std.specs.Prelude.{nat_eq, ◌==◌, Option, Some, None, option_map, is_some, if◌then◌else◌}
 use Rattle.disk_model.specs.Disk.{DiskState}
 use Rattle.mutable_values.specs.declared.grants.Grants.{Grants}
-use Rattle.server_model.specs.Base.{Base}
+use Rattle.server_model.specs.meaning.Base.{Base}
 use Rattle.server_model.specs.Runs.{Happened}
 use Rattle.server_model.specs.Seen.{ServiceState, Seen, Keeps, KeepsStore}
 use Rattle.server_model.specs.ServiceCalls.{Connected, Reaped, with_stop}

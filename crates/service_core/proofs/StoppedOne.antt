@@ -5,11 +5,11 @@ use Rattle.disk_model.specs.Moment.{MayLeave}
 use Rattle.disk_model.specs.Disk.{DiskState, LoweredByLess}
 use Rattle.svc_values.specs.declared.frame.Up.{Up}
 use Rattle.svc_values.specs.declared.frame.Up.TheVariants as up
-use Rattle.svc_values.specs.Calls.{sequences_in}
-use Rattle.svc_values.specs.Identifiers.{session_of}
+use Rattle.svc_values.specs.meaning.Calls.{sequences_in}
+use Rattle.svc_values.specs.meaning.Identifiers.{session_of}
 use Rattle.mutable_values.specs.declared.grants.Grants.{Grants}
-use Rattle.server_model.specs.Base.{Base}
-use Rattle.server_model.specs.Outcomes.{Stopped}
+use Rattle.server_model.specs.meaning.Base.{Base}
+use Rattle.server_model.specs.meaning.Outcomes.{Stopped}
 use Rattle.server_model.specs.Runs.{Happened, Served}
 use Rattle.server_model.specs.Seen.{Store, Seen, Keeps}
 use Rattle.server_model.specs.ServiceCalls.{Adds, ServedOne, StopCause, TellsByTable, may_store}

@@ -4,20 +4,20 @@ use Rattle.std.specs.Prelude.{◌≢◌, Result, IfOk}
 use Rattle.disk_model.specs.Moment.{MayLeave}
 use Rattle.disk_model.specs.Disk.{DiskState}
 use Rattle.svc_values.specs.declared.frame.Up.{Up}
-use Rattle.svc_values.specs.Calls.{sequences_in}
-use Rattle.svc_values.specs.Identifiers.{session_of}
+use Rattle.svc_values.specs.meaning.Calls.{sequences_in}
+use Rattle.svc_values.specs.meaning.Identifiers.{session_of}
 use Rattle.mutable_values.specs.declared.grants.Grants.{Grants}
 use Rattle.mutable_values.specs.Sources.{Opening}
 use Rattle.commit_log.specs.declared.journal.Journal.{Journal}
 use Rattle.commit_log.specs.declared.records.Record.{Record}
 use Rattle.commit_log.specs.Growth.{HasAdded}
-use Rattle.commit_log.specs.Journals.{journal_of}
-use Rattle.stmt_meaning.specs.Reads.{Read}
+use Rattle.commit_log.specs.meaning.Journals.{journal_of}
+use Rattle.stmt_meaning.specs.meaning.Reads.{Read}
 use Rattle.table_txn.specs.Readings.{AreReadings}
-use Rattle.server_model.specs.Base.{Base}
+use Rattle.server_model.specs.meaning.Base.{Base}
 use Rattle.server_model.specs.Core.{Core as Plain}
 use Rattle.server_model.specs.Laws.{StaysIn}
-use Rattle.server_model.specs.Outcomes.{Stopped}
+use Rattle.server_model.specs.meaning.Outcomes.{Stopped}
 use Rattle.server_model.specs.Runs.{Happened, Served, Server, On, Halted, Then, Halts, is_running}
 use Rattle.server_model.specs.Serve.{Serve}
 use Rattle.server_model.specs.ServiceCalls.{Adds}

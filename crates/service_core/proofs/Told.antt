@@ -5,18 +5,19 @@ use Rattle.disk_model.specs.Moment.{MayLeave}
 use Rattle.disk_model.specs.Disk.{DiskState}
 use Rattle.svc_values.specs.declared.entry.Ltxid.{Ltxid}
 use Rattle.svc_values.specs.declared.frame.Down.{Down}
-use Rattle.svc_values.specs.Identifiers.{ltxid_of}
+use Rattle.svc_values.specs.meaning.Identifiers.{ltxid_of}
 use Rattle.ltxid_book.specs.declared.verdict.Verdict.{Verdict}
-use Rattle.ltxid_book.specs.Outcomes.{verdict_of}
-use Rattle.ltxid_book.specs.Sessions.{Sessions}
+use Rattle.ltxid_book.specs.meaning.Outcomes.{verdict_of}
+use Rattle.ltxid_book.specs.meaning.Sessions.{Sessions}
 use Rattle.mutable_values.specs.declared.grants.Grants.{Grants}
 use Rattle.mutable_values.specs.Sources.{Opening}
 use Rattle.commit_log.specs.declared.journal.Journal.{Journal}
 use Rattle.commit_log.specs.declared.records.Record.TheVariants as kept
-use Rattle.commit_log.specs.Journals.{journal_of}
-use Rattle.server_model.specs.Base.{Base}
+use Rattle.commit_log.specs.meaning.Journals.{journal_of}
+use Rattle.server_model.specs.meaning.Base.{Base}
 use Rattle.server_model.specs.Core.{Core as Plain}
-use Rattle.server_model.specs.Outcomes.{Says, Stopped, IsTold, Outcomes, BlockStops, down_of, if_blocks}
+use Rattle.server_model.specs.meaning.Outcomes.{Says, Stopped}
+use Rattle.server_model.specs.Outcomes.{IsTold, Outcomes, BlockStops, down_of, if_blocks}
 use Rattle.server_model.specs.Runs.{Happened, Asked, On, Halted, Then, AnswersAsk, HaltsInAsk, is_running}
 use Rattle.server_model.specs.Seen.{Seen}
 use Rattle.server_model.specs.ServiceCalls.{AddsBlock, AskedOne, IsAnswer, StoppedAsk}

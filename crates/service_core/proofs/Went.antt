@@ -5,9 +5,9 @@ use Rattle.disk_model.specs.Disk.{DiskState}
 use Rattle.svc_values.specs.declared.entry.SessionId.{SessionId}
 use Rattle.mutable_values.specs.declared.grants.Grants.{Grants}
 use Rattle.commit_log.specs.declared.journal.Journal.{Journal}
-use Rattle.commit_log.specs.Journals.{journal_of}
+use Rattle.commit_log.specs.meaning.Journals.{journal_of}
 use Rattle.server_model.specs.ServiceCalls.{next_session as next_id}
-use Rattle.server_model.specs.Base.{Base}
+use Rattle.server_model.specs.meaning.Base.{Base}
 use Rattle.server_model.specs.Runs.{Happened}
 use Rattle.server_session.specs.declared.shared.Core.{Core}
 use Rattle.server_session.specs.SeenSession.{SeenSession as Session}

@@ -2,7 +2,7 @@
 use Rattle.std.specs.Prelude.{◌≡◌, ℕ, List, Option, nat_eq, option_map, if◌then◌else◌}
 use Rattle.std.specs.Map.{lookup}
 use Rattle.svc_values.specs.declared.entry.SessionId.{SessionId}
-use Rattle.svc_values.specs.Identifiers.{session_of}
+use Rattle.svc_values.specs.meaning.Identifiers.{session_of}
 use Rattle.server_model.specs.Seen.{Connections as Living}
 use Rattle.server_session.specs.SeenSession.{SeenSession as Session}
 

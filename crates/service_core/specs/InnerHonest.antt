@@ -3,11 +3,12 @@
 use Rattle.std.proofs.Common.{◌≡◌, ◌∙◌, ℕ, Bool, true, false, refl, sym, ap, subst, List, ◌++◌}
 use Rattle.std.specs.Prelude.{Option, Some, None, Result, Ok, IfOk}
 use Rattle.disk_model.specs.Disk.{DiskState}
-use Rattle.redo_store.specs.Records.{records_of, record_count}
+use Rattle.redo_store.specs.meaning.Records.{records_of}
+use Rattle.redo_store.specs.Records.{record_count}
 use Rattle.mutable_values.specs.declared.grants.Grants.{Grants}
 use Rattle.commit_log.specs.declared.journal.Journal.{Journal}
-use Rattle.commit_log.specs.Journals.{journal_of}
-use Rattle.server_model.specs.Base.{Base}
+use Rattle.commit_log.specs.meaning.Journals.{journal_of}
+use Rattle.server_model.specs.meaning.Base.{Base}
 use Rattle.server_model.specs.Runs.{Happened, Server}
 use Rattle.server_model.specs.Seen.{Store, ServiceState, Seen, IsHistory}
 use Rattle.server_session.specs.declared.shared.Core.{Core}

@@ -5,18 +5,19 @@ use Rattle.svc_values.specs.declared.value.Value.{Value}
 use Rattle.svc_values.specs.declared.schema.Schema.{Schema}
 use Rattle.svc_values.specs.declared.entry.Entry.{Entry}
 use Rattle.svc_values.specs.declared.tables.PlainRow.{PlainRow}
-use Rattle.svc_values.specs.Fitting.{writes_fit}
-use Rattle.svc_values.specs.Schemas.{key_of}
+use Rattle.svc_values.specs.meaning.Fitting.{writes_fit}
+use Rattle.svc_values.specs.meaning.Schemas.{key_of}
 use Rattle.ltxid_book.specs.Sessions.{sessions_in}
 use Rattle.mutable_values.specs.declared.grants.Grants.{Grants}
 use Rattle.mutable_values.specs.declared.source.SeqState.{SeqState}
 use Rattle.commit_log.specs.declared.base.BaseSequence.{BaseSequence}
 use Rattle.commit_log.specs.declared.journal.Journal.{Journal}
 use Rattle.commit_log.specs.declared.log.Log.{Log}
-use Rattle.commit_log.specs.Bases.{IsBase, schemas_of}
-use Rattle.commit_log.specs.Rules.{end_of, sessions_of}
+use Rattle.commit_log.specs.meaning.Bases.{schemas_of}
+use Rattle.commit_log.specs.Bases.{IsBase}
+use Rattle.commit_log.specs.meaning.Rules.{end_of, sessions_of}
 use Rattle.server_session.specs.declared.shared.Core.{Core}
-use Rattle.server_model.specs.Core.{sequence_at}
+use Rattle.server_model.specs.meaning.Core.{sequence_at}
 use Rattle.server_session.specs.Fits.{tables_of, sequence_of}
 use Rattle.service_core.specs.Opening.{source_of}
 

@@ -5,8 +5,8 @@ use Rattle.mutable_values.specs.declared.grants.Grants.{Grants}
 use Rattle.mutable_values.specs.Sources.{Opening}
 use Rattle.commit_log.specs.declared.journal.Journal.{Journal}
 use Rattle.commit_log.specs.Growth.{HasAdded, first_of_opening, opening_of, with_opening}
-use Rattle.commit_log.specs.Journals.{so_far_of, journal_of}
-use Rattle.server_model.specs.Core.{sequence_at}
+use Rattle.commit_log.specs.meaning.Journals.{so_far_of, journal_of}
+use Rattle.server_model.specs.meaning.Core.{sequence_at}
 use Rattle.server_session.specs.declared.shared.Core.{Core}
 use Rattle.server_session.specs.Fits.{Fits, sequence_of}
 

@@ -7,13 +7,14 @@
 use Rattle.std.specs.Prelude.{◌≡◌, ◌+◌, ℕ, Bool, false, List, [], ◌∷◌, ◌++◌, Option, Some, None, is_some, Result, Ok, Err, IfOk}
 use Rattle.disk_model.specs.Moment.{MayLeave}
 use Rattle.disk_model.specs.Disk.{DiskState}
-use Rattle.redo_store.specs.Records.{records_of, record_count}
+use Rattle.redo_store.specs.meaning.Records.{records_of}
+use Rattle.redo_store.specs.Records.{record_count}
 use Rattle.mutable_values.specs.declared.grants.Grants.{Grants}
 use Rattle.commit_log.specs.declared.journal.Journal.{Journal}
-use Rattle.commit_log.specs.Journals.{journal_of}
-use Rattle.stmt_meaning.specs.Reads.{Read}
+use Rattle.commit_log.specs.meaning.Journals.{journal_of}
+use Rattle.stmt_meaning.specs.meaning.Reads.{Read}
 use Rattle.table_txn.specs.Readings.{AreReadings}
-use Rattle.server_model.specs.Base.{Base}
+use Rattle.server_model.specs.meaning.Base.{Base}
 use Rattle.server_model.specs.Runs.{Happened, Server, On, Runs}
 use Rattle.server_model.specs.Seen.{Store, ServiceState, Seen, HasPower}
 use Rattle.server_model.specs.Sessions.{Sess}

@@ -6,12 +6,12 @@ use Rattle.disk_model.specs.Disk.{DiskState, IsSettled}
 use Rattle.mutable_values.specs.declared.grants.Grants.{Grants}
 use Rattle.commit_log.specs.declared.base.Base.{Base}
 use Rattle.commit_log.specs.declared.journal.Journal.{Journal}
-use Rattle.commit_log.specs.Journals.{journal_of}
-use Rattle.stmt_meaning.specs.Reads.{Read}
+use Rattle.commit_log.specs.meaning.Journals.{journal_of}
+use Rattle.stmt_meaning.specs.meaning.Reads.{Read}
 use Rattle.table_txn.specs.Readings.{AreReadings}
 use Rattle.server_session.specs.declared.shared.Core.{Core}
 use Rattle.server_session.specs.Fits.{Fits, Belongs}
-use Rattle.svc_values.specs.Identifiers.{ltxid_of}
+use Rattle.svc_values.specs.meaning.Identifiers.{ltxid_of}
 use Rattle.server_session.specs.SeenSession.{SeenSession as Session, begins, is_alive}
 use Rattle.service_core.specs.declared.notes.Notes.{Notes}
 use Rattle.service_core.specs.Held.{Held, held_at}

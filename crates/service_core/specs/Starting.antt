@@ -3,9 +3,9 @@ use Rattle.std.specs.Prelude.{◌≡◌, ◌≤◌, ◌^◌, true, false, [], No
 use Rattle.disk_model.specs.Disk.{DiskState, IsSettled}
 use Rattle.mutable_values.specs.declared.grants.Grants.{Grants}
 use Rattle.commit_log.specs.declared.journal.Journal.{Journal}
-use Rattle.commit_log.specs.Bases.{shape_of}
-use Rattle.commit_log.specs.Journals.{journal_of}
-use Rattle.server_model.specs.Base.{Base}
+use Rattle.commit_log.specs.meaning.Bases.{shape_of}
+use Rattle.commit_log.specs.meaning.Journals.{journal_of}
+use Rattle.server_model.specs.meaning.Base.{Base}
 use Rattle.server_model.specs.Seen.{Seen}
 use Rattle.server_session.specs.Fits.{tables_of, sequence_of}
 use Rattle.service_core.specs.declared.notes.Notes.{Notes}

@@ -8,14 +8,14 @@ use Rattle.svc_values.specs.declared.frame.Down.{Down}
 use Rattle.svc_values.specs.declared.frame.Down.TheVariants as down
 use Rattle.svc_values.specs.declared.frame.Up.{Up}
 use Rattle.svc_values.specs.declared.frame.Up.TheVariants as up
-use Rattle.svc_values.specs.Calls.{sequences_in}
-use Rattle.svc_values.specs.Identifiers.{session_of}
+use Rattle.svc_values.specs.meaning.Calls.{sequences_in}
+use Rattle.svc_values.specs.meaning.Identifiers.{session_of}
 use Rattle.outage_schedule.specs.declared.note.NoteRun.{NoteRun}
-use Rattle.stmt_meaning.specs.Reads.{Read}
+use Rattle.stmt_meaning.specs.meaning.Reads.{Read}
 use Rattle.table_txn.specs.Readings.{AreReadings}
 use Rattle.server_model.specs.declared.fault.ServeFault.{ServeFault}
 use Rattle.server_model.specs.declared.fault.ServeFault.TheVariants as fault
-use Rattle.server_model.specs.Outcomes.{Telling, Silent, Says}
+use Rattle.server_model.specs.meaning.Outcomes.{Telling, Silent, Says}
 use Rattle.server_model.specs.Runs.{Happened, Served, is_answered}
 use Rattle.server_model.specs.ServiceCalls.{RunsAre}
 use Rattle.server_model.specs.Sessions.{Begun}

@@ -1,7 +1,7 @@
 //! What the store of a service holds.
 ghost use Rattle.std.specs.Prelude.{◌≡◌, ◌≢◌, ◌<◌, ◌^◌, true, false, None, IfOk, IsErrOf, Ok};
 ghost use Rattle.disk_model.specs.Disk.{OnlyReads};
-ghost use Rattle.commit_log.specs.Journals.{journal_of};
+ghost use Rattle.commit_log.specs.meaning.Journals.{journal_of};
 ghost use Rattle.server_model.specs.ServiceCalls.{Looked, StoppedLook};
 ghost use Rattle.service_calls.specs.Answers.{Ends, NotMemory};
 ghost use Rattle.service_calls.specs.Kept.{Goes};

@@ -1,7 +1,7 @@
 //! A service as it is made.
 ghost use Rattle.std.specs.Prelude.{◌≡◌, Ok};
 ghost use Rattle.commit_log.specs.declared.journal.Journal.{Journal};
-ghost use Rattle.commit_log.specs.Journals.{journal_of};
+ghost use Rattle.commit_log.specs.meaning.Journals.{journal_of};
 ghost use Rattle.server_model.specs.Base.{IsSound};
 ghost use Rattle.server_model.specs.Seen.{IsNew};
 ghost use Rattle.service_core.specs.Seeing.{SeesIn};

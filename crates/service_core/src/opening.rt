@@ -2,10 +2,11 @@
 ghost use Rattle.std.specs.Prelude.{◌≡◌, ◌≤◌, All, IfOk, OnOk, IsErrOf, IsTrue, length, map};
 ghost use Rattle.std.specs.List.{flat_map, list_all};
 ghost use Rattle.disk_model.specs.Disk.{Meanwhile, IsSettled, LoweredByLess, Caused};
-ghost use Rattle.svc_values.specs.Fitting.{writes_fit};
+ghost use Rattle.svc_values.specs.meaning.Fitting.{writes_fit};
 ghost use Rattle.table_store.specs.Given.{plain};
-ghost use Rattle.commit_log.specs.Bases.{IsBase, is_sequence, rows_of, schema_in, schemas_of, start_of as start_def};
-ghost use Rattle.commit_log.specs.Journals.{so_far_of};
+ghost use Rattle.commit_log.specs.meaning.Bases.{is_sequence, rows_of, schema_in, schemas_of, start_of as start_def};
+ghost use Rattle.commit_log.specs.Bases.{IsBase};
+ghost use Rattle.commit_log.specs.meaning.Journals.{so_far_of};
 ghost use Rattle.commit_log.specs.Growth.{IsGrown, opening_of};
 ghost use Rattle.server_model.specs.Core.{tables_with};
 ghost use Rattle.service_core.specs.Opening.{CanOpen, HasOpened, source_of as source_def, stop_of};

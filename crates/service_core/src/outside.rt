@@ -2,7 +2,7 @@
 ghost use Rattle.std.specs.Prelude.{◌≡◌, ◌<◌, ◌^◌, false, true};
 ghost use Rattle.std.specs.List.{AllByRecursion};
 ghost use Rattle.svc_values.specs.Calls.{IsMade};
-ghost use Rattle.svc_values.specs.Identifiers.{session_of};
+ghost use Rattle.svc_values.specs.meaning.Identifiers.{session_of};
 ghost use Rattle.server_model.specs.Sessions.{Begun, New};
 ghost use Rattle.server_model.specs.ServiceCalls.{RanOutside, StoppedOutside};
 ghost use Rattle.service_calls.specs.Answers.{Ends, NotMemory, runs_of};

@@ -1,6 +1,6 @@
 //! A frame, served by its connection's session.
 ghost use Rattle.std.specs.Prelude.{◌≡◌, ◌≢◌, ◌+◌, ◌<◌, ◌^◌, None, Some, IfOk, IfSome, IsErrOf, false};
-ghost use Rattle.svc_values.specs.Identifiers.{ltxid_of};
+ghost use Rattle.svc_values.specs.meaning.Identifiers.{ltxid_of};
 ghost use Rattle.canon_bytes.specs.UpBytes.{IsMadeUp};
 ghost use Rattle.canon_bytes.specs.DownBytes.{IsMadeDown};
 ghost use Rattle.server_model.specs.Seen.{Lives};

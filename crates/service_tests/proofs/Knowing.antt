@@ -10,7 +10,7 @@ use Rattle.svc_values.specs.declared.entry.SessionId.{SessionId}
 use Rattle.svc_values.specs.declared.frame.Down.{Down}
 use Rattle.svc_values.specs.declared.frame.Up.{Up}
 use Rattle.ltxid_book.specs.declared.verdict.Verdict.{Verdict}
-use Rattle.server_model.specs.Outcomes.{Says, Silent, Stopped, telling_of}
+use Rattle.server_model.specs.meaning.Outcomes.{Says, Silent, Stopped, telling_of}
 use Rattle.server_model.specs.Seen.{Connections, Store, ServiceState, Seen, IsNew, Keeps, none_living, with_connection, without_connection}
 use Rattle.server_model.specs.ServiceCalls.{Connected, Reaped, ServedOne, Crashed, Opened, StoppedOpening, RanOutside, StoppedOutside, AskedOne, StoppedAsk, Looked, HasSoFar, Neither, Forgets, Both, ends_session, living_after, if_connected, with_stop}
 use Rattle.service_calls.specs.Kept.{Goes}

@@ -3,8 +3,8 @@ ghost use Rattle.std.specs.Prelude.{◌≡◌, IfOk, Ok, not};
 ghost use Rattle.std.specs.List.{AllByRecursion};
 ghost use Rattle.svc_values.specs.Calls.{IsMade};
 ghost use Rattle.canon_bytes.specs.UpBytes.{IsMadeUp};
-ghost use Rattle.commit_log.specs.Journals.{journal_of};
-ghost use Rattle.server_model.specs.Outcomes.{telling_of};
+ghost use Rattle.commit_log.specs.meaning.Journals.{journal_of};
+ghost use Rattle.server_model.specs.meaning.Outcomes.{telling_of};
 ghost use Rattle.server_model.specs.ServiceCalls.{ends_session};
 
 use crate::frames::{Says, frame, ltxid};

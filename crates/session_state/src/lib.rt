@@ -3,7 +3,7 @@
 
 ghost use Rattle.std.specs.Prelude.{◌≡◌, [], OnOk, OnErr};
 ghost use Rattle.std.specs.Option.{option_copied};
-ghost use Rattle.svc_values.specs.SettingsList.{put_setting, setting_of};
+ghost use Rattle.svc_values.specs.meaning.SettingsList.{put_setting, setting_of};
 
 use std::alloc::Global;
 use svc_values::{Name, NoMemory, Settings, Value};

@@ -11,10 +11,10 @@ use Rattle.outage_schedule.specs.declared.note.GoNote.{GoNote}
 use Rattle.outage_schedule.specs.declared.note.GoNote.TheVariants as go
 use Rattle.outage_schedule.specs.declared.note.Note.{Note}
 use Rattle.outage_schedule.specs.declared.note.Note.TheVariants as note
-use Rattle.shown_clauses.specs.Fronts.{with_changed, first_item}
-use Rattle.shown_clauses.specs.Happenings.{Happening, happenings_from}
-use Rattle.shown_clauses.specs.Links.{Acquired, Link, Seen, nothing_seen, has_session, is_hello, is_link, link_of, linked, end_link, end_session, in_turn, turn_begun, call_served, acquire, acquire_if, take_reply, after_item, after_go, after_happening}
-use Rattle.shown_clauses.specs.Steps.{Step, greeted, step_at, steps_at, steps_from}
+use Rattle.shown_clauses.specs.meaning.Fronts.{with_changed, first_item}
+use Rattle.shown_clauses.specs.meaning.Happenings.{Happening, happenings_from}
+use Rattle.shown_clauses.specs.meaning.Links.{Acquired, Link, Seen, nothing_seen, has_session, is_hello, is_link, link_of, linked, end_link, end_session, in_turn, turn_begun, call_served, acquire, acquire_if, take_reply, after_item, after_go, after_happening}
+use Rattle.shown_clauses.specs.meaning.Steps.{Step, greeted, step_at, steps_at, steps_from}
 use Rattle.shown_laws.specs.AcquiredTold.{acquired_by, acquired_after, told_acquired, StepsAcquire}
 use Rattle.shown_laws.specs.Telling.{seen_after}
 use Rattle.shown_laws.proofs.ConnectionsTold.{takes_kept}

@@ -7,24 +7,24 @@ use Rattle.outage_schedule.specs.declared.document.Client.{Client as Scripted}
 use Rattle.outage_schedule.specs.declared.document.Document.{Document}
 use Rattle.outage_schedule.specs.declared.report.Report.{Report}
 use Rattle.outage_schedule.specs.declared.request.RequestReport.{RequestReport}
-use Rattle.run_clauses.specs.Copies.{copies_by_client}
+use Rattle.run_clauses.specs.meaning.Copies.{copies_by_client}
 use Rattle.server_model.specs.Runs.{Server}
 use Rattle.server_model.specs.Seen.{Seen}
-use Rattle.shown_clauses.specs.Fronts.{first_of}
-use Rattle.shown_clauses.specs.KeptDraws.{parts_from, is_step_of, shown_before, acquired_by}
-use Rattle.shown_clauses.specs.Links.{Acquired}
-use Rattle.shown_clauses.specs.Parts.{Part, parts_of}
-use Rattle.shown_clauses.specs.Steps.{Step as StepTold, steps, steps_of}
-use Rattle.shown_clauses.specs.Submissions.{Submission, submissions_of, submissions_by_client}
-use Rattle.world_model.specs.Clients.{Step, Client, client_at}
+use Rattle.shown_clauses.specs.meaning.Fronts.{first_of}
+use Rattle.shown_clauses.specs.meaning.KeptDraws.{parts_from, is_step_of, shown_before, acquired_by}
+use Rattle.shown_clauses.specs.meaning.Links.{Acquired}
+use Rattle.shown_clauses.specs.meaning.Parts.{Part, parts_of}
+use Rattle.shown_clauses.specs.meaning.Steps.{Step as StepTold, steps, steps_of}
+use Rattle.shown_clauses.specs.meaning.Submissions.{Submission, submissions_of, submissions_by_client}
+use Rattle.world_model.specs.meaning.Clients.{Step, Client, client_at}
 use Rattle.world_model.specs.records.Conversing.{AreThrough, IsThrough}
-use Rattle.world_model.specs.Frames.{Owner}
+use Rattle.world_model.specs.meaning.Frames.{Owner}
 use Rattle.invariant_laws.specs.KeptLaws.{FinishesKeepInvariant}
 use Rattle.world_model.specs.records.Ready.{all_requests_right}
 use Rattle.invariant_laws.specs.Replayed.{shown_at, before_opening}
 use Rattle.world_model.specs.Reported.{IsReported}
 use Rattle.world_model.specs.Traced.{Traced}
-use Rattle.client_model.specs.Terms.{Terms}
+use Rattle.client_model.specs.meaning.Terms.{Terms}
 use Rattle.shown_laws.specs.AcquiredTold.{is_on, acquired_by as acquired_on}
 use Rattle.shown_laws.specs.ByPlace.{RequestSteps, IsRequestOf}
 use Rattle.shown_laws.specs.Submitted.{submission_of}

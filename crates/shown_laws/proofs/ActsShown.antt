@@ -13,12 +13,12 @@ use Rattle.call_recorder.specs.declared.recorded.Recorded.{Recorded}
 use Rattle.client_model.specs.declared.act.Shown.{Shown}
 use Rattle.client_model.specs.declared.track.Mismatch.{Mismatch}
 use Rattle.client_model.specs.declared.track.Over.{Over}
-use Rattle.client_model.specs.States.{Living, Losing, Asking, Repeating, next_of, resumed}
-use Rattle.client_model.specs.Talk.{Step, talk_step, takes, on_hello, goes_on, sends_or_ends, next_call, on_reply, on_completed, after_completed, on_told, on_repeated, on_compared, sends_marked, waits_from, begin_of, talk_shown, with_shown}
-use Rattle.client_model.specs.Terms.{Terms, Talk, unsubmitted, Greeting, Asked, Running, Replaying}
-use Rattle.client_model.specs.Told.{Told, completed_on, uncommitted, is_late}
-use Rattle.client_model.specs.Told as told_as
-use Rattle.client_model.specs.Verifying.{compared}
+use Rattle.client_model.specs.meaning.States.{Living, Losing, Asking, Repeating, next_of, resumed}
+use Rattle.client_model.specs.meaning.Talk.{Step, talk_step, takes, on_hello, goes_on, sends_or_ends, next_call, on_reply, on_completed, after_completed, on_told, on_repeated, on_compared, sends_marked, waits_from, begin_of, talk_shown, with_shown}
+use Rattle.client_model.specs.meaning.Terms.{Terms, Talk, unsubmitted, Greeting, Asked, Running, Replaying}
+use Rattle.client_model.specs.meaning.Told.{Told, completed_on, uncommitted, is_late}
+use Rattle.client_model.specs.meaning.Told as told_as
+use Rattle.client_model.specs.meaning.Verifying.{compared}
 use Rattle.client_model.specs.declared.input.Input.{Input}
 use Rattle.client_model.specs.declared.input.Input.TheVariants.{Start, Waiting, Lent, Opened, TryFailed, Took, Gone}
 

@@ -1,8 +1,8 @@
 -- What was done at the steps that are told of a request is all that it did, in order.
 use Rattle.std.proofs.Common.{◌≡◌, refl, sym, ap, ◌∙◌, append-nil, append_assoc, ℕ, List, [], ◌∷◌, ◌++◌}
 use Rattle.outage_schedule.specs.declared.document.Request.{Request}
-use Rattle.world_model.specs.Clients.{Step}
-use Rattle.world_model.specs.Settings.{Setting}
+use Rattle.world_model.specs.meaning.Clients.{Step}
+use Rattle.world_model.specs.meaning.Settings.{Setting}
 use Rattle.shown_laws.specs.Tellings.{Telling, TellsRequest, NoneYet, OneMore}
 
 -- one after the other

@@ -3,7 +3,7 @@ use Rattle.std.proofs.Common.{◌≡◌, ◌≢◌, refl, sym, ap, subst, ◌∙
 use Rattle.std.specs.Prelude.{◌==◌, flat_map, not, slice_get}
 use Rattle.std.specs.Option.{option_map_or}
 use Rattle.std.proofs.lemmas.Bool.{and_parts}
-use Rattle.shown_clauses.specs.Links.{Link, Seen, Turn, link_of, turn_of}
+use Rattle.shown_clauses.specs.meaning.Links.{Link, Seen, Turn, link_of, turn_of}
 use Rattle.invariant_laws.specs.KeptLaws.{RunsKeepInvariant, FinishesKeepInvariant}
 use Rattle.world_model.specs.Sames.{all_with, each_pair}
 use Rattle.world_model.specs.Traced.{Traced}

@@ -6,16 +6,16 @@ use Rattle.std.proofs.lemmas.Bool.{and_parts}
 use Rattle.std.proofs.lemmas.List.Folds.{list_all-append}
 use Rattle.svc_values.specs.declared.entry.Ltxid.{Ltxid}
 use Rattle.svc_values.specs.declared.frame.Down.{Down}
-use Rattle.svc_values.specs.Same.{same_bool}
-use Rattle.client_model.specs.Terms.{Phase}
+use Rattle.svc_values.specs.meaning.Same.{same_bool}
+use Rattle.client_model.specs.meaning.Terms.{Phase}
 use Rattle.outage_schedule.specs.declared.item.Item.{Item}
 use Rattle.outage_schedule.specs.declared.item.Item.TheVariants as item
 use Rattle.outage_schedule.specs.declared.item.Served.{Served}
 use Rattle.outage_schedule.specs.declared.note.AskResult.TheVariants as told
-use Rattle.run_clauses.specs.Outcomes.{completed_of}
-use Rattle.world_model.specs.Frames.{Owner, Handled}
+use Rattle.run_clauses.specs.meaning.Outcomes.{completed_of}
+use Rattle.world_model.specs.meaning.Frames.{Owner, Handled}
 use Rattle.invariant_laws.specs.Invariant.{Invariant}
-use Rattle.world_model.specs.Links.{Link, link_at}
+use Rattle.world_model.specs.meaning.Links.{Link, link_at}
 use Rattle.invariant_laws.specs.Shown.{stands}
 use Rattle.world_model.specs.Traced.{Traced}
 use Rattle.shown_laws.specs.ClientSteps.{TellsReply}

@@ -5,11 +5,11 @@ use Rattle.std.specs.List.{list_all, list_any, cons_option}
 use Rattle.std.proofs.lemmas.Bool.{and_parts, and_from, or_right}
 use Rattle.svc_values.specs.declared.call.Call.{Call}
 use Rattle.svc_values.specs.declared.entry.Ltxid.{Ltxid}
-use Rattle.svc_values.specs.Calls.{is_lone_commit}
-use Rattle.svc_values.specs.Identifiers.{same_session, same_ltxid}
-use Rattle.svc_values.specs.Same.{same_call}
+use Rattle.svc_values.specs.meaning.Calls.{is_lone_commit}
+use Rattle.svc_values.specs.meaning.Identifiers.{same_session, same_ltxid}
+use Rattle.svc_values.specs.meaning.Same.{same_call}
 use Rattle.svc_values.specs.SameLaws.{same_ltxid_decides}
-use Rattle.client_model.specs.Account.{account_of}
+use Rattle.client_model.specs.meaning.Account.{account_of}
 use Rattle.client_model.specs.declared.act.Shown.{Shown as ShownNow}
 use Rattle.outage_schedule.specs.declared.document.Request.{Request}
 use Rattle.outage_schedule.specs.declared.item.Item.{Item}
@@ -19,12 +19,12 @@ use Rattle.outage_schedule.specs.declared.note.AskResult.TheVariants as told
 use Rattle.outage_schedule.specs.declared.request.Outcome.{Outcome}
 use Rattle.outage_schedule.specs.declared.request.RequestReport.{RequestReport}
 use Rattle.outage_schedule.specs.declared.request.ShownCall.{ShownCall}
-use Rattle.run_clauses.specs.Reports.{shown_call}
-use Rattle.run_clauses.specs.Tried.{holds}
-use Rattle.shown_clauses.specs.Parts.{Part}
-use Rattle.shown_clauses.specs.Showings.{Shown, shown_with, shown_calls, tried_by_call, showings, showing_at, outcome_at, outcome_told, says_completed, is_served, calls_served}
-use Rattle.shown_clauses.specs.Steps.{Step as StepTold}
-use Rattle.shown_clauses.specs.Submissions.{Submission}
+use Rattle.run_clauses.specs.meaning.Reports.{shown_call}
+use Rattle.run_clauses.specs.meaning.Tried.{holds}
+use Rattle.shown_clauses.specs.meaning.Parts.{Part}
+use Rattle.shown_clauses.specs.meaning.Showings.{Shown, shown_with, shown_calls, tried_by_call, showings, showing_at, outcome_at, outcome_told, says_completed, is_served, calls_served}
+use Rattle.shown_clauses.specs.meaning.Steps.{Step as StepTold}
+use Rattle.shown_clauses.specs.meaning.Submissions.{Submission}
 use Rattle.world_model.specs.Words.{dones_of}
 use Rattle.shown_laws.specs.AnswersTold.{is_answered, calls_answered, CallsAreAnswered, is_lone, outcomes_lone}
 use Rattle.shown_laws.specs.ShowingsTold.{ShownBy, ByReply, ByOutcome, AreShownBy, NoneShown, OneShown}

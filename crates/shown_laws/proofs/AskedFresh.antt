@@ -9,14 +9,14 @@ use Rattle.svc_values.specs.declared.frame.Up.{Up}
 use Rattle.svc_values.specs.declared.frame.Up.TheVariants as up
 use Rattle.outage_schedule.specs.declared.item.Item.{Item}
 use Rattle.outage_schedule.specs.declared.item.Item.TheVariants as item
-use Rattle.world_model.specs.Crashing.{is_crashed_item}
-use Rattle.world_model.specs.Frames.{Sent, Handled}
+use Rattle.world_model.specs.meaning.Crashing.{is_crashed_item}
+use Rattle.world_model.specs.meaning.Frames.{Sent, Handled}
 use Rattle.world_model.specs.Orderly.{Orderly}
-use Rattle.world_model.specs.Links.{Link, link_at}
+use Rattle.world_model.specs.meaning.Links.{Link, link_at}
 use Rattle.world_model.specs.records.Number.{is_near, is_counted, is_stopped_call, last_is_stopped_commit, cond_held}
 use Rattle.world_model.specs.Parts.{number_of, held_number, is_commit_frame, is_commit_call}
 use Rattle.world_model.specs.Sames.{same_owners, same_up, same_sent, is_front}
-use Rattle.world_model.specs.Serving.{is_item_of, is_commit, reply_of}
+use Rattle.world_model.specs.meaning.Serving.{is_item_of, is_commit, reply_of}
 use Rattle.invariant_laws.specs.Shown.{is_call}
 use Rattle.world_model.specs.Traced.{Traced}
 use Rattle.world_model.specs.records.Wire.{up_of, is_sent_front, same_replies, is_handled, counted_with, handled_from, stage_of, is_right}

@@ -7,19 +7,19 @@ use Rattle.svc_values.specs.declared.call.Call.{Call}
 use Rattle.svc_values.specs.declared.draw.Draw.{Draw}
 use Rattle.svc_values.specs.declared.frame.Up.{Up}
 use Rattle.svc_values.specs.declared.frame.Up.TheVariants as up
-use Rattle.svc_values.specs.Same.{same_bool, same_call}
+use Rattle.svc_values.specs.meaning.Same.{same_bool, same_call}
 use Rattle.svc_values.specs.SameLaws.{same_bool_decides, same_call_decides, same_ltxid_decides}
 use Rattle.call_recorder.specs.declared.recorded.Recorded.{Recorded}
-use Rattle.client_model.specs.Account.{Account, unheard, account_of}
+use Rattle.client_model.specs.meaning.Account.{Account, unheard, account_of}
 use Rattle.client_model.specs.Conversation.{steps_of}
-use Rattle.client_model.specs.States.{Living, Repeating, next_of}
-use Rattle.client_model.specs.Talk.{next_call}
-use Rattle.client_model.specs.Terms.{Terms, Talk, Phase, Idle, Unbegun, Queued, Seeking, Greeting, Asked, Running, Replaying}
-use Rattle.client_model.specs.Verifying.{index_of}
+use Rattle.client_model.specs.meaning.States.{Living, Repeating, next_of}
+use Rattle.client_model.specs.meaning.Talk.{next_call}
+use Rattle.client_model.specs.meaning.Terms.{Terms, Talk, Phase, Idle, Unbegun, Queued, Seeking, Greeting, Asked, Running, Replaying}
+use Rattle.client_model.specs.meaning.Verifying.{index_of}
 use Rattle.client_model.proofs.Offered.{Tracked, Fits, IsTalk, first_talks, last_fits, last_talks, next_left}
-use Rattle.world_model.specs.Clients.{Doing, Client, client_at}
+use Rattle.world_model.specs.meaning.Clients.{Doing, Client, client_at}
 use Rattle.world_model.specs.records.Conversing.{inputs_of, first_talk, Talks, IsTalking, AllTalk}
-use Rattle.world_model.specs.Frames.{Sent}
+use Rattle.world_model.specs.meaning.Frames.{Sent}
 use Rattle.world_model.specs.records.Hold.{is_awaited}
 use Rattle.shown_laws.proofs.BeforeSession.{talks_at}
 use Rattle.shown_laws.proofs.CourseHeard.{awaits_behind}

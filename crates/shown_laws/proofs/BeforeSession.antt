@@ -11,19 +11,20 @@ use Rattle.svc_values.specs.declared.frame.Up.TheVariants as up
 use Rattle.client_model.specs.declared.act.Failed.TheVariants.{PoolWait, Retries}
 use Rattle.client_model.specs.declared.input.Input.{Input}
 use Rattle.client_model.specs.declared.input.Input.TheVariants.{Start, Waiting, Lent, Opened, TryFailed, Took, Gone}
-use Rattle.client_model.specs.Conversation.{talk_after, talk_at}
-use Rattle.client_model.specs.States.{Losing}
-use Rattle.client_model.specs.Talk.{Step as TalkStep, talk_step, takes, lost_of, loses, waits_from, stands, fails, quiet, with_tried}
-use Rattle.client_model.specs.Terms.{Terms, Talk, Phase, Idle, Unbegun, Queued, Seeking, Greeting, Asked, Running, Replaying}
-use Rattle.run_clauses.specs.Reports.{reached}
+use Rattle.client_model.specs.meaning.Conversation.{talk_at}
+use Rattle.client_model.specs.Conversation.{talk_after}
+use Rattle.client_model.specs.meaning.States.{Losing}
+use Rattle.client_model.specs.meaning.Talk.{Step as TalkStep, talk_step, takes, lost_of, loses, waits_from, stands, fails, quiet, with_tried}
+use Rattle.client_model.specs.meaning.Terms.{Terms, Talk, Phase, Idle, Unbegun, Queued, Seeking, Greeting, Asked, Running, Replaying}
+use Rattle.run_clauses.specs.meaning.Reports.{reached}
 use Rattle.outage_schedule.specs.declared.item.Item.{Item}
 use Rattle.outage_schedule.specs.declared.item.Item.TheVariants as item
-use Rattle.world_model.specs.Clients.{Step, Doing, Client, client_at}
+use Rattle.world_model.specs.meaning.Clients.{Step, Doing, Client, client_at}
 use Rattle.world_model.specs.records.Conversing.{inputs_of, first_talk, Talks, IsTalking, AreThrough, AllTalk}
-use Rattle.world_model.specs.Frames.{Sent}
+use Rattle.world_model.specs.meaning.Frames.{Sent}
 use Rattle.world_model.specs.records.Hold.{is_awaited}
 use Rattle.world_model.specs.Sames.{same_up, same_sent}
-use Rattle.world_model.specs.Serving.{is_item_of}
+use Rattle.world_model.specs.meaning.Serving.{is_item_of}
 use Rattle.shown_laws.proofs.SessionsReached.{sessions_reached}
 use Rattle.shown_laws.proofs.TakenAs.{connect_waits}
 

@@ -3,13 +3,13 @@ use Rattle.std.proofs.Common.{◌≡◌, refl, ap, ◌∙◌, Bool, true, false,
 use Rattle.std.specs.Option.{option_map_or}
 use Rattle.svc_values.specs.declared.call.Call.{Call}
 use Rattle.svc_values.specs.declared.entry.SessionId.{SessionId}
-use Rattle.svc_values.specs.Identifiers.{same_session}
+use Rattle.svc_values.specs.meaning.Identifiers.{same_session}
 use Rattle.outage_schedule.specs.declared.item.Item.{Item}
 use Rattle.outage_schedule.specs.declared.item.Item.TheVariants as item
 use Rattle.outage_schedule.specs.declared.item.Served.{Served}
 use Rattle.outage_schedule.specs.declared.note.GoNote.{GoNote}
-use Rattle.shown_clauses.specs.Fronts.{changed_if, with_changed, first_item}
-use Rattle.shown_clauses.specs.Links.{Acquired, Link as Seen, Turn, has_session, link_of, served_on, stopped_on, end_session, in_turn, turn_begun, call_served, acquire_if, is_hello, after_go}
+use Rattle.shown_clauses.specs.meaning.Fronts.{changed_if, with_changed, first_item}
+use Rattle.shown_clauses.specs.meaning.Links.{Acquired, Link as Seen, Turn, has_session, link_of, served_on, stopped_on, end_session, in_turn, turn_begun, call_served, acquire_if, is_hello, after_go}
 use Rattle.invariant_laws.specs.Same.{is_begin}
 use Rattle.shown_laws.specs.TurnOwners.{told_begin}
 use Rattle.shown_laws.proofs.SeenLists.{link_changed}

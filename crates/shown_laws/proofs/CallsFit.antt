@@ -5,10 +5,10 @@ use Rattle.std.proofs.lemmas.Bool.{and_from, or_right, or_left}
 use Rattle.std.proofs.lemmas.Option.{slice_get_within}
 use Rattle.std.proofs.lemmas.List.{append-nil, append_assoc, reverse-append, drop_all, drop-append-le, length_push}
 use Rattle.svc_values.specs.declared.call.Call.{Call}
-use Rattle.svc_values.specs.Same.{same_call}
+use Rattle.svc_values.specs.meaning.Same.{same_call}
 use Rattle.svc_values.specs.SameLaws.{same_call_decides, same_calls_decide}
 use Rattle.outage_schedule.specs.declared.request.ShownCall.{ShownCall}
-use Rattle.shown_clauses.specs.Turns.{ends_decided, shown_since, are_these, fits_here, fits_from}
+use Rattle.shown_clauses.specs.meaning.Turns.{ends_decided, shown_since, are_these, fits_here, fits_from}
 use Rattle.world_model.specs.records.Script.{behind_decided, recorded_from}
 use Rattle.shown_laws.proofs.Lookups.{eq_to}
 

@@ -7,13 +7,13 @@ use Rattle.svc_values.specs.declared.entry.Ltxid.{Ltxid}
 use Rattle.outage_schedule.specs.declared.item.Item.TheVariants as item
 use Rattle.outage_schedule.specs.declared.item.Served.{Served}
 use Rattle.outage_schedule.specs.declared.note.AskResult.{AskResult}
-use Rattle.shown_clauses.specs.Parts.{Part, parts_of}
-use Rattle.shown_clauses.specs.Showings.{showings, showing_at, tried_by_call, calls_served}
-use Rattle.shown_clauses.specs.Steps.{steps_of}
-use Rattle.shown_clauses.specs.Submissions.{Submission}
-use Rattle.world_model.specs.Clients.{Past}
+use Rattle.shown_clauses.specs.meaning.Parts.{Part, parts_of}
+use Rattle.shown_clauses.specs.meaning.Showings.{showings, showing_at, tried_by_call, calls_served}
+use Rattle.shown_clauses.specs.meaning.Steps.{steps_of}
+use Rattle.shown_clauses.specs.meaning.Submissions.{Submission}
+use Rattle.world_model.specs.meaning.Clients.{Past}
 use Rattle.invariant_laws.specs.Once.{are_known, tells_tried}
-use Rattle.world_model.specs.Settings.{Setting}
+use Rattle.world_model.specs.meaning.Settings.{Setting}
 use Rattle.world_model.specs.Traced.{Traced, Course, course_over, courses_of}
 use Rattle.shown_laws.specs.AnswersTold.{calls_answered, outcomes_lone, CallsAreAnswered, OutcomesAreLone, CallsAreServed}
 use Rattle.shown_laws.specs.Submitted.{submission_of}

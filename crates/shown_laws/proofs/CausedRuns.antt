@@ -5,7 +5,7 @@ use Rattle.std.specs.List.{list_all, list_any}
 use Rattle.std.specs.Option.{option_map_or}
 use Rattle.std.proofs.lemmas.Bool.{and_parts}
 use Rattle.svc_values.specs.declared.call.Call.{Call}
-use Rattle.client_model.specs.Terms.{Terms}
+use Rattle.client_model.specs.meaning.Terms.{Terms}
 use Rattle.outage_schedule.specs.declared.document.Client.{Client as Scripted}
 use Rattle.outage_schedule.specs.declared.document.Document.{Document}
 use Rattle.outage_schedule.specs.declared.document.Request.{Request}
@@ -14,21 +14,21 @@ use Rattle.outage_schedule.specs.declared.event.Event.TheVariants as event
 use Rattle.outage_schedule.specs.declared.item.Served.{Served}
 use Rattle.outage_schedule.specs.declared.note.Note.{Note}
 use Rattle.outage_schedule.specs.declared.request.RequestReport.{RequestReport}
-use Rattle.run_clauses.specs.Copies.{next_place, copies_by_client}
+use Rattle.run_clauses.specs.meaning.Copies.{next_place, copies_by_client}
 use Rattle.server_model.specs.Seen.{Seen}
-use Rattle.shown_clauses.specs.Steps.{Step as StepTold, steps, steps_of}
-use Rattle.shown_clauses.specs.Submissions.{Submission, submissions_of}
-use Rattle.world_model.specs.Clients.{Doing, Past, Client, script_at, is_unfinished, reports_of}
+use Rattle.shown_clauses.specs.meaning.Steps.{Step as StepTold, steps, steps_of}
+use Rattle.shown_clauses.specs.meaning.Submissions.{Submission, submissions_of}
+use Rattle.world_model.specs.meaning.Clients.{Doing, Past, Client, script_at, is_unfinished, reports_of}
 use Rattle.world_model.specs.records.Conversing.{AreThrough}
-use Rattle.world_model.specs.Finishing.{Place, AtServer, AtOrphans, AtRound, AtClients, AtLinks, first_behind, serves_or_ticks, goes_or_serves, next_round, reaps_or_goes, opens_or_reaps, next_finish}
+use Rattle.world_model.specs.meaning.Finishing.{Place, AtServer, AtOrphans, AtRound, AtClients, AtLinks, first_behind, serves_or_ticks, goes_or_serves, next_round, reaps_or_goes, opens_or_reaps, next_finish}
 use Rattle.invariant_laws.specs.Invariant.{Invariant}
 use Rattle.invariant_laws.specs.KeptLaws.{FinishesKeepInvariant}
-use Rattle.world_model.specs.Links.{is_orphan}
-use Rattle.world_model.specs.Machines.{Machine}
+use Rattle.world_model.specs.meaning.Links.{is_orphan}
+use Rattle.world_model.specs.meaning.Machines.{Machine}
 use Rattle.world_model.specs.Reached.{Reached, Begins, GoesOn, IsFinishing, Scheduled, Finishes, IsRun}
 use Rattle.world_model.specs.records.Ready.{has_calls, is_rightly_repeated, is_right_request}
-use Rattle.world_model.specs.Serving.{front_of}
-use Rattle.world_model.specs.Settings.{Setting, setting_of, terms_of}
+use Rattle.world_model.specs.meaning.Serving.{front_of}
+use Rattle.world_model.specs.meaning.Settings.{Setting, setting_of, terms_of}
 use Rattle.world_model.specs.Traced.{Traced}
 use Rattle.caused_laws.specs.Laws.{shown_steps, AreHeard, ClientsAreHeard}
 use Rattle.caused_laws.specs.Telling.{ToldStep}

@@ -4,12 +4,12 @@ use Rattle.std.specs.List.{list_all}
 use Rattle.std.proofs.lemmas.Bool.{and_from}
 use Rattle.std.proofs.lemmas.List.Folds.{list_all-append}
 use Rattle.outage_schedule.specs.declared.note.GoNote.{GoNote}
-use Rattle.shown_clauses.specs.Links.{Seen}
-use Rattle.shown_clauses.specs.Steps.{Step as StepTold, steps_of}
-use Rattle.world_model.specs.Clients.{Step, Client, client_at}
+use Rattle.shown_clauses.specs.meaning.Links.{Seen}
+use Rattle.shown_clauses.specs.meaning.Steps.{Step as StepTold, steps_of}
+use Rattle.world_model.specs.meaning.Clients.{Step, Client, client_at}
 use Rattle.invariant_laws.specs.Invariant.{Invariant}
-use Rattle.world_model.specs.Machines.{Machine}
-use Rattle.world_model.specs.Settings.{Setting}
+use Rattle.world_model.specs.meaning.Machines.{Machine}
+use Rattle.world_model.specs.meaning.Settings.{Setting}
 use Rattle.world_model.specs.Traced.{Traced}
 use Rattle.shown_laws.specs.Identified.{TellsIdentified}
 use Rattle.shown_laws.specs.Tellings.{Telling, TellsStep}

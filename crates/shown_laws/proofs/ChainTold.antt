@@ -7,13 +7,13 @@ use Rattle.std.proofs.lemmas.List.Elements.{filter-append}
 use Rattle.outage_schedule.specs.declared.document.Request.{Request}
 use Rattle.outage_schedule.specs.declared.note.GoNote.{GoNote}
 use Rattle.outage_schedule.specs.declared.request.RequestReport.{RequestReport}
-use Rattle.run_clauses.specs.Copies.{next_of}
-use Rattle.shown_clauses.specs.Links.{Seen}
-use Rattle.shown_clauses.specs.Steps.{Step as StepTold, steps_of}
-use Rattle.world_model.specs.Clients.{Step, Doing, Past, Client, client_at, begun, past_of, script_at, reports_of, with_client}
+use Rattle.run_clauses.specs.meaning.Copies.{next_of}
+use Rattle.shown_clauses.specs.meaning.Links.{Seen}
+use Rattle.shown_clauses.specs.meaning.Steps.{Step as StepTold, steps_of}
+use Rattle.world_model.specs.meaning.Clients.{Step, Doing, Past, Client, client_at, begun, past_of, script_at, reports_of, with_client}
 use Rattle.invariant_laws.specs.Invariant.{Invariant}
-use Rattle.world_model.specs.Machines.{Machine}
-use Rattle.world_model.specs.Settings.{Setting}
+use Rattle.world_model.specs.meaning.Machines.{Machine}
+use Rattle.world_model.specs.meaning.Settings.{Setting}
 use Rattle.world_model.specs.Traced.{Traced}
 use Rattle.shown_laws.specs.Tellings.{Telling, steps_in_tellings, Begins, WasThere, BeginsNow, TellsStep, TellsRequest, NoneYet, OneMore, TellsPast, NonePast, OnePast, TellsNow, NoneNow, OneNow, joined, FollowsFrom, IsScripted, TellsClient, TellsClients}
 use Rattle.shown_laws.proofs.ClientsMove.{Leads, GoesOn, IsOver, client_own, client_other}

@@ -6,12 +6,12 @@ use Rattle.client_model.specs.declared.act.Hold.{Hold}
 use Rattle.client_model.specs.declared.act.Hold.TheVariants as hold
 use Rattle.client_model.specs.declared.input.Input.{Input}
 use Rattle.client_model.specs.declared.input.Input.TheVariants.{Gone}
-use Rattle.world_model.specs.Acting.{steps, loses}
-use Rattle.world_model.specs.Clients.{Doing, Client, resting, client_at, with_client, script_at, step_at, heard, doing_at, past_of, after_hold, after_step}
-use Rattle.world_model.specs.Going.{lost_at_once, unless_open}
-use Rattle.world_model.specs.Links.{Link}
-use Rattle.world_model.specs.Machines.{Machine}
-use Rattle.world_model.specs.Settings.{Setting}
+use Rattle.world_model.specs.meaning.Acting.{steps, loses}
+use Rattle.world_model.specs.meaning.Clients.{Doing, Client, resting, client_at, with_client, script_at, step_at, heard, doing_at, past_of, after_hold, after_step}
+use Rattle.world_model.specs.meaning.Going.{lost_at_once, unless_open}
+use Rattle.world_model.specs.meaning.Links.{Link}
+use Rattle.world_model.specs.meaning.Machines.{Machine}
+use Rattle.world_model.specs.meaning.Settings.{Setting}
 use Rattle.shown_laws.proofs.Places.{set_own, set_other}
 
 -- BY NUMBER ---------------------------------------------------------------------------------------

@@ -9,17 +9,17 @@ use Rattle.outage_schedule.specs.declared.note.GoNote.{GoNote}
 use Rattle.outage_schedule.specs.declared.note.Note.{Note}
 use Rattle.outage_schedule.specs.declared.note.Note.TheVariants as note
 use Rattle.server_model.specs.Seen.{Seen}
-use Rattle.run_clauses.specs.Copies.{next_of}
-use Rattle.shown_clauses.specs.Steps.{Step as StepTold}
-use Rattle.world_model.specs.Clients.{Client, client_at, resting, script_at}
-use Rattle.world_model.specs.Finishing.{Place}
+use Rattle.run_clauses.specs.meaning.Copies.{next_of}
+use Rattle.shown_clauses.specs.meaning.Steps.{Step as StepTold}
+use Rattle.world_model.specs.meaning.Clients.{Client, client_at, resting, script_at}
+use Rattle.world_model.specs.meaning.Finishing.{Place}
 use Rattle.invariant_laws.specs.Invariant.{Invariant}
 use Rattle.invariant_laws.specs.KeptLaws.{RunsKeepInvariant, FinishesKeepInvariant}
-use Rattle.world_model.specs.Machines.{Machine, start_of}
+use Rattle.world_model.specs.meaning.Machines.{Machine, start_of}
 use Rattle.world_model.specs.OneEvent.{OneEvent}
 use Rattle.world_model.specs.Reached.{Reached, Begins, GoesOn, IsFinishing, Scheduled, Finishes}
 use Rattle.world_model.specs.records.Ready.{all_requests_right}
-use Rattle.world_model.specs.Settings.{Setting, setting_of}
+use Rattle.world_model.specs.meaning.Settings.{Setting, setting_of}
 use Rattle.world_model.specs.Traced.{Traced}
 use Rattle.shown_laws.specs.Closing.{AllUnclosed}
 use Rattle.shown_laws.specs.ConnectionLaws.{AreTold}

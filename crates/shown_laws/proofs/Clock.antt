@@ -6,7 +6,7 @@ use Rattle.std.proofs.lemmas.Bool.{and_parts, and_from}
 use Rattle.std.proofs.lemmas.Bool.Decides.{nat_tests}
 use Rattle.std.proofs.lemmas.List.{length-append}
 use Rattle.std.proofs.lemmas.List.Sums.{fold-append}
-use Rattle.svc_values.specs.Calls.{sequences_in}
+use Rattle.svc_values.specs.meaning.Calls.{sequences_in}
 use Rattle.outage_schedule.specs.declared.document.Document.{Document}
 use Rattle.outage_schedule.specs.declared.event.Event.{Event}
 use Rattle.outage_schedule.specs.declared.item.Served.{Served}
@@ -14,19 +14,19 @@ use Rattle.outage_schedule.specs.declared.note.GoNote.{GoNote}
 use Rattle.outage_schedule.specs.declared.note.Note.{Note}
 use Rattle.outage_schedule.specs.declared.note.Note.TheVariants as note
 use Rattle.server_model.specs.Seen.{Seen}
-use Rattle.shown_clauses.specs.Happenings.{Happening, tick_after}
-use Rattle.shown_clauses.specs.Links.{nothing_seen}
-use Rattle.shown_clauses.specs.Steps.{steps_from}
-use Rattle.world_model.specs.Clients.{Doing, doing_at}
-use Rattle.world_model.specs.Crashing.{is_crashed_item}
-use Rattle.world_model.specs.Finishing.{Place}
-use Rattle.world_model.specs.Going.{lost_at_once, unless_open}
-use Rattle.world_model.specs.Links.{Link}
-use Rattle.world_model.specs.Machines.{Machine}
+use Rattle.shown_clauses.specs.meaning.Happenings.{Happening, tick_after}
+use Rattle.shown_clauses.specs.meaning.Links.{nothing_seen}
+use Rattle.shown_clauses.specs.meaning.Steps.{steps_from}
+use Rattle.world_model.specs.meaning.Clients.{Doing, doing_at}
+use Rattle.world_model.specs.meaning.Crashing.{is_crashed_item}
+use Rattle.world_model.specs.meaning.Finishing.{Place}
+use Rattle.world_model.specs.meaning.Going.{lost_at_once, unless_open}
+use Rattle.world_model.specs.meaning.Links.{Link}
+use Rattle.world_model.specs.meaning.Machines.{Machine}
 use Rattle.world_model.specs.OneEvent.{OneEvent}
 use Rattle.world_model.specs.Reached.{Reached, Begins, GoesOn, IsFinishing, Scheduled, Finishes}
-use Rattle.world_model.specs.Serving.{Front, is_served_by, is_item_of, is_of_front}
-use Rattle.world_model.specs.Settings.{Setting}
+use Rattle.world_model.specs.meaning.Serving.{Front, is_served_by, is_item_of, is_of_front}
+use Rattle.world_model.specs.meaning.Settings.{Setting}
 use Rattle.world_model.specs.Traced.{Traced}
 use Rattle.shown_laws.specs.Growth.{next_told, GrowsBy, IsCounted}
 use Rattle.shown_laws.specs.Telling.{events_told, seen_after, ticks_told, event_told}

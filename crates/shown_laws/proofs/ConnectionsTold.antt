@@ -2,12 +2,12 @@
 use Rattle.std.proofs.Common.{◌≡◌, ◌≢◌, refl, sym, ap, subst, ◌∙◌, Bool, true, false, ℕ, ◌+◌, ◌<◌, length, List, [], ◌∷◌, ◌++◌, map, Option, Some, None, option_map, ◌⊎◌, inl, inr, if◌then◌else◌}
 use Rattle.std.specs.List.{list_any}
 use Rattle.client_model.specs.declared.input.Input.{Input}
-use Rattle.shown_clauses.specs.Fronts.{with_changed, first_item, rest_items}
-use Rattle.shown_clauses.specs.Links.{Link as Seen, is_link, link_of, end_link, acquire, acquire_if, is_hello, take_reply}
-use Rattle.world_model.specs.Crashing.{fallen_link}
-use Rattle.world_model.specs.Cutting.{cut_link}
-use Rattle.world_model.specs.Frames.{Sent, Reply, down_size, whole_front}
-use Rattle.world_model.specs.Links.{Link, new_link, link_at, with_link, changed, is_close, ends, sends, takes}
+use Rattle.shown_clauses.specs.meaning.Fronts.{with_changed, first_item, rest_items}
+use Rattle.shown_clauses.specs.meaning.Links.{Link as Seen, is_link, link_of, end_link, acquire, acquire_if, is_hello, take_reply}
+use Rattle.world_model.specs.meaning.Crashing.{fallen_link}
+use Rattle.world_model.specs.meaning.Cutting.{cut_link}
+use Rattle.world_model.specs.meaning.Frames.{Sent, Reply, down_size, whole_front}
+use Rattle.world_model.specs.meaning.Links.{Link, new_link, link_at, with_link, changed, is_close, ends, sends, takes}
 use Rattle.shown_laws.specs.Connections.{TellsEnd, IsOpen, NeverHeard, TellsLink, IsUnnamed, TellsAt, NoLink, Unnamed, Named}
 use Rattle.shown_laws.proofs.EndsTold.{sent_end, taken_end, cut_end, fallen_end}
 use Rattle.shown_laws.proofs.Lookups.{either, with_own, with_other, changed_own, changed_other, all_changed, new_own, new_other, none_new}

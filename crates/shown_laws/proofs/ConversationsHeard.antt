@@ -2,13 +2,14 @@
 use Rattle.std.proofs.Common.{◌≡◌, ◌≢◌, refl, sym, ap, subst, ◌∙◌, append-nil, append_assoc, ℕ, ◌+◌, List, [], ◌∷◌, ◌++◌, map}
 use Rattle.std.specs.Prelude.{fold, reverse, flat_map, false}
 use Rattle.std.proofs.lemmas.List.{map-append}
-use Rattle.client_model.specs.Conversation.{Timed, steps_of, talk_after, MayCome}
+use Rattle.client_model.specs.meaning.Conversation.{Timed}
+use Rattle.client_model.specs.Conversation.{steps_of, talk_after, MayCome}
 use Rattle.outage_schedule.specs.declared.document.Request.{Request}
-use Rattle.run_clauses.specs.Reports.{report_of}
-use Rattle.shown_clauses.specs.Steps.{Step as StepTold}
-use Rattle.world_model.specs.Clients.{Step, Past}
+use Rattle.run_clauses.specs.meaning.Reports.{report_of}
+use Rattle.shown_clauses.specs.meaning.Steps.{Step as StepTold}
+use Rattle.world_model.specs.meaning.Clients.{Step, Past}
 use Rattle.world_model.specs.records.Conversing.{inputs_of, first_talk, IsThrough, AreThrough}
-use Rattle.world_model.specs.Settings.{Setting}
+use Rattle.world_model.specs.meaning.Settings.{Setting}
 use Rattle.caused_laws.specs.Laws.{shown_steps, IsHeard, AreHeard}
 use Rattle.caused_laws.specs.Telling.{ToldStep, Before, Tells, AllTell, behind, nothing_before, inputs_of as inputs_told}
 use Rattle.caused_laws.proofs.Offered.{tells_more, behind_inputs, behind_steps}

@@ -12,25 +12,25 @@ use Rattle.svc_values.specs.declared.frame.Down.{Down}
 use Rattle.svc_values.specs.declared.frame.Down.TheVariants as down
 use Rattle.svc_values.specs.declared.frame.Up.{Up}
 use Rattle.svc_values.specs.declared.frame.Up.TheVariants as up
-use Rattle.svc_values.specs.Identifiers.{same_ltxid, session_of}
-use Rattle.svc_values.specs.Same.{same_answers, same_draws}
+use Rattle.svc_values.specs.meaning.Identifiers.{same_ltxid, session_of}
+use Rattle.svc_values.specs.meaning.Same.{same_answers, same_draws}
 use Rattle.svc_values.specs.SameLaws.{same_ltxid_decides}
-use Rattle.client_model.specs.States.{Asking}
-use Rattle.client_model.specs.Terms.{Phase, Asked}
+use Rattle.client_model.specs.meaning.States.{Asking}
+use Rattle.client_model.specs.meaning.Terms.{Phase, Asked}
 use Rattle.outage_schedule.specs.declared.item.Item.{Item}
 use Rattle.outage_schedule.specs.declared.item.Item.TheVariants as item
 use Rattle.outage_schedule.specs.declared.item.Served.{Served}
 use Rattle.outage_schedule.specs.declared.note.AskResult.{AskResult}
 use Rattle.outage_schedule.specs.declared.note.AskResult.TheVariants as told
 use Rattle.world_model.specs.records.Basic.{is_named}
-use Rattle.world_model.specs.Clients.{Doing, Client, client_at}
+use Rattle.world_model.specs.meaning.Clients.{Doing, Client, client_at}
 use Rattle.run_laws.specs.EntryCounts.{is_counted_by, are_counted_from, are_counted}
-use Rattle.world_model.specs.Frames.{Owner, Handled}
+use Rattle.world_model.specs.meaning.Frames.{Owner, Handled}
 use Rattle.world_model.specs.records.Hold.{is_awaited, is_ask, goes_by, same_held, is_by_held}
 use Rattle.invariant_laws.specs.Invariant.{Invariant}
-use Rattle.world_model.specs.Links.{Link, link_at}
+use Rattle.world_model.specs.meaning.Links.{Link, link_at}
 use Rattle.world_model.specs.Parts.{implies}
-use Rattle.world_model.specs.Serving.{identifier, outcome_frame, reply_of}
+use Rattle.world_model.specs.meaning.Serving.{identifier, outcome_frame, reply_of}
 use Rattle.world_model.specs.Traced.{Traced, course_now}
 use Rattle.world_model.specs.records.Wire.{same_replies, is_handled, counted_with, handled_from}
 use Rattle.shown_laws.proofs.AskedFresh.{IsFresh, opening_fresh}

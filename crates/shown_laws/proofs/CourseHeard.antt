@@ -8,10 +8,11 @@ use Rattle.svc_values.specs.declared.frame.Up.TheVariants as up
 use Rattle.client_model.specs.declared.act.Shown.{Shown}
 use Rattle.client_model.specs.declared.input.Input.{Input}
 use Rattle.client_model.specs.declared.input.Input.TheVariants.{Start, Waiting, Lent, Opened, TryFailed, Took, Gone}
-use Rattle.client_model.specs.Account.{Account, hears, hears_outcome, shows, shows_found, sends, before_sends, after_step}
-use Rattle.client_model.specs.Conversation.{Timed, Done, done_at, talk_at, steps_of, talk_after, is_gone, is_gone_next, is_wanted, MayCome}
-use Rattle.client_model.specs.Talk.{wants_of}
-use Rattle.client_model.specs.Terms.{Terms, Talk}
+use Rattle.client_model.specs.meaning.Account.{Account, hears, hears_outcome, shows, shows_found, sends, before_sends, after_step}
+use Rattle.client_model.specs.meaning.Conversation.{Timed, Done, done_at, talk_at}
+use Rattle.client_model.specs.Conversation.{steps_of, talk_after, is_gone, is_gone_next, is_wanted, MayCome}
+use Rattle.client_model.specs.meaning.Talk.{wants_of}
+use Rattle.client_model.specs.meaning.Terms.{Terms, Talk}
 use Rattle.world_model.specs.records.Conversing.{gone_due}
 use Rattle.shown_laws.proofs.LastSent.{last_sent, AwaitsIn, step_awaits}
 

@@ -6,11 +6,11 @@ use Rattle.std.specs.Option.{option_or}
 use Rattle.std.proofs.lemmas.Bool.{and_parts}
 use Rattle.client_model.specs.declared.input.Wants.{Wants}
 use Rattle.client_model.specs.declared.input.Wants.TheVariants as wants
-use Rattle.client_model.specs.Talk.{wants_of}
-use Rattle.client_model.specs.Terms.{Terms}
+use Rattle.client_model.specs.meaning.Talk.{wants_of}
+use Rattle.client_model.specs.meaning.Terms.{Terms}
 use Rattle.outage_schedule.specs.declared.document.Request.{Request}
-use Rattle.world_model.specs.Clients.{Doing, Past, Client, client_at, begun}
-use Rattle.world_model.specs.Settings.{Setting}
+use Rattle.world_model.specs.meaning.Clients.{Doing, Past, Client, client_at, begun}
+use Rattle.world_model.specs.meaning.Settings.{Setting}
 use Rattle.world_model.specs.Traced.{Traced, Course, course_now, courses_from, courses_of_clients, courses_of}
 
 left_all : (test : Course → Bool) (courses more : List Course) → list_all test (courses ++ more) ≡ true → (list_all test courses ≡ true) × (list_all test more ≡ true)

@@ -7,18 +7,18 @@ use Rattle.std.proofs.lemmas.Bool.{and_parts, and_from, or_cases}
 use Rattle.std.proofs.lemmas.Bool.Decides.{nat_tests}
 use Rattle.svc_values.specs.declared.call.Call.{Call}
 use Rattle.svc_values.specs.declared.entry.Ltxid.{Ltxid}
-use Rattle.svc_values.specs.Calls.{has_commit}
-use Rattle.svc_values.specs.Identifiers.{same_ltxid}
-use Rattle.svc_values.specs.Same.{same_bool, same_call}
+use Rattle.svc_values.specs.meaning.Calls.{has_commit}
+use Rattle.svc_values.specs.meaning.Identifiers.{same_ltxid}
+use Rattle.svc_values.specs.meaning.Same.{same_bool, same_call}
 use Rattle.outage_schedule.specs.declared.failure.Failure.{Failure}
 use Rattle.outage_schedule.specs.declared.failure.Failure.TheVariants as failure
 use Rattle.outage_schedule.specs.declared.request.ShownCall.{ShownCall}
-use Rattle.run_clauses.specs.Copies.{shows_script}
-use Rattle.world_model.specs.Clients.{Doing, Past, Client, client_at}
+use Rattle.run_clauses.specs.meaning.Copies.{shows_script}
+use Rattle.world_model.specs.meaning.Clients.{Doing, Past, Client, client_at}
 use Rattle.invariant_laws.specs.Invariant.{Invariant}
 use Rattle.invariant_laws.specs.Once.{ends_so, is_open_at, ends_rightly, is_placed, are_placed}
 use Rattle.world_model.specs.Parts.{Sending, sendings_of, commit_sendings}
-use Rattle.world_model.specs.Settings.{Setting}
+use Rattle.world_model.specs.meaning.Settings.{Setting}
 use Rattle.invariant_laws.specs.Shown.{all_from, has_completed, is_from}
 use Rattle.world_model.specs.Traced.{Traced, Course, course_over, courses_from, courses_of}
 use Rattle.shown_laws.proofs.CourseNow.{client_courses}

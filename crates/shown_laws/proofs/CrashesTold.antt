@@ -4,10 +4,10 @@ use Rattle.svc_values.specs.declared.frame.Down.{Down}
 use Rattle.outage_schedule.specs.declared.item.Item.{Item}
 use Rattle.outage_schedule.specs.declared.item.Item.TheVariants as item
 use Rattle.outage_schedule.specs.declared.item.Served.{Served}
-use Rattle.shown_clauses.specs.Links.{Link as Seen, link_of, new_link, stopped_connected, stopped_on, in_turn, is_connect, end_link, end_session}
-use Rattle.world_model.specs.Crashing.{fallen_link}
-use Rattle.world_model.specs.Links.{Link, link_at, with_link, ends}
-use Rattle.world_model.specs.Serving.{Front, is_blocked, reply_of, commits_after, after_front, handled}
+use Rattle.shown_clauses.specs.meaning.Links.{Link as Seen, link_of, new_link, stopped_connected, stopped_on, in_turn, is_connect, end_link, end_session}
+use Rattle.world_model.specs.meaning.Crashing.{fallen_link}
+use Rattle.world_model.specs.meaning.Links.{Link, link_at, with_link, ends}
+use Rattle.world_model.specs.meaning.Serving.{Front, is_blocked, reply_of, commits_after, after_front, handled}
 use Rattle.shown_laws.specs.Connections.{TellsReplies, TellsAt, Named}
 use Rattle.shown_laws.proofs.ConnectionsTold.{AllTold, falls_at}
 use Rattle.shown_laws.proofs.EndsTold.{front_end, fallen_end}

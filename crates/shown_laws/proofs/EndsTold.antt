@@ -6,13 +6,13 @@ use Rattle.std.proofs.lemmas.List.Folds.{list_any-append}
 use Rattle.svc_values.specs.declared.frame.Down.{Down}
 use Rattle.client_model.specs.declared.input.Input.{Input}
 use Rattle.outage_schedule.specs.declared.item.Served.{Served}
-use Rattle.shown_clauses.specs.Links.{end_at}
-use Rattle.world_model.specs.Crashing.{fallen_link}
-use Rattle.world_model.specs.Cutting.{cut_link}
-use Rattle.world_model.specs.Frames.{Sent, Reply, down_size, whole_front}
-use Rattle.world_model.specs.Links.{Link, is_close, ends, sends, takes}
+use Rattle.shown_clauses.specs.meaning.Links.{end_at}
+use Rattle.world_model.specs.meaning.Crashing.{fallen_link}
+use Rattle.world_model.specs.meaning.Cutting.{cut_link}
+use Rattle.world_model.specs.meaning.Frames.{Sent, Reply, down_size, whole_front}
+use Rattle.world_model.specs.meaning.Links.{Link, is_close, ends, sends, takes}
 use Rattle.world_model.specs.Parts.{is_closed}
-use Rattle.world_model.specs.Serving.{Front, after_front}
+use Rattle.world_model.specs.meaning.Serving.{Front, after_front}
 use Rattle.shown_laws.specs.Connections.{TellsEnd, IsOpen, HasEnded, WasClosed, NeverHeard}
 use Rattle.shown_laws.proofs.RepliesTold.{ends_case, with_frames}
 

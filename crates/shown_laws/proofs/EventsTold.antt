@@ -2,22 +2,22 @@
 use Rattle.std.proofs.Common.{◌≡◌, ◌≢◌, refl, sym, ap, subst, ◌∙◌, Bool, true, false, ℕ, ◌+◌, ◌<◌, ◌&&◌, List, [], ◌∷◌, map, fold, Option, Some, None, option_map, option_and_then, inl}
 use Rattle.std.specs.Prelude.{◌==◌, nat_lt, ◌*◌}
 use Rattle.std.proofs.lemmas.Bool.{and_parts, or_parts}
-use Rattle.svc_values.specs.Calls.{sequences_in}
+use Rattle.svc_values.specs.meaning.Calls.{sequences_in}
 use Rattle.svc_values.specs.declared.frame.Down.{Down}
-use Rattle.pool_core.specs.Slots.{is_among}
+use Rattle.pool_core.specs.meaning.Slots.{is_among}
 use Rattle.outage_schedule.specs.declared.item.Served.{Served}
 use Rattle.outage_schedule.specs.declared.note.Note.{Note}
 use Rattle.outage_schedule.specs.declared.note.Note.TheVariants as note
-use Rattle.shown_clauses.specs.Links.{Link as Seen, Seen as AllSeen, link_of, served_on, stopped_on, in_turn, end_link, end_session, after_happening}
-use Rattle.world_model.specs.Crashing.{is_crashed_item, is_stopped, fallen_link}
-use Rattle.world_model.specs.Cutting.{open_at, reaped_link}
+use Rattle.shown_clauses.specs.meaning.Links.{Link as Seen, Seen as AllSeen, link_of, served_on, stopped_on, in_turn, end_link, end_session, after_happening}
+use Rattle.world_model.specs.meaning.Crashing.{is_crashed_item, is_stopped, fallen_link}
+use Rattle.world_model.specs.meaning.Cutting.{open_at, reaped_link}
 use Rattle.world_model.specs.records.Hold.{is_connect}
-use Rattle.world_model.specs.Links.{Link, link_at, with_link, changed, sends}
-use Rattle.world_model.specs.Machines.{Machine}
-use Rattle.world_model.specs.Noting.{only_if}
-use Rattle.world_model.specs.Outside.{closed_by_drain}
-use Rattle.world_model.specs.Serving.{Front, front_at, is_served_by, is_item_of, is_of_front, is_ordinary, reply_of, commits_after, after_front, handled}
-use Rattle.world_model.specs.Settings.{Setting}
+use Rattle.world_model.specs.meaning.Links.{Link, link_at, with_link, changed, sends}
+use Rattle.world_model.specs.meaning.Machines.{Machine}
+use Rattle.world_model.specs.meaning.Noting.{only_if}
+use Rattle.world_model.specs.meaning.Outside.{closed_by_drain}
+use Rattle.world_model.specs.meaning.Serving.{Front, front_at, is_served_by, is_item_of, is_of_front, is_ordinary, reply_of, commits_after, after_front, handled}
+use Rattle.world_model.specs.meaning.Settings.{Setting}
 use Rattle.world_model.proofs.Offered.{AreOpenOnce}
 use Rattle.shown_laws.specs.Connections.{TellsAt, NoLink, Unnamed, Named}
 use Rattle.shown_laws.proofs.ConnectionsTold.{AllTold, one_turns, sends_told, cuts_told, falls_told}

@@ -3,9 +3,9 @@ use Rattle.std.proofs.Common.{◌≡◌, refl, sym, ap, subst, Bool, true, false
 use Rattle.std.specs.Prelude.{◌==◌, not, nat_le}
 use Rattle.std.proofs.lemmas.Bool.{and_parts}
 use Rattle.svc_values.specs.declared.entry.Ltxid.{Ltxid}
-use Rattle.svc_values.specs.Identifiers.{same_ltxid}
-use Rattle.svc_values.specs.Same.{same_bool}
-use Rattle.server_model.specs.ServiceCalls.{is_failover}
+use Rattle.svc_values.specs.meaning.Identifiers.{same_ltxid}
+use Rattle.svc_values.specs.meaning.Same.{same_bool}
+use Rattle.server_model.specs.meaning.ServiceCalls.{is_failover}
 use Rattle.outage_schedule.specs.declared.event.Event.{Event}
 use Rattle.outage_schedule.specs.declared.event.Event.TheVariants as event
 use Rattle.outage_schedule.specs.declared.item.Served.{Served}
@@ -16,18 +16,18 @@ use Rattle.outage_schedule.specs.declared.note.Note.{Note}
 use Rattle.outage_schedule.specs.declared.note.Note.TheVariants as note
 use Rattle.outage_schedule.specs.declared.note.OutsideNote.{OutsideNote}
 use Rattle.outage_schedule.specs.declared.note.Reached.{Reached}
-use Rattle.world_model.specs.Crashing.{is_stopped, is_over, has_stored, after_stopped, falls, serves_last, crashes}
-use Rattle.world_model.specs.Cutting.{open_at, cuts, after_cut, reaped_link, has_orphan, reached_of, follow_cut, follow_reap}
-use Rattle.world_model.specs.Going.{follow_go}
-use Rattle.world_model.specs.Links.{Link, changed}
-use Rattle.world_model.specs.Machines.{Server, Machine}
-use Rattle.world_model.specs.Matching.{Noted, Went, ServedOn, CutOff, Reaped, Crashed, Asked, matched}
-use Rattle.world_model.specs.Noting.{only_if, same_name, name_of, same_reached}
-use Rattle.world_model.specs.Opening.{opened, follow_up, follow_upcrash}
-use Rattle.world_model.specs.Outside.{ticked, drained, after_asked, follow_outside, follow_ask, follow_drain}
-use Rattle.world_model.specs.Serving.{Front, front_at, is_ordinary, serves, after_served}
-use Rattle.world_model.specs.Settings.{Setting}
-use Rattle.world_model.specs.Walking.{After, leaving, by_kind, follow}
+use Rattle.world_model.specs.meaning.Crashing.{is_stopped, is_over, has_stored, after_stopped, falls, serves_last, crashes}
+use Rattle.world_model.specs.meaning.Cutting.{open_at, cuts, after_cut, reaped_link, has_orphan, reached_of, follow_cut, follow_reap}
+use Rattle.world_model.specs.meaning.Going.{follow_go}
+use Rattle.world_model.specs.meaning.Links.{Link, changed}
+use Rattle.world_model.specs.meaning.Machines.{Server, Machine}
+use Rattle.world_model.specs.meaning.Matching.{Noted, Went, ServedOn, CutOff, Reaped, Crashed, Asked, matched}
+use Rattle.world_model.specs.meaning.Noting.{only_if, same_name, name_of, same_reached}
+use Rattle.world_model.specs.meaning.Opening.{opened, follow_up, follow_upcrash}
+use Rattle.world_model.specs.meaning.Outside.{ticked, drained, after_asked, follow_outside, follow_ask, follow_drain}
+use Rattle.world_model.specs.meaning.Serving.{Front, front_at, is_ordinary, serves, after_served}
+use Rattle.world_model.specs.meaning.Settings.{Setting}
+use Rattle.world_model.specs.meaning.Walking.{After, leaving, by_kind, follow}
 use Rattle.shown_laws.proofs.Lookups.{eq_from}
 
 -- the machine at the number of its next event

@@ -11,15 +11,15 @@ use Rattle.svc_values.specs.declared.frame.Down.{Down}
 use Rattle.svc_values.specs.declared.frame.Down.TheVariants as down
 use Rattle.svc_values.specs.declared.frame.Up.{Up}
 use Rattle.svc_values.specs.declared.frame.Up.TheVariants as up
-use Rattle.svc_values.specs.Identifiers.{same_ltxid}
-use Rattle.svc_values.specs.Same.{same_answers, same_bool, same_call, same_draws}
+use Rattle.svc_values.specs.meaning.Identifiers.{same_ltxid}
+use Rattle.svc_values.specs.meaning.Same.{same_answers, same_bool, same_call, same_draws}
 use Rattle.svc_values.specs.SameLaws.{same_answers_decide, same_bool_decides, same_call_decides, same_draws_decide, same_ltxid_decides}
 use Rattle.client_model.specs.Laws.{is_expected}
 use Rattle.outage_schedule.specs.declared.item.Item.{Item}
 use Rattle.outage_schedule.specs.declared.item.Item.TheVariants as item
 use Rattle.outage_schedule.specs.declared.note.AskResult.TheVariants as told
 use Rattle.world_model.specs.Sames.{same_up, same_ahead, same_down}
-use Rattle.world_model.specs.Serving.{is_item_of, identifier, reply_of}
+use Rattle.world_model.specs.meaning.Serving.{is_item_of, identifier, reply_of}
 use Rattle.invariant_laws.specs.Shown.{stands}
 use Rattle.world_model.specs.Traced.{Traced}
 use Rattle.world_model.specs.records.Wire.{same_replies}

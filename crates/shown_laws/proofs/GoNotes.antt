@@ -5,21 +5,21 @@ use Rattle.std.proofs.lemmas.Bool.{and_parts}
 use Rattle.svc_values.specs.declared.entry.Ltxid.{Ltxid}
 use Rattle.pool_core.specs.declared.answers.Take.{Take}
 use Rattle.pool_core.specs.declared.answers.Take.TheVariants as take
-use Rattle.pool_core.specs.Slots.{Slots, take_answer, after_take, after_opened}
+use Rattle.pool_core.specs.meaning.Slots.{Slots, take_answer, after_take, after_opened}
 use Rattle.client_model.specs.declared.input.Input.TheVariants.{Waiting, Lent, Opened, TryFailed, Took}
 use Rattle.client_model.specs.declared.input.Wants.{Wants}
 use Rattle.client_model.specs.declared.input.Wants.TheVariants as wants
-use Rattle.client_model.specs.Talk.{wants_of}
+use Rattle.client_model.specs.meaning.Talk.{wants_of}
 use Rattle.outage_schedule.specs.declared.note.GoNote.{GoNote}
 use Rattle.outage_schedule.specs.declared.note.GoNote.TheVariants as go
-use Rattle.world_model.specs.Acting.{frames_of, act_at, steps, loses}
-use Rattle.world_model.specs.Clients.{Client, Doing, client_at, doing_of}
-use Rattle.world_model.specs.Frames.{Reply}
-use Rattle.world_model.specs.Going.{noted, tries_while, lends, takes_slot, unless_open, looks, looks_at, goes_by, goes, follow_go}
-use Rattle.world_model.specs.Links.{Link, new_link, link_at, with_link, takes}
-use Rattle.world_model.specs.Machines.{Machine}
-use Rattle.world_model.specs.Noting.{same_did}
-use Rattle.world_model.specs.Settings.{Setting}
+use Rattle.world_model.specs.meaning.Acting.{frames_of, act_at, steps, loses}
+use Rattle.world_model.specs.meaning.Clients.{Client, Doing, client_at, doing_of}
+use Rattle.world_model.specs.meaning.Frames.{Reply}
+use Rattle.world_model.specs.meaning.Going.{noted, tries_while, lends, takes_slot, unless_open, looks, looks_at, goes_by, goes, follow_go}
+use Rattle.world_model.specs.meaning.Links.{Link, new_link, link_at, with_link, takes}
+use Rattle.world_model.specs.meaning.Machines.{Machine}
+use Rattle.world_model.specs.meaning.Noting.{same_did}
+use Rattle.world_model.specs.meaning.Settings.{Setting}
 use Rattle.shown_laws.proofs.Following.{only_met, only_is}
 use Rattle.shown_laws.proofs.Lookups.{eq_from}
 

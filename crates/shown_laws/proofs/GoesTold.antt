@@ -5,22 +5,22 @@ use Rattle.svc_values.specs.declared.frame.Down.{Down}
 use Rattle.svc_values.specs.declared.frame.Up.{Up}
 use Rattle.pool_core.specs.declared.answers.Back.{Back}
 use Rattle.pool_core.specs.declared.answers.Take.TheVariants as take
-use Rattle.pool_core.specs.Slots.{take_answer, after_take, give_back_answer}
+use Rattle.pool_core.specs.meaning.Slots.{take_answer, after_take, give_back_answer}
 use Rattle.client_model.specs.declared.act.Act.{Act}
 use Rattle.client_model.specs.declared.act.Failed.TheVariants.{Retries, PoolWait}
 use Rattle.client_model.specs.declared.input.Input.{Input}
 use Rattle.client_model.specs.declared.input.Input.TheVariants.{Waiting, Lent, Opened, TryFailed, Took, Gone}
-use Rattle.client_model.specs.Talk.{Step, takes as taken_by, fails, quiet, stands, talk_step, waits_from, with_tried, lost_of}
-use Rattle.client_model.specs.Terms.{Terms, Talk, Queued, Seeking}
+use Rattle.client_model.specs.meaning.Talk.{Step, takes as taken_by, fails, quiet, stands, talk_step, waits_from, with_tried, lost_of}
+use Rattle.client_model.specs.meaning.Terms.{Terms, Talk, Queued, Seeking}
 use Rattle.outage_schedule.specs.declared.note.GoNote.{GoNote}
-use Rattle.shown_clauses.specs.Links.{Link as Seen, after_go}
-use Rattle.world_model.specs.Acting.{closing, sent_by, owner_at, call_in, act_at, connection_of, steps, loses}
-use Rattle.world_model.specs.Clients.{Doing, heard, doing_at}
-use Rattle.world_model.specs.Frames.{Sent}
-use Rattle.world_model.specs.Going.{lost_at_once, unless_open}
-use Rattle.world_model.specs.Links.{Link, new_link, link_at, takes}
-use Rattle.world_model.specs.Machines.{Machine}
-use Rattle.world_model.specs.Settings.{Setting}
+use Rattle.shown_clauses.specs.meaning.Links.{Link as Seen, after_go}
+use Rattle.world_model.specs.meaning.Acting.{closing, sent_by, owner_at, call_in, act_at, connection_of, steps, loses}
+use Rattle.world_model.specs.meaning.Clients.{Doing, heard, doing_at}
+use Rattle.world_model.specs.meaning.Frames.{Sent}
+use Rattle.world_model.specs.meaning.Going.{lost_at_once, unless_open}
+use Rattle.world_model.specs.meaning.Links.{Link, new_link, link_at, takes}
+use Rattle.world_model.specs.meaning.Machines.{Machine}
+use Rattle.world_model.specs.meaning.Settings.{Setting}
 use Rattle.shown_laws.proofs.ConnectionsTold.{AllTold, sends_told, opened_told, takes_told, lent_told}
 use Rattle.shown_laws.proofs.GoNotes.{with_pool, with_new, next_number, taking, TooEarly, NoneFound, GoesAs, Idles, Rests, Waits, Lends, Opens, Fails, Takes, Loses}
 use Rattle.shown_laws.proofs.Lookups.{with_own, new_own}

@@ -14,19 +14,20 @@ use Rattle.svc_values.specs.declared.frame.Down.{Down}
 use Rattle.svc_values.specs.declared.frame.Down.TheVariants as down
 use Rattle.svc_values.specs.declared.frame.Up.{Up}
 use Rattle.call_recorder.specs.declared.recorded.Recorded.{Recorded}
-use Rattle.client_model.specs.Conversation.{Done, steps_of, talk_after, talk_at, done_at}
+use Rattle.client_model.specs.meaning.Conversation.{Done, talk_at, done_at}
+use Rattle.client_model.specs.Conversation.{steps_of, talk_after}
 use Rattle.client_model.specs.declared.act.Shown.{Shown}
 use Rattle.client_model.specs.declared.track.Mismatch.{Mismatch}
 use Rattle.client_model.specs.declared.track.Over.{Over}
-use Rattle.client_model.specs.States.{Living, Losing, Asking, Repeating, next_of, resumed}
-use Rattle.client_model.specs.Talk.{Step as TalkStep, talk_step, takes, on_hello, goes_on, sends_or_ends, next_call, on_reply, on_completed, after_completed, on_told, on_repeated, on_compared, sends_marked, waits_from, begin_of, talk_shown, with_shown, loses}
-use Rattle.client_model.specs.Terms.{Terms, Talk, Phase, Idle, Unbegun, Queued, Seeking, Greeting, Asked, Running, Replaying, unsubmitted}
-use Rattle.client_model.specs.Told.{Told, told_of}
-use Rattle.client_model.specs.Told as told_as
-use Rattle.client_model.specs.Verifying.{compared}
+use Rattle.client_model.specs.meaning.States.{Living, Losing, Asking, Repeating, next_of, resumed}
+use Rattle.client_model.specs.meaning.Talk.{Step as TalkStep, talk_step, takes, on_hello, goes_on, sends_or_ends, next_call, on_reply, on_completed, after_completed, on_told, on_repeated, on_compared, sends_marked, waits_from, begin_of, talk_shown, with_shown, loses}
+use Rattle.client_model.specs.meaning.Terms.{Terms, Talk, Phase, Idle, Unbegun, Queued, Seeking, Greeting, Asked, Running, Replaying, unsubmitted}
+use Rattle.client_model.specs.meaning.Told.{Told, told_of}
+use Rattle.client_model.specs.meaning.Told as told_as
+use Rattle.client_model.specs.meaning.Verifying.{compared}
 use Rattle.client_model.specs.declared.input.Input.{Input}
 use Rattle.client_model.specs.declared.input.Input.TheVariants.{Start, Waiting, Lent, Opened, TryFailed, Took, Gone}
-use Rattle.world_model.specs.Clients.{Step, Doing}
+use Rattle.world_model.specs.meaning.Clients.{Step, Doing}
 use Rattle.world_model.specs.records.Conversing.{timed, inputs_of, first_talk, connected, connection_after, Talks}
 use Rattle.world_model.specs.Words.{dones_of}
 

@@ -7,10 +7,10 @@ use Rattle.std.proofs.lemmas.Bool.Decides.{nat_tests}
 use Rattle.std.proofs.lemmas.List.Sums.{fold-append}
 use Rattle.outage_schedule.specs.declared.item.Served.{Served}
 use Rattle.outage_schedule.specs.declared.note.Note.{Note}
-use Rattle.shown_clauses.specs.Fronts.{front_from, front_of, rest_from, rest_of}
-use Rattle.shown_clauses.specs.Happenings.{Happening, tick_after, is_up_to, items_at, happenings_from}
-use Rattle.shown_clauses.specs.Links.{Seen, nothing_seen, after_happening}
-use Rattle.shown_clauses.specs.Steps.{Step, steps_from}
+use Rattle.shown_clauses.specs.meaning.Fronts.{front_from, front_of, rest_from, rest_of}
+use Rattle.shown_clauses.specs.meaning.Happenings.{Happening, tick_after, is_up_to, items_at, happenings_from}
+use Rattle.shown_clauses.specs.meaning.Links.{Seen, nothing_seen, after_happening}
+use Rattle.shown_clauses.specs.meaning.Steps.{Step, steps_from}
 use Rattle.shown_laws.specs.Telling.{events_told, seen_after, ticks_told, event_told, steps_in}
 
 -- NUMBERS -----------------------------------------------------------------------------------------

@@ -7,25 +7,26 @@ use Rattle.std.proofs.lemmas.Bool.{and_parts, and_from, or_cases, or_left, or_ri
 use Rattle.std.proofs.lemmas.List.{map-append}
 use Rattle.std.proofs.lemmas.List.Elements.{filter_map-append}
 use Rattle.svc_values.specs.declared.entry.Ltxid.{Ltxid}
-use Rattle.client_model.specs.Conversation.{Timed, talk_after, talk_at, done_at, is_gone, is_gone_next, is_wanted, MayCome}
-use Rattle.client_model.specs.Talk.{wants_in, wants_of}
-use Rattle.client_model.specs.Terms.{Terms, Talk, Phase, Unbegun, Queued, Seeking}
+use Rattle.client_model.specs.meaning.Conversation.{Timed, talk_at, done_at}
+use Rattle.client_model.specs.Conversation.{talk_after, is_gone, is_gone_next, is_wanted, MayCome}
+use Rattle.client_model.specs.meaning.Talk.{wants_in, wants_of}
+use Rattle.client_model.specs.meaning.Terms.{Terms, Talk, Phase, Unbegun, Queued, Seeking}
 use Rattle.client_model.specs.declared.input.Input.TheVariants.{Lent}
 use Rattle.client_model.specs.declared.input.Wants.TheVariants as wants
 use Rattle.outage_schedule.specs.declared.document.Request.{Request}
-use Rattle.request_bounds.specs.Limits.{has_waited}
-use Rattle.world_model.specs.Clients.{Step, Doing, Client, client_at}
+use Rattle.request_bounds.specs.meaning.Limits.{has_waited}
+use Rattle.world_model.specs.meaning.Clients.{Step, Doing, Client, client_at}
 use Rattle.world_model.specs.records.Conversing.{timed, inputs_of, first_talk, IsTalking, Talks}
 use Rattle.invariant_laws.specs.Invariant.{Invariant}
-use Rattle.world_model.specs.Links.{Link, link_at}
+use Rattle.world_model.specs.meaning.Links.{Link, link_at}
 use Rattle.world_model.specs.Parts.{implies}
 use Rattle.world_model.specs.records.Ready.{is_ready, is_ready_client, is_waiting, is_unbegun, records_rightly, has_calls}
 use Rattle.world_model.specs.Sames.{all_with, each_pair}
 use Rattle.world_model.specs.records.Script.{are_sent}
-use Rattle.world_model.specs.Settings.{Setting}
+use Rattle.world_model.specs.meaning.Settings.{Setting}
 use Rattle.world_model.specs.Traced.{Traced, courses_of}
 use Rattle.world_model.specs.Words.{brought, held_in}
-use Rattle.shown_clauses.specs.Steps.{Step as StepTold}
+use Rattle.shown_clauses.specs.meaning.Steps.{Step as StepTold}
 use Rattle.shown_laws.specs.ClientSteps.{TellsKind, Rested, FoundNone, Waited, WasLent, HasOpened, HasFailed, HasTaken, HasLost, now_at}
 use Rattle.shown_laws.specs.Tellings.{Telling, Begins, WasThere, BeginsNow, TellsStep, TellsRequest, NoneYet, OneMore}
 use Rattle.shown_laws.proofs.BeforeSession.{talks_at}

@@ -5,13 +5,13 @@ use Rattle.std.specs.List.{list_all, list_any}
 use Rattle.std.specs.Option.{option_map_or}
 use Rattle.std.proofs.lemmas.Bool.{and_parts, and_from, or_cases}
 use Rattle.invariant_laws.specs.FirstBegins.{begins_once, begin_once}
-use Rattle.world_model.specs.Frames.{Handled}
+use Rattle.world_model.specs.meaning.Frames.{Handled}
 use Rattle.invariant_laws.specs.Invariant.{Invariant}
 use Rattle.invariant_laws.specs.KeptLaws.{RunsKeepInvariant}
-use Rattle.world_model.specs.Links.{Link, link_at}
+use Rattle.world_model.specs.meaning.Links.{Link, link_at}
 use Rattle.invariant_laws.specs.NearCalls.{is_shown_or_next, sends_near, send_near}
 use Rattle.invariant_laws.specs.SameLaws.{FollowsInvariant, HoldsInRuns}
-use Rattle.world_model.specs.Serving.{is_blocked}
+use Rattle.world_model.specs.meaning.Serving.{is_blocked}
 use Rattle.invariant_laws.specs.Shown.{calls_on, is_current, is_marked, is_row, rows_on}
 use Rattle.world_model.specs.Traced.{Traced, courses_of}
 use Rattle.world_model.specs.Words.{held_in}

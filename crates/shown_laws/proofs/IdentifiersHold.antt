@@ -10,25 +10,25 @@ use Rattle.std.proofs.lemmas.List.Folds.{list_all-append}
 use Rattle.std.proofs.lemmas.List.Sums.{fold-append}
 use Rattle.svc_values.specs.declared.call.Call.{Call}
 use Rattle.svc_values.specs.declared.entry.Ltxid.{Ltxid}
-use Rattle.svc_values.specs.Identifiers.{same_ltxid}
-use Rattle.client_model.specs.Account.{Account, unheard, after_step, account_of}
-use Rattle.client_model.specs.Conversation.{Done}
-use Rattle.client_model.specs.Terms.{Terms}
+use Rattle.svc_values.specs.meaning.Identifiers.{same_ltxid}
+use Rattle.client_model.specs.meaning.Account.{Account, unheard, after_step, account_of}
+use Rattle.client_model.specs.meaning.Conversation.{Done}
+use Rattle.client_model.specs.meaning.Terms.{Terms}
 use Rattle.client_model.specs.declared.act.Shown.{Shown}
 use Rattle.outage_schedule.specs.declared.document.Document.{Document}
 use Rattle.outage_schedule.specs.declared.document.Request.{Request}
 use Rattle.outage_schedule.specs.declared.item.Served.{Served}
 use Rattle.outage_schedule.specs.declared.report.Report.{Report}
 use Rattle.outage_schedule.specs.declared.request.ShownCall.{ShownCall}
-use Rattle.run_clauses.specs.Before.{journal_before}
-use Rattle.run_clauses.specs.EntryEvents.{stored_entries}
-use Rattle.run_clauses.specs.Reports.{shown_call}
-use Rattle.shown_clauses.specs.Parts.{Part, parts_of}
-use Rattle.shown_clauses.specs.Showings.{showing_at, showing_of, is_showing, showings, shown_with, tried_by_call, has_identifier, have_identifiers}
-use Rattle.shown_clauses.specs.Steps.{steps_of}
-use Rattle.world_model.specs.Clients.{Step, Past}
+use Rattle.run_clauses.specs.meaning.Before.{journal_before}
+use Rattle.run_clauses.specs.meaning.EntryEvents.{stored_entries}
+use Rattle.run_clauses.specs.meaning.Reports.{shown_call}
+use Rattle.shown_clauses.specs.meaning.Parts.{Part, parts_of}
+use Rattle.shown_clauses.specs.meaning.Showings.{showing_at, showing_of, is_showing, showings, shown_with, tried_by_call, has_identifier, have_identifiers}
+use Rattle.shown_clauses.specs.meaning.Steps.{steps_of}
+use Rattle.world_model.specs.meaning.Clients.{Step, Past}
 use Rattle.world_model.specs.records.Conversing.{AreThrough}
-use Rattle.world_model.specs.Settings.{Setting}
+use Rattle.world_model.specs.meaning.Settings.{Setting}
 use Rattle.world_model.specs.Words.{dones_of}
 use Rattle.shown_laws.specs.Identified.{identifier_by, shows_under, is_identified, TellsIdentified, CallsAreIdentified, IdentifiersAreStored}
 use Rattle.shown_laws.specs.PartsTold.{ArePartsOf, NoParts, OnePart}

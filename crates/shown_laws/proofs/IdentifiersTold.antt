@@ -9,15 +9,15 @@ use Rattle.outage_schedule.specs.declared.report.Report.{Report}
 use Rattle.server_model.specs.Runs.{Server}
 use Rattle.server_model.specs.Seen.{Seen}
 use Rattle.run_laws.specs.EntryCounts.{RunsOn, IsThere, OneMore, stored_by, are_counted, RunsCountEntries, FinishesCountEntries}
-use Rattle.world_model.specs.Finishing.{Place}
+use Rattle.world_model.specs.meaning.Finishing.{Place}
 use Rattle.invariant_laws.specs.Invariant.{Invariant}
 use Rattle.invariant_laws.specs.KeptLaws.{RunsKeepInvariant, FinishesKeepInvariant}
-use Rattle.world_model.specs.Machines.{start_of}
+use Rattle.world_model.specs.meaning.Machines.{start_of}
 use Rattle.world_model.specs.OneEvent.{OneEvent}
 use Rattle.world_model.specs.Reached.{Reached, Begins, GoesOn, IsFinishing, Scheduled, Finishes}
 use Rattle.world_model.specs.records.Ready.{all_requests_right}
 use Rattle.world_model.specs.Reported.{IsReported}
-use Rattle.world_model.specs.Settings.{setting_of}
+use Rattle.world_model.specs.meaning.Settings.{setting_of}
 use Rattle.world_model.specs.Traced.{Traced}
 use Rattle.shown_laws.specs.Closing.{AllUnclosed}
 use Rattle.shown_laws.specs.ConnectionLaws.{AreTold}

@@ -5,21 +5,21 @@ use Rattle.svc_values.specs.declared.entry.SessionId.{SessionId}
 use Rattle.svc_values.specs.declared.frame.Down.{Down}
 use Rattle.svc_values.specs.declared.frame.Up.{Up}
 use Rattle.svc_values.specs.declared.frame.Up.TheVariants as up
-use Rattle.svc_values.specs.Identifiers.{same_session}
+use Rattle.svc_values.specs.meaning.Identifiers.{same_session}
 use Rattle.svc_values.specs.SameLaws.{same_session_decides}
 use Rattle.outage_schedule.specs.declared.item.Item.{Item}
 use Rattle.outage_schedule.specs.declared.item.Item.TheVariants as item
 use Rattle.outage_schedule.specs.declared.item.Served.{Served}
-use Rattle.shown_clauses.specs.Fronts.{changed_if, with_changed}
-use Rattle.shown_clauses.specs.Links.{Link as Seen, has_session, link_of, new_link, add_reply, connected, served_on, is_connect, end_link, end_session}
+use Rattle.shown_clauses.specs.meaning.Fronts.{changed_if, with_changed}
+use Rattle.shown_clauses.specs.meaning.Links.{Link as Seen, has_session, link_of, new_link, add_reply, connected, served_on, is_connect, end_link, end_session}
 use Rattle.invariant_laws.specs.Begins.{is_begin_frame}
-use Rattle.world_model.specs.Crashing.{is_crashed_item}
-use Rattle.world_model.specs.Frames.{Sent}
+use Rattle.world_model.specs.meaning.Crashing.{is_crashed_item}
+use Rattle.world_model.specs.meaning.Frames.{Sent}
 use Rattle.world_model.specs.records.Hold.{is_connect as is_connect_frame}
-use Rattle.world_model.specs.Links.{Link, link_at, with_link, ends}
-use Rattle.world_model.specs.Machines.{Server}
+use Rattle.world_model.specs.meaning.Links.{Link, link_at, with_link, ends}
+use Rattle.world_model.specs.meaning.Machines.{Server}
 use Rattle.invariant_laws.specs.Same.{is_begin}
-use Rattle.world_model.specs.Serving.{Front, first_of, front_of, front_at, is_served_by, is_item_of, is_blocked, reply_of, after_front}
+use Rattle.world_model.specs.meaning.Serving.{Front, first_of, front_of, front_at, is_served_by, is_item_of, is_blocked, reply_of, after_front}
 use Rattle.shown_laws.specs.Connections.{answers_of, TellsReplies, TellsLink, IsUnnamed, TellsAt, NoLink, Unnamed, Named}
 use Rattle.shown_laws.proofs.ConnectionsTold.{AllTold, told_at, one_changes, one_turns}
 use Rattle.shown_laws.proofs.EndsTold.{ended_end, front_end}

@@ -3,15 +3,15 @@ use Rattle.std.proofs.Common.{◌≡◌, ◌≢◌, refl, sym, ap, subst, ◌∙
 use Rattle.std.specs.List.{list_any}
 use Rattle.std.proofs.lemmas.List.Folds.{list_any-append}
 use Rattle.svc_values.specs.declared.frame.Down.{Down}
-use Rattle.pool_core.specs.Slots.{is_among}
+use Rattle.pool_core.specs.meaning.Slots.{is_among}
 use Rattle.client_model.specs.declared.input.Input.{Input}
 use Rattle.outage_schedule.specs.declared.item.Served.{Served}
-use Rattle.world_model.specs.Crashing.{fallen_link}
-use Rattle.world_model.specs.Cutting.{cut_link}
-use Rattle.world_model.specs.Frames.{Sent, Reply}
-use Rattle.world_model.specs.Links.{Link, link_at, with_link, changed, is_close, ends, sends, takes}
+use Rattle.world_model.specs.meaning.Crashing.{fallen_link}
+use Rattle.world_model.specs.meaning.Cutting.{cut_link}
+use Rattle.world_model.specs.meaning.Frames.{Sent, Reply}
+use Rattle.world_model.specs.meaning.Links.{Link, link_at, with_link, changed, is_close, ends, sends, takes}
 use Rattle.world_model.specs.Parts.{is_closed}
-use Rattle.world_model.specs.Serving.{Front, is_blocked, reply_of, commits_after, after_front, handled}
+use Rattle.world_model.specs.meaning.Serving.{Front, is_blocked, reply_of, commits_after, after_front, handled}
 use Rattle.shown_laws.proofs.EventsTold.{not_among}
 use Rattle.shown_laws.proofs.Lookups.{either, with_own, with_other, changed_own, changed_other, all_changed}
 use Rattle.shown_laws.proofs.RepliesTold.{ends_case}

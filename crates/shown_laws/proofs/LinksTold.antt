@@ -6,8 +6,8 @@ use Rattle.outage_schedule.specs.declared.event.Event.{Event}
 use Rattle.outage_schedule.specs.declared.item.Served.{Served}
 use Rattle.outage_schedule.specs.declared.note.Note.{Note}
 use Rattle.server_model.specs.Seen.{Seen}
-use Rattle.shown_clauses.specs.Links.{Seen as AllSeen}
-use Rattle.world_model.specs.Finishing.{Place}
+use Rattle.shown_clauses.specs.meaning.Links.{Seen as AllSeen}
+use Rattle.world_model.specs.meaning.Finishing.{Place}
 use Rattle.invariant_laws.specs.Invariant.{Invariant}
 use Rattle.invariant_laws.specs.KeptLaws.{RunsKeepInvariant, FinishesKeepInvariant}
 use Rattle.world_model.specs.OneEvent.{OneEvent}

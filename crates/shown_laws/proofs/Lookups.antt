@@ -3,7 +3,7 @@ use Rattle.std.proofs.Common.{◌≡◌, ◌≢◌, refl, sym, ap, ◌∙◌, Bo
 use Rattle.std.specs.Prelude.{◌==◌, slice_get}
 use Rattle.std.specs.Option.{option_map_or}
 use Rattle.std.proofs.lemmas.Bool.Decides.{nat_tests}
-use Rattle.world_model.specs.Links.{Link, link_at, with_link, changed}
+use Rattle.world_model.specs.meaning.Links.{Link, link_at, with_link, changed}
 use Rattle.shown_laws.proofs.Places.{set_own, set_other, get_last, get_map}
 
 -- NUMBERS -----------------------------------------------------------------------------------------

@@ -9,25 +9,25 @@ use Rattle.svc_values.specs.declared.entry.SessionId.{SessionId}
 use Rattle.svc_values.specs.declared.frame.Up.{Up}
 use Rattle.svc_values.specs.declared.frame.Up.TheVariants as up
 use Rattle.svc_values.specs.declared.frame.Down.{Down}
-use Rattle.svc_values.specs.Identifiers.{same_ltxid, same_session, session_of}
-use Rattle.svc_values.specs.Same.{same_bool}
+use Rattle.svc_values.specs.meaning.Identifiers.{same_ltxid, same_session, session_of}
+use Rattle.svc_values.specs.meaning.Same.{same_bool}
 use Rattle.svc_values.specs.SameLaws.{same_ltxid_decides, same_session_decides}
-use Rattle.client_model.specs.Terms.{Phase, Greeting, Asked, Running, Replaying}
+use Rattle.client_model.specs.meaning.Terms.{Phase, Greeting, Asked, Running, Replaying}
 use Rattle.outage_schedule.specs.declared.item.Item.{Item}
 use Rattle.outage_schedule.specs.declared.item.Item.TheVariants as item
 use Rattle.outage_schedule.specs.declared.item.Served.{Served}
 use Rattle.outage_schedule.specs.declared.note.AskResult.{AskResult}
-use Rattle.shown_clauses.specs.Links.{Link as Seen, link_of, link_of_session}
-use Rattle.shown_clauses.specs.Steps.{asked_of}
+use Rattle.shown_clauses.specs.meaning.Links.{Link as Seen, link_of, link_of_session}
+use Rattle.shown_clauses.specs.meaning.Steps.{asked_of}
 use Rattle.world_model.specs.records.Basic.{first_is_connect, is_named}
-use Rattle.world_model.specs.Frames.{Owner, Sent, Reply}
+use Rattle.world_model.specs.meaning.Frames.{Owner, Sent, Reply}
 use Rattle.world_model.specs.records.Hold.{is_awaited, same_held}
-use Rattle.world_model.specs.Links.{Link, link_at}
+use Rattle.world_model.specs.meaning.Links.{Link, link_at}
 use Rattle.invariant_laws.specs.Lost.{same_event, is_wanted, lost_links, is_asked_for, wants_lost}
 use Rattle.world_model.specs.records.Number.{last_told, is_told as is_heard}
 use Rattle.world_model.specs.Parts.{is_closed, implies}
 use Rattle.world_model.specs.Sames.{same_owners, same_up}
-use Rattle.world_model.specs.Serving.{is_item_of}
+use Rattle.world_model.specs.meaning.Serving.{is_item_of}
 use Rattle.world_model.specs.Traced.{Traced, Course}
 use Rattle.world_model.specs.Wanted.{Wanted, wanted_in}
 use Rattle.shown_laws.specs.ClientSteps.{TellsReply, TellsLost, LostTold, NoneAsked, WasAsked}

@@ -23,13 +23,13 @@ use Rattle.client_model.specs.declared.input.Input.{Input}
 use Rattle.client_model.specs.declared.input.Input.TheVariants.{Start, Waiting, Lent, Opened, TryFailed, Took, Gone}
 use Rattle.client_model.specs.declared.track.Mismatch.{Mismatch}
 use Rattle.client_model.specs.declared.track.Over.{Over}
-use Rattle.client_model.specs.States.{Living, Losing, Asking, Repeating, resumed, next_of}
-use Rattle.client_model.specs.Talk.{Step, fails, quiet, stands, next_call, with_shown, with_tried, waits_from, lost_of, ends, sends_call, sends_or_ends, goes_on, on_hello, on_reply, sends_marked, repeats, on_compared, on_repeated, after_completed, on_completed, on_told, takes, talk_step, begin_of, talk_shown}
-use Rattle.client_model.specs.Terms.{Terms, Talk, Phase, Queued, Seeking, Greeting, Asked, Running, Replaying, unsubmitted}
-use Rattle.client_model.specs.Told.{Told, told_of}
-use Rattle.client_model.specs.Told as told
-use Rattle.client_model.specs.Verifying.{compared, submitted}
-use Rattle.world_model.specs.Links.{is_close}
+use Rattle.client_model.specs.meaning.States.{Living, Losing, Asking, Repeating, resumed, next_of}
+use Rattle.client_model.specs.meaning.Talk.{Step, fails, quiet, stands, next_call, with_shown, with_tried, waits_from, lost_of, ends, sends_call, sends_or_ends, goes_on, on_hello, on_reply, sends_marked, repeats, on_compared, on_repeated, after_completed, on_completed, on_told, takes, talk_step, begin_of, talk_shown}
+use Rattle.client_model.specs.meaning.Terms.{Terms, Talk, Phase, Queued, Seeking, Greeting, Asked, Running, Replaying, unsubmitted}
+use Rattle.client_model.specs.meaning.Told.{Told, told_of}
+use Rattle.client_model.specs.meaning.Told as told
+use Rattle.client_model.specs.meaning.Verifying.{compared, submitted}
+use Rattle.world_model.specs.meaning.Links.{is_close}
 
 abbrev pub KeepsOpen : Step → Type 0
 KeepsOpen step = step.1.hold ≡ Keep → list_any is_close step.1.send ≡ false

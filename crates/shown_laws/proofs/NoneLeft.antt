@@ -3,11 +3,11 @@ use Rattle.std.proofs.Common.{◌≡◌, refl, sym, ap, ◌∙◌, Bool, ℕ, ze
 use Rattle.std.specs.Prelude.{is_some}
 use Rattle.std.specs.List.{cons_option}
 use Rattle.svc_values.specs.declared.entry.SessionId.{SessionId}
-use Rattle.shown_clauses.specs.Fronts.{first_item}
-use Rattle.shown_clauses.specs.Parts.{Counted, acquires, counted_from, left_from, left_of}
-use Rattle.shown_clauses.specs.Steps.{Step}
-use Rattle.shown_clauses.specs.Submissions.{Submission}
-use Rattle.world_model.specs.Clients.{Past}
+use Rattle.shown_clauses.specs.meaning.Fronts.{first_item}
+use Rattle.shown_clauses.specs.meaning.Parts.{Counted, acquires, counted_from, left_from, left_of}
+use Rattle.shown_clauses.specs.meaning.Steps.{Step}
+use Rattle.shown_clauses.specs.meaning.Submissions.{Submission}
+use Rattle.world_model.specs.meaning.Clients.{Past}
 use Rattle.shown_laws.specs.PartsTold.{OfEach, HasIts}
 use Rattle.shown_laws.specs.Submitted.{submission_of}
 use Rattle.shown_laws.specs.Tellings.{Telling, steps_in_tellings}

@@ -10,31 +10,31 @@ use Rattle.svc_values.specs.declared.call.Call.{Call}
 use Rattle.svc_values.specs.declared.entry.Ltxid.{Ltxid}
 use Rattle.svc_values.specs.declared.entry.SessionId.{SessionId}
 use Rattle.svc_values.specs.declared.frame.Down.{Down}
-use Rattle.svc_values.specs.Calls.{has_commit, is_lone_commit}
-use Rattle.svc_values.specs.Identifiers.{same_ltxid}
-use Rattle.svc_values.specs.Same.{same_bool}
+use Rattle.svc_values.specs.meaning.Calls.{has_commit, is_lone_commit}
+use Rattle.svc_values.specs.meaning.Identifiers.{same_ltxid}
+use Rattle.svc_values.specs.meaning.Same.{same_bool}
 use Rattle.svc_values.specs.SameLaws.{same_ltxid_decides}
-use Rattle.client_model.specs.Account.{Account, account_of}
-use Rattle.client_model.specs.States.{Asking}
-use Rattle.client_model.specs.Terms.{Phase, Asked}
+use Rattle.client_model.specs.meaning.Account.{Account, account_of}
+use Rattle.client_model.specs.meaning.States.{Asking}
+use Rattle.client_model.specs.meaning.Terms.{Phase, Asked}
 use Rattle.outage_schedule.specs.declared.document.Request.{Request}
 use Rattle.outage_schedule.specs.declared.item.Item.{Item}
 use Rattle.outage_schedule.specs.declared.item.Item.TheVariants as item
 use Rattle.outage_schedule.specs.declared.item.Served.{Served}
 use Rattle.outage_schedule.specs.declared.note.AskResult.{AskResult}
 use Rattle.outage_schedule.specs.declared.note.AskResult.TheVariants as told
-use Rattle.run_clauses.specs.Outcomes.{completed_of}
-use Rattle.run_clauses.specs.Reports.{shown_call}
-use Rattle.shown_clauses.specs.Showings.{shown_answers, is_showing, showing_of, showing_at, showings}
-use Rattle.shown_clauses.specs.Steps.{Step as StepTold}
+use Rattle.run_clauses.specs.meaning.Outcomes.{completed_of}
+use Rattle.run_clauses.specs.meaning.Reports.{shown_call}
+use Rattle.shown_clauses.specs.meaning.Showings.{shown_answers, is_showing, showing_of, showing_at, showings}
+use Rattle.shown_clauses.specs.meaning.Steps.{Step as StepTold}
 use Rattle.invariant_laws.proofs.Offered.{is_unanswered, asked_sent, asked_lone}
-use Rattle.world_model.specs.Clients.{Step, Doing, Client, client_at}
+use Rattle.world_model.specs.meaning.Clients.{Step, Doing, Client, client_at}
 use Rattle.world_model.specs.records.Conversing.{IsTalking}
-use Rattle.world_model.specs.Frames.{Owner}
+use Rattle.world_model.specs.meaning.Frames.{Owner}
 use Rattle.invariant_laws.specs.Invariant.{Invariant}
-use Rattle.world_model.specs.Links.{Link, link_at}
+use Rattle.world_model.specs.meaning.Links.{Link, link_at}
 use Rattle.world_model.specs.Parts.{Scan, Sending, scanned}
-use Rattle.world_model.specs.Settings.{Setting}
+use Rattle.world_model.specs.meaning.Settings.{Setting}
 use Rattle.world_model.specs.Traced.{Traced}
 use Rattle.world_model.specs.Words.{dones_of}
 use Rattle.shown_laws.specs.ClientSteps.{TellsReply, TellsKind}

@@ -2,19 +2,19 @@
 use Rattle.std.proofs.Common.{◌≡◌, sym, ap, subst, ◌∙◌, true, ℕ, zero, suc, ◌<◌, length, List, ◌∷◌, map, Some, arith}
 use Rattle.std.specs.Prelude.{slice_get}
 use Rattle.svc_values.specs.declared.entry.Ltxid.{Ltxid}
-use Rattle.svc_values.specs.Endings.{ends_committed}
-use Rattle.client_model.specs.Account.{account_of}
+use Rattle.svc_values.specs.meaning.Endings.{ends_committed}
+use Rattle.client_model.specs.meaning.Account.{account_of}
 use Rattle.client_model.specs.declared.act.Shown.{Shown}
 use Rattle.outage_schedule.specs.declared.item.Item.TheVariants as item
 use Rattle.outage_schedule.specs.declared.item.Served.{Served}
 use Rattle.outage_schedule.specs.declared.note.AskResult.{AskResult}
 use Rattle.outage_schedule.specs.declared.request.ShownCall.{ShownCall}
-use Rattle.run_clauses.specs.Reports.{shown_call}
-use Rattle.shown_clauses.specs.Parts.{Part}
-use Rattle.shown_clauses.specs.Showings.{showings}
-use Rattle.world_model.specs.Clients.{Past}
+use Rattle.run_clauses.specs.meaning.Reports.{shown_call}
+use Rattle.shown_clauses.specs.meaning.Parts.{Part}
+use Rattle.shown_clauses.specs.meaning.Showings.{showings}
+use Rattle.world_model.specs.meaning.Clients.{Past}
 use Rattle.invariant_laws.specs.Once.{shows_at}
-use Rattle.world_model.specs.Settings.{Setting}
+use Rattle.world_model.specs.meaning.Settings.{Setting}
 use Rattle.world_model.specs.Words.{dones_of}
 use Rattle.shown_laws.specs.ShowingsTold.{ShownBy, ByReply, ByOutcome, AreShownBy, NoneShown, OneShown}
 use Rattle.shown_laws.specs.Tellings.{Telling}

@@ -10,15 +10,15 @@ use Rattle.svc_values.specs.declared.entry.SessionId.{SessionId}
 use Rattle.svc_values.specs.declared.frame.Down.TheVariants as down
 use Rattle.svc_values.specs.declared.frame.Up.{Up}
 use Rattle.svc_values.specs.declared.frame.Up.TheVariants as up
-use Rattle.svc_values.specs.Identifiers.{same_session, session_of}
+use Rattle.svc_values.specs.meaning.Identifiers.{same_session, session_of}
 use Rattle.svc_values.specs.SameLaws.{same_session_decides}
-use Rattle.client_model.specs.Account.{Account, hears, hears_outcome, hears_reply, shows, shows_found, sends, begins, before_sends, after_step}
-use Rattle.client_model.specs.Conversation.{Done}
-use Rattle.client_model.specs.Terms.{Terms}
+use Rattle.client_model.specs.meaning.Account.{Account, hears, hears_outcome, hears_reply, shows, shows_found, sends, begins, before_sends, after_step}
+use Rattle.client_model.specs.meaning.Conversation.{Done}
+use Rattle.client_model.specs.meaning.Terms.{Terms}
 use Rattle.client_model.specs.declared.act.Shown.{Shown}
 use Rattle.client_model.specs.declared.input.Input.{Input}
 use Rattle.client_model.specs.declared.input.Input.TheVariants.{Start, Waiting, Lent, Opened, TryFailed, Took, Gone}
-use Rattle.run_clauses.specs.Reports.{reached}
+use Rattle.run_clauses.specs.meaning.Reports.{reached}
 
 -- it is among these
 abbrev pub Among : SessionId → List SessionId → Type 0

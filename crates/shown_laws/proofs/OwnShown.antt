@@ -9,19 +9,19 @@ use Rattle.std.proofs.lemmas.List.Sums.{fold-append}
 use Rattle.svc_values.specs.declared.call.Call.{Call}
 use Rattle.svc_values.specs.declared.entry.Ltxid.{Ltxid}
 use Rattle.svc_values.specs.declared.entry.SessionId.{SessionId}
-use Rattle.client_model.specs.Account.{Account, unheard, after_step, account_of}
-use Rattle.client_model.specs.Terms.{Terms}
+use Rattle.client_model.specs.meaning.Account.{Account, unheard, after_step, account_of}
+use Rattle.client_model.specs.meaning.Terms.{Terms}
 use Rattle.client_model.specs.declared.input.Input.TheVariants.{Start}
 use Rattle.outage_schedule.specs.declared.document.Request.{Request}
 use Rattle.outage_schedule.specs.declared.item.Served.{Served}
 use Rattle.outage_schedule.specs.declared.request.RequestReport.{RequestReport}
-use Rattle.shown_clauses.specs.Showings.{showing_at, showings}
-use Rattle.shown_clauses.specs.Steps.{Step as StepTold}
-use Rattle.shown_clauses.specs.Submissions.{Submission}
-use Rattle.world_model.specs.Clients.{Step, Doing}
+use Rattle.shown_clauses.specs.meaning.Showings.{showing_at, showings}
+use Rattle.shown_clauses.specs.meaning.Steps.{Step as StepTold}
+use Rattle.shown_clauses.specs.meaning.Submissions.{Submission}
+use Rattle.world_model.specs.meaning.Clients.{Step, Doing}
 use Rattle.world_model.specs.records.Hold.{goes_by}
-use Rattle.world_model.specs.Links.{Link, link_at}
-use Rattle.world_model.specs.Settings.{Setting}
+use Rattle.world_model.specs.meaning.Links.{Link, link_at}
+use Rattle.world_model.specs.meaning.Settings.{Setting}
 use Rattle.world_model.specs.Words.{dones_of}
 use Rattle.shown_laws.specs.ClientSteps.{now_at}
 use Rattle.shown_laws.specs.PartsTold.{shown_by_own, ShownByOwnSessions}

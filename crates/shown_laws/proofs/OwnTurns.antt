@@ -3,12 +3,12 @@ use Rattle.std.proofs.Common.{◌≡◌, refl, sym, ap, subst, ◌∙◌, Bool, 
 use Rattle.std.specs.List.{list_all}
 use Rattle.std.proofs.lemmas.Bool.{and_parts, and_from}
 use Rattle.std.proofs.lemmas.List.{append-nil}
-use Rattle.shown_clauses.specs.Fronts.{front_of, rest_of}
-use Rattle.shown_clauses.specs.Links.{Marked, Turn}
-use Rattle.shown_clauses.specs.Turns.{is_marked, begins_with, is_turn_right}
+use Rattle.shown_clauses.specs.meaning.Fronts.{front_of, rest_of}
+use Rattle.shown_clauses.specs.meaning.Links.{Marked, Turn}
+use Rattle.shown_clauses.specs.meaning.Turns.{is_marked, begins_with, is_turn_right}
 use Rattle.invariant_laws.specs.FirstBegins.{begin_new, begins_new, is_call_by}
-use Rattle.world_model.specs.Frames.{Owner, Sent, Handled}
-use Rattle.world_model.specs.Links.{Link}
+use Rattle.world_model.specs.meaning.Frames.{Owner, Sent, Handled}
+use Rattle.world_model.specs.meaning.Links.{Link}
 use Rattle.invariant_laws.specs.NearCalls.{is_shown_or_next}
 use Rattle.world_model.specs.Sames.{is_of, owned_by, same_owners}
 use Rattle.invariant_laws.specs.Shown.{calls_on, is_call, is_row}

@@ -7,20 +7,20 @@ use Rattle.outage_schedule.specs.declared.item.Served.{Served}
 use Rattle.outage_schedule.specs.declared.note.Note.{Note}
 use Rattle.outage_schedule.specs.declared.note.Note.TheVariants as note
 use Rattle.server_model.specs.Seen.{Seen}
-use Rattle.shown_clauses.specs.Links.{Acquired, Link as SeenLink, Seen as AllSeen, Turn, link_of}
-use Rattle.shown_clauses.specs.Steps.{Step as StepTold}
+use Rattle.shown_clauses.specs.meaning.Links.{Acquired, Link as SeenLink, Seen as AllSeen, Turn, link_of}
+use Rattle.shown_clauses.specs.meaning.Steps.{Step as StepTold}
 use Rattle.world_model.specs.records.Basic.{is_named}
-use Rattle.world_model.specs.Clients.{Client}
-use Rattle.world_model.specs.Cutting.{cut_link, reaped_link}
-use Rattle.world_model.specs.Crashing.{fallen_link}
+use Rattle.world_model.specs.meaning.Clients.{Client}
+use Rattle.world_model.specs.meaning.Cutting.{cut_link, reaped_link}
+use Rattle.world_model.specs.meaning.Crashing.{fallen_link}
 use Rattle.invariant_laws.specs.Invariant.{Invariant}
 use Rattle.invariant_laws.specs.KeptLaws.{RunsKeepInvariant}
-use Rattle.world_model.specs.Links.{Link, link_at, with_link}
-use Rattle.world_model.specs.Machines.{Machine}
+use Rattle.world_model.specs.meaning.Links.{Link, link_at, with_link}
+use Rattle.world_model.specs.meaning.Machines.{Machine}
 use Rattle.world_model.specs.OneEvent.{OneEvent}
 use Rattle.world_model.specs.Reached.{Begins, GoesOn}
 use Rattle.invariant_laws.specs.SameLaws.{HoldsInRuns}
-use Rattle.world_model.specs.Serving.{Front, front_at, after_front, handled}
+use Rattle.world_model.specs.meaning.Serving.{Front, front_at, after_front, handled}
 use Rattle.world_model.specs.Traced.{Traced}
 use Rattle.invariant_laws.specs.UnservedBegins.{begins_of_last, begin_last}
 use Rattle.world_model.specs.records.Wire.{is_fresh, is_sent_front}

@@ -5,14 +5,14 @@ use Rattle.std.specs.List.{list_any}
 use Rattle.std.proofs.lemmas.Bool.{or_left, or_right}
 use Rattle.std.proofs.lemmas.List.Folds.{list_any-append}
 use Rattle.outage_schedule.specs.declared.document.Client.{Client as Scripted}
-use Rattle.run_clauses.specs.Copies.{copies_by_client}
-use Rattle.shown_clauses.specs.Fronts.{first_of}
-use Rattle.shown_clauses.specs.KeptDraws.{parts_from, is_step_of}
-use Rattle.shown_clauses.specs.Parts.{Part, parts_of}
-use Rattle.shown_clauses.specs.Steps.{Step as StepTold, steps_of}
-use Rattle.shown_clauses.specs.Submissions.{Submission, submissions_of}
-use Rattle.world_model.specs.Clients.{Past, Client, reports_of}
-use Rattle.world_model.specs.Settings.{Setting}
+use Rattle.run_clauses.specs.meaning.Copies.{copies_by_client}
+use Rattle.shown_clauses.specs.meaning.Fronts.{first_of}
+use Rattle.shown_clauses.specs.meaning.KeptDraws.{parts_from, is_step_of}
+use Rattle.shown_clauses.specs.meaning.Parts.{Part, parts_of}
+use Rattle.shown_clauses.specs.meaning.Steps.{Step as StepTold, steps_of}
+use Rattle.shown_clauses.specs.meaning.Submissions.{Submission, submissions_of}
+use Rattle.world_model.specs.meaning.Clients.{Past, Client, reports_of}
+use Rattle.world_model.specs.meaning.Settings.{Setting}
 use Rattle.shown_laws.specs.PartsTold.{OfEach, IsQuiet, IsPartOf, ArePartsOf, NoParts, OnePart}
 use Rattle.shown_laws.specs.Submitted.{submission_of}
 use Rattle.shown_laws.specs.Tellings.{Telling, steps_in_tellings, TellsRequest, TellsPast, OnePast}

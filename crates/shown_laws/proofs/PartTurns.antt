@@ -5,15 +5,15 @@ use Rattle.std.specs.List.{list_all, list_any, last_or, cons_option}
 use Rattle.std.proofs.lemmas.Bool.{and_parts, and_from, or_cases, or_left, or_right}
 use Rattle.std.proofs.lemmas.Bool.Decides.{nat_tests}
 use Rattle.std.proofs.lemmas.List.Folds.{list_any-append}
-use Rattle.shown_clauses.specs.Fronts.{first_item}
-use Rattle.shown_clauses.specs.Links.{Acquired, Turn}
-use Rattle.shown_clauses.specs.Parts.{Part, acquires, parts_of}
-use Rattle.shown_clauses.specs.Steps.{Step as StepTold}
-use Rattle.shown_clauses.specs.Submissions.{Submission}
-use Rattle.shown_clauses.specs.Turns.{Owned, is_turn_right, owned_if, turns_of, owned_between, owned_in, turns_right}
-use Rattle.world_model.specs.Clients.{Past, Client, client_at}
+use Rattle.shown_clauses.specs.meaning.Fronts.{first_item}
+use Rattle.shown_clauses.specs.meaning.Links.{Acquired, Turn}
+use Rattle.shown_clauses.specs.meaning.Parts.{Part, acquires, parts_of}
+use Rattle.shown_clauses.specs.meaning.Steps.{Step as StepTold}
+use Rattle.shown_clauses.specs.meaning.Submissions.{Submission}
+use Rattle.shown_clauses.specs.meaning.Turns.{Owned, is_turn_right, owned_if, turns_of, owned_between, owned_in, turns_right}
+use Rattle.world_model.specs.meaning.Clients.{Past, Client, client_at}
 use Rattle.world_model.specs.records.Conversing.{AreThrough}
-use Rattle.world_model.specs.Settings.{Setting}
+use Rattle.world_model.specs.meaning.Settings.{Setting}
 use Rattle.shown_laws.specs.ByPlace.{RequestSteps, requests_by_place}
 use Rattle.shown_laws.specs.PartsTold.{OfEach, IsQuiet, IsPartOf, ArePartsOf, NoParts, OnePart}
 use Rattle.shown_laws.specs.Submitted.{submission_of}

@@ -2,10 +2,10 @@
 use Rattle.std.proofs.Common.{◌≡◌, refl, sym, ap, ◌∙◌, Bool, true, false, ℕ, zero, suc, ◌+◌, length, List, [], ◌∷◌, map, cond, arith}
 use Rattle.std.specs.Prelude.{nat_le}
 use Rattle.std.proofs.lemmas.Bool.Decides.{nat_tests}
-use Rattle.shown_clauses.specs.Fronts.{front_from, front_of, rest_from, rest_of}
-use Rattle.shown_clauses.specs.Parts.{Part, Counted, acquires, counted_from, is_acquired_by, parts_from, parts_of}
-use Rattle.shown_clauses.specs.Steps.{Step}
-use Rattle.shown_clauses.specs.Submissions.{Submission}
+use Rattle.shown_clauses.specs.meaning.Fronts.{front_from, front_of, rest_from, rest_of}
+use Rattle.shown_clauses.specs.meaning.Parts.{Part, Counted, acquires, counted_from, is_acquired_by, parts_from, parts_of}
+use Rattle.shown_clauses.specs.meaning.Steps.{Step}
+use Rattle.shown_clauses.specs.meaning.Submissions.{Submission}
 
 -- FRONTS ------------------------------------------------------------------------------------------
 

@@ -5,22 +5,22 @@ use Rattle.std.specs.List.{list_all}
 use Rattle.std.specs.Cmp.Lexicographic.{pointwise}
 use Rattle.std.proofs.lemmas.Bool.{and_parts, and_from}
 use Rattle.svc_values.specs.declared.entry.SessionId.{SessionId}
-use Rattle.svc_values.specs.Identifiers.{same_session}
+use Rattle.svc_values.specs.meaning.Identifiers.{same_session}
 use Rattle.svc_values.specs.SameLaws.{same_session_decides}
 use Rattle.outage_schedule.specs.declared.document.Document.{Document}
 use Rattle.outage_schedule.specs.declared.item.Served.{Served}
 use Rattle.outage_schedule.specs.declared.note.Note.{Note}
 use Rattle.server_model.specs.Seen.{Seen}
-use Rattle.shown_clauses.specs.Parts.{Part, parts_of, has_its_sessions}
-use Rattle.shown_clauses.specs.Steps.{steps_of}
-use Rattle.shown_clauses.specs.Submissions.{Submission}
-use Rattle.world_model.specs.Clients.{Past}
+use Rattle.shown_clauses.specs.meaning.Parts.{Part, parts_of, has_its_sessions}
+use Rattle.shown_clauses.specs.meaning.Steps.{steps_of}
+use Rattle.shown_clauses.specs.meaning.Submissions.{Submission}
+use Rattle.world_model.specs.meaning.Clients.{Past}
 use Rattle.world_model.specs.records.Conversing.{AreThrough, IsThrough}
-use Rattle.world_model.specs.Finishing.{Place}
+use Rattle.world_model.specs.meaning.Finishing.{Place}
 use Rattle.invariant_laws.specs.Invariant.{Invariant}
 use Rattle.world_model.specs.Reached.{IsFinishing}
 use Rattle.world_model.specs.records.Ready.{all_requests_right}
-use Rattle.world_model.specs.Settings.{Setting}
+use Rattle.world_model.specs.meaning.Settings.{Setting}
 use Rattle.world_model.specs.Traced.{Traced, Course, course_over, courses_of}
 use Rattle.shown_laws.specs.PartsTold.{IsPartOf, ArePartsOf, NoParts, OnePart, HoldsOfParts, SessionsAreAcquired}
 use Rattle.shown_laws.specs.Submitted.{submission_of}

@@ -5,9 +5,9 @@ use Rattle.std.specs.List.{cons_option}
 use Rattle.std.proofs.lemmas.List.{map-append}
 use Rattle.std.proofs.lemmas.List.Elements.{filter_map-append}
 use Rattle.svc_values.specs.declared.entry.SessionId.{SessionId}
-use Rattle.shown_clauses.specs.Parts.{Part, acquires}
-use Rattle.shown_clauses.specs.Steps.{Step}
-use Rattle.world_model.specs.Clients.{Past}
+use Rattle.shown_clauses.specs.meaning.Parts.{Part, acquires}
+use Rattle.shown_clauses.specs.meaning.Steps.{Step}
+use Rattle.world_model.specs.meaning.Clients.{Past}
 use Rattle.shown_laws.specs.PartsTold.{OfEach, HasIts, IsQuiet, Opens, Never, At, Split, IsPartOf, ArePartsOf, NoParts, OnePart}
 use Rattle.shown_laws.specs.Submitted.{submission_of}
 use Rattle.shown_laws.specs.Tellings.{Telling, steps_in_tellings, joined}

@@ -5,12 +5,12 @@ use Rattle.outage_schedule.specs.declared.document.Request.{Request}
 use Rattle.outage_schedule.specs.declared.item.Item.TheVariants as item
 use Rattle.outage_schedule.specs.declared.note.GoNote.{GoNote}
 use Rattle.outage_schedule.specs.declared.request.RequestReport.{RequestReport}
-use Rattle.shown_clauses.specs.Links.{is_connect, is_hello}
-use Rattle.shown_clauses.specs.Parts.{acquires, is_lent, parts_of}
-use Rattle.shown_clauses.specs.Steps.{Step as StepTold}
-use Rattle.world_model.specs.Clients.{Step, Doing, Client, Past}
+use Rattle.shown_clauses.specs.meaning.Links.{is_connect, is_hello}
+use Rattle.shown_clauses.specs.meaning.Parts.{acquires, is_lent, parts_of}
+use Rattle.shown_clauses.specs.meaning.Steps.{Step as StepTold}
+use Rattle.world_model.specs.meaning.Clients.{Step, Doing, Client, Past}
 use Rattle.world_model.specs.records.Conversing.{IsTalking, AreThrough, IsThrough, Talks}
-use Rattle.world_model.specs.Settings.{Setting}
+use Rattle.world_model.specs.meaning.Settings.{Setting}
 use Rattle.world_model.specs.Traced.{Traced}
 use Rattle.shown_laws.specs.ClientSteps.{IsBare, TellsKind, Rested, FoundNone, Waited, WasLent, HasOpened, HasFailed, HasTaken, HasLost}
 use Rattle.shown_laws.specs.PartsTold.{OfEach, HasIts, IsQuiet, Opens, Never, At, Split, ArePartsOf}

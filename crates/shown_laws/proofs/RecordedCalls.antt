@@ -12,10 +12,10 @@ use Rattle.request_bounds.specs.declared.rule.After.TheVariants as after
 use Rattle.client_model.specs.declared.act.Shown.{Shown}
 use Rattle.client_model.specs.declared.input.Input.{Input}
 use Rattle.client_model.specs.declared.input.Input.TheVariants.{Start, Waiting, Lent, Opened, TryFailed, Took, Gone}
-use Rattle.client_model.specs.Account.{Account, unheard, hears, hears_outcome, since_after, purged_after, shows, shows_found, begins, sends, before_sends, after_step, account_of}
-use Rattle.client_model.specs.Conversation.{Done}
-use Rattle.client_model.specs.Talk.{recorded_as}
-use Rattle.client_model.specs.Terms.{Terms}
+use Rattle.client_model.specs.meaning.Account.{Account, unheard, hears, hears_outcome, since_after, purged_after, shows, shows_found, begins, sends, before_sends, after_step, account_of}
+use Rattle.client_model.specs.meaning.Conversation.{Done}
+use Rattle.client_model.specs.meaning.Talk.{recorded_as}
+use Rattle.client_model.specs.meaning.Terms.{Terms}
 use Rattle.shown_laws.proofs.Places.{get_push}
 
 -- each at its place behind the last purge, up to the calls that were shown

@@ -7,12 +7,12 @@ use Rattle.std.proofs.lemmas.List.Elements.{filter_map-append}
 use Rattle.svc_values.specs.declared.frame.Down.{Down}
 use Rattle.client_model.specs.declared.input.Input.{Input}
 use Rattle.outage_schedule.specs.declared.item.Served.{Served}
-use Rattle.shown_clauses.specs.Fronts.{first_item, rest_items}
-use Rattle.world_model.specs.Cutting.{cut_link}
-use Rattle.world_model.specs.Crashing.{fallen_link}
-use Rattle.world_model.specs.Frames.{Sent, Reply, Handled, down_size, whole_front}
-use Rattle.world_model.specs.Links.{Link, is_close, ends, sends, takes}
-use Rattle.world_model.specs.Serving.{Front, after_front}
+use Rattle.shown_clauses.specs.meaning.Fronts.{first_item, rest_items}
+use Rattle.world_model.specs.meaning.Cutting.{cut_link}
+use Rattle.world_model.specs.meaning.Crashing.{fallen_link}
+use Rattle.world_model.specs.meaning.Frames.{Sent, Reply, Handled, down_size, whole_front}
+use Rattle.world_model.specs.meaning.Links.{Link, is_close, ends, sends, takes}
+use Rattle.world_model.specs.meaning.Serving.{Front, after_front}
 use Rattle.shown_laws.specs.Connections.{Answer, answer_of, answers_of, replies_in, items_in, TellsReplies}
 
 -- WHERE A CONNECTION ENDS -------------------------------------------------------------------------

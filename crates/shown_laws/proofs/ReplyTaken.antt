@@ -8,17 +8,17 @@ use Rattle.std.proofs.lemmas.List.{map-append, length-map}
 use Rattle.std.proofs.lemmas.List.Sums.{length-filter}
 use Rattle.svc_values.specs.declared.entry.SessionId.{SessionId}
 use Rattle.svc_values.specs.declared.frame.Down.{Down}
-use Rattle.svc_values.specs.Identifiers.{same_session}
+use Rattle.svc_values.specs.meaning.Identifiers.{same_session}
 use Rattle.svc_values.specs.SameLaws.{same_session_decides}
-use Rattle.client_model.specs.Terms.{Phase}
+use Rattle.client_model.specs.meaning.Terms.{Phase}
 use Rattle.outage_schedule.specs.declared.item.Served.{Served}
-use Rattle.world_model.specs.Crashing.{is_crashed_item}
-use Rattle.world_model.specs.Frames.{Owner, Sent, Reply, Handled}
+use Rattle.world_model.specs.meaning.Crashing.{is_crashed_item}
+use Rattle.world_model.specs.meaning.Frames.{Owner, Sent, Reply, Handled}
 use Rattle.world_model.specs.records.Hold.{is_awaited}
-use Rattle.world_model.specs.Links.{Link}
+use Rattle.world_model.specs.meaning.Links.{Link}
 use Rattle.world_model.specs.Parts.{is_answered, is_rep, is_out, count_reps}
 use Rattle.world_model.specs.Sames.{same_sent, is_front, owned_by}
-use Rattle.world_model.specs.Serving.{is_item_of, reply_of}
+use Rattle.world_model.specs.meaning.Serving.{is_item_of, reply_of}
 use Rattle.world_model.specs.records.Wire.{same_replies, is_handled, counted_with, handled_from, reps_of, is_answered_in_order}
 use Rattle.shown_laws.specs.ClientSteps.{TellsReply}
 use Rattle.shown_laws.specs.Connections.{Answer, answers_of}

@@ -8,9 +8,9 @@ use Rattle.outage_schedule.specs.declared.document.Client.{Client as Scripted}
 use Rattle.outage_schedule.specs.declared.document.Document.{Document}
 use Rattle.outage_schedule.specs.declared.document.Request.{Request}
 use Rattle.outage_schedule.specs.declared.request.RequestReport.{RequestReport}
-use Rattle.run_clauses.specs.Copies.{Copies, further_copies, copies_of, left_over, is_over, next_of, copies_by_client, is_in_script_order, are_in_script_order, shows_script, show_script, each_copies}
-use Rattle.shown_clauses.specs.Submissions.{Submission, submissions_of}
-use Rattle.world_model.specs.Clients.{Client, Past, reports_of}
+use Rattle.run_clauses.specs.meaning.Copies.{Copies, further_copies, copies_of, left_over, is_over, next_of, copies_by_client, is_in_script_order, are_in_script_order, shows_script, show_script, each_copies}
+use Rattle.shown_clauses.specs.meaning.Submissions.{Submission, submissions_of}
+use Rattle.world_model.specs.meaning.Clients.{Client, Past, reports_of}
 use Rattle.invariant_laws.specs.KeptLaws.{FinishesKeepInvariant}
 use Rattle.shown_laws.specs.ReportsTold.{ReportsAreOrdered}
 use Rattle.shown_laws.specs.Submitted.{submission_of}

@@ -8,19 +8,19 @@ use Rattle.outage_schedule.specs.declared.document.Document.{Document}
 use Rattle.outage_schedule.specs.declared.document.Request.{Request}
 use Rattle.outage_schedule.specs.declared.request.RequestReport.{RequestReport}
 use Rattle.outage_schedule.specs.declared.report.Report.{Report}
-use Rattle.run_clauses.specs.Copies.{copies_by_client, next_of}
+use Rattle.run_clauses.specs.meaning.Copies.{copies_by_client, next_of}
 use Rattle.server_model.specs.Runs.{Server}
 use Rattle.server_model.specs.Seen.{Seen}
-use Rattle.shown_clauses.specs.Parts.{Part, parts_of}
+use Rattle.shown_clauses.specs.meaning.Parts.{Part, parts_of}
 use Rattle.shown_clauses.specs.Showings.{has_its_outcomes}
-use Rattle.shown_clauses.specs.Steps.{Step as StepTold, steps, steps_of}
-use Rattle.shown_clauses.specs.Submissions.{Submission, submissions_of, submissions_by_client}
+use Rattle.shown_clauses.specs.meaning.Steps.{Step as StepTold, steps, steps_of}
+use Rattle.shown_clauses.specs.meaning.Submissions.{Submission, submissions_of, submissions_by_client}
 use Rattle.shown_clauses.specs.Whole.{have_their_outcomes}
-use Rattle.world_model.specs.Clients.{Client, client_at, reports_of}
+use Rattle.world_model.specs.meaning.Clients.{Client, client_at, reports_of}
 use Rattle.world_model.specs.Reached.{IsRun}
 use Rattle.world_model.specs.records.Ready.{all_requests_right}
 use Rattle.world_model.specs.Reported.{IsReported}
-use Rattle.world_model.specs.Settings.{Setting, setting_of}
+use Rattle.world_model.specs.meaning.Settings.{Setting, setting_of}
 use Rattle.world_model.specs.Traced.{Traced}
 use Rattle.shown_laws.specs.PartsTold.{HoldsOfParts, RepliesAreTaken, OutcomesAreTaken}
 use Rattle.shown_laws.specs.ReportsTold.{HoldsOfReports, are_parts, of_parts, ReportsListOutcomes, ReportsTakeReplies}

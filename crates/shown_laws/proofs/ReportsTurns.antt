@@ -11,20 +11,20 @@ use Rattle.outage_schedule.specs.declared.document.Client.{Client as Scripted}
 use Rattle.outage_schedule.specs.declared.document.Document.{Document}
 use Rattle.outage_schedule.specs.declared.report.Report.{Report}
 use Rattle.outage_schedule.specs.declared.request.RequestReport.{RequestReport}
-use Rattle.run_clauses.specs.Copies.{copies_by_client}
+use Rattle.run_clauses.specs.meaning.Copies.{copies_by_client}
 use Rattle.server_model.specs.Runs.{Server}
 use Rattle.server_model.specs.Seen.{Seen}
-use Rattle.shown_clauses.specs.Links.{Acquired, Turn}
-use Rattle.shown_clauses.specs.Parts.{left_of}
-use Rattle.shown_clauses.specs.Steps.{Step as StepTold, steps, steps_of, turns}
-use Rattle.shown_clauses.specs.Submissions.{Submission, submissions_of, submissions_by_client}
-use Rattle.shown_clauses.specs.Turns.{Owned, turns_of, has_request, has_client}
-use Rattle.world_model.specs.Clients.{Client, client_at}
+use Rattle.shown_clauses.specs.meaning.Links.{Acquired, Turn}
+use Rattle.shown_clauses.specs.meaning.Parts.{left_of}
+use Rattle.shown_clauses.specs.meaning.Steps.{Step as StepTold, steps, steps_of, turns}
+use Rattle.shown_clauses.specs.meaning.Submissions.{Submission, submissions_of, submissions_by_client}
+use Rattle.shown_clauses.specs.meaning.Turns.{Owned, turns_of, has_request, has_client}
+use Rattle.world_model.specs.meaning.Clients.{Client, client_at}
 use Rattle.world_model.specs.records.Conversing.{AreThrough}
 use Rattle.invariant_laws.specs.KeptLaws.{FinishesKeepInvariant}
 use Rattle.world_model.specs.records.Ready.{all_requests_right}
 use Rattle.world_model.specs.Reported.{IsReported}
-use Rattle.world_model.specs.Settings.{Setting, setting_of}
+use Rattle.world_model.specs.meaning.Settings.{Setting, setting_of}
 use Rattle.world_model.specs.Traced.{Traced}
 use Rattle.shown_laws.specs.Submitted.{submission_of}
 use Rattle.shown_laws.specs.Tellings.{TellsClient, FinishesTellSteps}

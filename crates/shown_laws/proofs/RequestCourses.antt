@@ -2,11 +2,11 @@
 use Rattle.std.proofs.Common.{◌≡◌, refl, sym, ap, subst, ◌∙◌, ℕ, zero, suc, ◌+◌, List, [], ◌∷◌, ◌++◌, map, Option, Some, None, ◌⊎◌, inl, inr, arith}
 use Rattle.std.specs.Prelude.{slice_get}
 use Rattle.std.specs.Option.{option_map_or}
-use Rattle.run_clauses.specs.Reports.{report_of}
-use Rattle.world_model.specs.Clients.{Doing, Past, Client, client_at}
+use Rattle.run_clauses.specs.meaning.Reports.{report_of}
+use Rattle.world_model.specs.meaning.Clients.{Doing, Past, Client, client_at}
 use Rattle.world_model.specs.records.Conversing.{AreThrough, IsThrough}
 use Rattle.invariant_laws.specs.Invariant.{Invariant}
-use Rattle.world_model.specs.Settings.{Setting}
+use Rattle.world_model.specs.meaning.Settings.{Setting}
 use Rattle.world_model.specs.Traced.{Traced, Course, course_now, course_over, courses_from, courses_of_clients, courses_of}
 use Rattle.world_model.specs.Words.{dones_of}
 use Rattle.shown_laws.specs.ByPlace.{RequestSteps, over_so, doing_so, requests_by_place, IsRequestOf}

@@ -8,19 +8,19 @@ use Rattle.svc_values.specs.declared.call.Call.{Call}
 use Rattle.svc_values.specs.declared.entry.Ltxid.{Ltxid}
 use Rattle.client_model.proofs.Offered.{Fits, IsTalk, Holds, first_talks, last_fits, last_talks, next_left}
 use Rattle.client_model.specs.declared.track.Track.{Track}
-use Rattle.client_model.specs.Account.{Account, Outcome as Heard, unheard, after_step, account_of}
+use Rattle.client_model.specs.meaning.Account.{Account, Outcome as Heard, unheard, after_step, account_of}
 use Rattle.client_model.specs.Conversation.{steps_of, talk_after}
 use Rattle.client_model.specs.declared.act.Shown.{Shown}
-use Rattle.client_model.specs.Terms.{Terms, Talk, Phase, Idle, Queued, Asked, Running}
+use Rattle.client_model.specs.meaning.Terms.{Terms, Talk, Phase, Idle, Queued, Asked, Running}
 use Rattle.outage_schedule.specs.declared.document.Request.{Request}
 use Rattle.outage_schedule.specs.declared.item.Served.{Served}
 use Rattle.outage_schedule.specs.declared.request.Outcome.{Outcome}
-use Rattle.run_clauses.specs.Reports.{told_outcome}
-use Rattle.shown_clauses.specs.Showings.{showing_at, outcome_at, showings}
-use Rattle.shown_clauses.specs.Steps.{Step as StepTold}
-use Rattle.world_model.specs.Clients.{Step, Doing, Client}
+use Rattle.run_clauses.specs.meaning.Reports.{told_outcome}
+use Rattle.shown_clauses.specs.meaning.Showings.{showing_at, outcome_at, showings}
+use Rattle.shown_clauses.specs.meaning.Steps.{Step as StepTold}
+use Rattle.world_model.specs.meaning.Clients.{Step, Doing, Client}
 use Rattle.world_model.specs.records.Conversing.{IsTalking, Talks, inputs_of, first_talk}
-use Rattle.world_model.specs.Settings.{Setting}
+use Rattle.world_model.specs.meaning.Settings.{Setting}
 use Rattle.world_model.specs.Traced.{Traced}
 use Rattle.world_model.specs.Words.{dones_of}
 use Rattle.shown_laws.specs.ShowingsTold.{AreShownBy, NoneShown, OneShown}

@@ -6,13 +6,13 @@ use Rattle.std.proofs.lemmas.List.{map-append, length-map}
 use Rattle.outage_schedule.specs.declared.item.Served.{Served}
 use Rattle.outage_schedule.specs.declared.note.GoNote.{GoNote}
 use Rattle.outage_schedule.specs.declared.note.Note.{Note}
-use Rattle.shown_clauses.specs.Links.{Seen as AllSeen}
-use Rattle.world_model.specs.Clients.{Step, Doing, Client, client_at, begun, past_of}
-use Rattle.world_model.specs.Frames.{Owner}
+use Rattle.shown_clauses.specs.meaning.Links.{Seen as AllSeen}
+use Rattle.world_model.specs.meaning.Clients.{Step, Doing, Client, client_at, begun, past_of}
+use Rattle.world_model.specs.meaning.Frames.{Owner}
 use Rattle.invariant_laws.specs.Invariant.{Invariant}
 use Rattle.invariant_laws.specs.KeptLaws.{RunsKeepInvariant}
-use Rattle.world_model.specs.Machines.{Machine}
-use Rattle.world_model.specs.Settings.{Setting}
+use Rattle.world_model.specs.meaning.Machines.{Machine}
+use Rattle.world_model.specs.meaning.Settings.{Setting}
 use Rattle.world_model.specs.Traced.{Traced}
 use Rattle.shown_laws.specs.ByPlace.{RequestSteps, over_so, doing_so, requests_by_place, IsRequestOf}
 use Rattle.shown_laws.specs.Closing.{AllUnclosed}

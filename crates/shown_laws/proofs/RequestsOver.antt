@@ -2,8 +2,8 @@
 use Rattle.std.proofs.Common.{◌≡◌, refl, sym, ap, subst, ◌∙◌, append-nil, ℕ, zero, suc, List, [], ◌∷◌, ◌++◌, map, Option, Some, None, option_map}
 use Rattle.std.specs.Prelude.{slice_get}
 use Rattle.std.specs.Option.{option_map_or}
-use Rattle.client_model.specs.Terms.{Terms}
-use Rattle.world_model.specs.Clients.{Doing, Past, Client}
+use Rattle.client_model.specs.meaning.Terms.{Terms}
+use Rattle.world_model.specs.meaning.Clients.{Doing, Past, Client}
 use Rattle.world_model.specs.records.Conversing.{AreThrough, IsThrough}
 use Rattle.shown_laws.specs.ByPlace.{RequestSteps, over_so, doing_so, requests_by_place}
 use Rattle.shown_laws.proofs.Places.{get_front, get_map}

@@ -10,12 +10,12 @@ use Rattle.svc_values.specs.declared.call.Call.{Call}
 use Rattle.svc_values.specs.declared.draw.Draw.{Draw}
 use Rattle.svc_values.specs.declared.frame.Up.{Up}
 use Rattle.svc_values.specs.declared.frame.Up.TheVariants as up
-use Rattle.svc_values.specs.Same.{same_call}
+use Rattle.svc_values.specs.meaning.Same.{same_call}
 use Rattle.svc_values.specs.SameLaws.{same_call_decides}
-use Rattle.shown_clauses.specs.Fronts.{front_of, front_from, rest_of, rest_from}
-use Rattle.shown_clauses.specs.Links.{Marked}
-use Rattle.shown_clauses.specs.Turns.{is_marked as has_mark, begins_with, fits_from}
-use Rattle.world_model.specs.Frames.{Sent}
+use Rattle.shown_clauses.specs.meaning.Fronts.{front_of, front_from, rest_of, rest_from}
+use Rattle.shown_clauses.specs.meaning.Links.{Marked}
+use Rattle.shown_clauses.specs.meaning.Turns.{is_marked as has_mark, begins_with, fits_from}
+use Rattle.world_model.specs.meaning.Frames.{Sent}
 use Rattle.invariant_laws.specs.NearCalls.{is_shown_or_next}
 use Rattle.world_model.specs.Parts.{implies, is_unmarked, is_unmarked_frame}
 use Rattle.world_model.specs.records.Script.{recorded_from}

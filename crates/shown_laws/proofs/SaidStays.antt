@@ -4,13 +4,13 @@ use Rattle.std.specs.List.{list_any}
 use Rattle.svc_values.specs.declared.frame.Down.{Down}
 use Rattle.svc_values.specs.declared.frame.Up.{Up}
 use Rattle.outage_schedule.specs.declared.item.Served.{Served}
-use Rattle.world_model.specs.Acting.{sent_by}
-use Rattle.world_model.specs.Crashing.{fallen_link}
-use Rattle.world_model.specs.Cutting.{cut_link, reaped_link}
-use Rattle.world_model.specs.Frames.{Owner, Sent}
-use Rattle.world_model.specs.Links.{Link, link_at, with_link, changed, is_close, ends, sends}
-use Rattle.world_model.specs.Outside.{closed_by_drain}
-use Rattle.world_model.specs.Serving.{Front, is_blocked, reply_of, commits_after, after_front, handled}
+use Rattle.world_model.specs.meaning.Acting.{sent_by}
+use Rattle.world_model.specs.meaning.Crashing.{fallen_link}
+use Rattle.world_model.specs.meaning.Cutting.{cut_link, reaped_link}
+use Rattle.world_model.specs.meaning.Frames.{Owner, Sent}
+use Rattle.world_model.specs.meaning.Links.{Link, link_at, with_link, changed, is_close, ends, sends}
+use Rattle.world_model.specs.meaning.Outside.{closed_by_drain}
+use Rattle.world_model.specs.meaning.Serving.{Front, is_blocked, reply_of, commits_after, after_front, handled}
 use Rattle.invariant_laws.specs.UnservedBegins.{last_owner}
 use Rattle.invariant_laws.proofs.Offered.{moves, last_more, stays_own}
 use Rattle.shown_laws.specs.TurnOwners.{said_of}

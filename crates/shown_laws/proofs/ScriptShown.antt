@@ -10,24 +10,24 @@ use Rattle.svc_values.specs.declared.answer.Answer.{Answer}
 use Rattle.svc_values.specs.declared.call.Call.{Call}
 use Rattle.svc_values.specs.declared.draw.Draw.{Draw}
 use Rattle.svc_values.specs.declared.frame.Down.{Down}
-use Rattle.svc_values.specs.Same.{same_call}
+use Rattle.svc_values.specs.meaning.Same.{same_call}
 use Rattle.svc_values.specs.SameLaws.{same_call_decides}
 use Rattle.client_model.proofs.Offered.{Fits}
-use Rattle.client_model.specs.Account.{Account, account_of}
-use Rattle.client_model.specs.States.{Asking, Living}
-use Rattle.client_model.specs.Terms.{Phase, Asked, Running}
+use Rattle.client_model.specs.meaning.Account.{Account, account_of}
+use Rattle.client_model.specs.meaning.States.{Asking, Living}
+use Rattle.client_model.specs.meaning.Terms.{Phase, Asked, Running}
 use Rattle.client_model.specs.declared.act.Shown.{Shown}
 use Rattle.outage_schedule.specs.declared.document.Request.{Request}
 use Rattle.outage_schedule.specs.declared.item.Item.{Item}
 use Rattle.outage_schedule.specs.declared.item.Item.TheVariants as item
 use Rattle.outage_schedule.specs.declared.item.Served.{Served}
-use Rattle.shown_clauses.specs.Showings.{is_showing, showing_of, showing_at, showings}
-use Rattle.shown_clauses.specs.Steps.{Step as StepTold}
-use Rattle.world_model.specs.Clients.{Step, Doing, Client, client_at}
+use Rattle.shown_clauses.specs.meaning.Showings.{is_showing, showing_of, showing_at, showings}
+use Rattle.shown_clauses.specs.meaning.Steps.{Step as StepTold}
+use Rattle.world_model.specs.meaning.Clients.{Step, Doing, Client, client_at}
 use Rattle.world_model.specs.records.Conversing.{IsTalking, Talks}
 use Rattle.invariant_laws.specs.Invariant.{Invariant}
-use Rattle.world_model.specs.Links.{Link, link_at}
-use Rattle.world_model.specs.Settings.{Setting}
+use Rattle.world_model.specs.meaning.Links.{Link, link_at}
+use Rattle.world_model.specs.meaning.Settings.{Setting}
 use Rattle.world_model.specs.Traced.{Traced}
 use Rattle.world_model.specs.Words.{dones_of}
 use Rattle.shown_laws.specs.ClientSteps.{TellsReply, TellsKind}

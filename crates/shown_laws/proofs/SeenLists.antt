@@ -1,8 +1,8 @@
 -- Connections by their number among those that were seen, where some of these change.
 use Rattle.std.proofs.Common.{◌≡◌, ◌≢◌, refl, sym, ap, ◌∙◌, Bool, true, false, ℕ, List, [], ◌∷◌, map, Option, Some, None, option_map, if◌then◌else◌}
 use Rattle.std.specs.Prelude.{◌==◌}
-use Rattle.shown_clauses.specs.Fronts.{first_of, first_from, changed_if, with_changed}
-use Rattle.shown_clauses.specs.Links.{Link, is_link, link_of}
+use Rattle.shown_clauses.specs.meaning.Fronts.{first_of, first_from, changed_if, with_changed}
+use Rattle.shown_clauses.specs.meaning.Links.{Link, is_link, link_of}
 use Rattle.shown_laws.proofs.Lookups.{eq_from, eq_to, ne_to}
 
 -- the first of a list, or that of the rest

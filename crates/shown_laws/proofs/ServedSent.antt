@@ -7,14 +7,14 @@ use Rattle.svc_values.specs.declared.call.Call.{Call}
 use Rattle.svc_values.specs.declared.draw.Draw.{Draw}
 use Rattle.svc_values.specs.declared.frame.Up.{Up}
 use Rattle.svc_values.specs.declared.frame.Up.TheVariants as up
-use Rattle.svc_values.specs.Same.{same_bool, same_call}
+use Rattle.svc_values.specs.meaning.Same.{same_bool, same_call}
 use Rattle.svc_values.specs.SameLaws.{same_call_decides}
 use Rattle.outage_schedule.specs.declared.item.Item.{Item}
 use Rattle.outage_schedule.specs.declared.item.Item.TheVariants as item
-use Rattle.shown_clauses.specs.Links.{Marked}
-use Rattle.world_model.specs.Crashing.{is_crashed_item}
-use Rattle.world_model.specs.Frames.{Sent, Handled}
-use Rattle.world_model.specs.Serving.{is_blocked, is_item_of, reply_of}
+use Rattle.shown_clauses.specs.meaning.Links.{Marked}
+use Rattle.world_model.specs.meaning.Crashing.{is_crashed_item}
+use Rattle.world_model.specs.meaning.Frames.{Sent, Handled}
+use Rattle.world_model.specs.meaning.Serving.{is_blocked, is_item_of, reply_of}
 use Rattle.invariant_laws.specs.Shown.{is_marked}
 use Rattle.world_model.specs.records.Wire.{counted_with, handled_from, is_handled, same_replies}
 use Rattle.shown_laws.specs.ServedSent.{none_blocked, ServesItsFrames}

@@ -2,20 +2,20 @@
 use Rattle.std.proofs.Common.{◌≡◌, ◌≢◌, refl, sym, ap, ◌∙◌, Bool, true, false, ℕ, ◌+◌, length, List, [], ◌∷◌, ◌++◌, map, fold, Option, Some, None, option_map, ◌⊎◌, inl, inr, if◌then◌else◌}
 use Rattle.std.specs.Prelude.{unwrap_or}
 use Rattle.std.specs.List.{list_any}
-use Rattle.pool_core.specs.Slots.{after_take}
+use Rattle.pool_core.specs.meaning.Slots.{after_take}
 use Rattle.client_model.specs.declared.input.Input.{Input}
 use Rattle.client_model.specs.declared.input.Input.TheVariants.{Waiting, Lent, Opened, TryFailed, Took, Gone}
 use Rattle.outage_schedule.specs.declared.note.GoNote.{GoNote}
-use Rattle.world_model.specs.Acting.{act_at, call_in, connection_of, frames_of, loses, owner_at, sent_by, steps}
-use Rattle.world_model.specs.Clients.{Doing, doing_at, heard}
-use Rattle.world_model.specs.Crashing.{fallen_link}
-use Rattle.world_model.specs.Cutting.{cut_link, reaped_link}
-use Rattle.world_model.specs.Frames.{Sent, Handled}
-use Rattle.world_model.specs.Going.{lost_at_once, unless_open}
-use Rattle.world_model.specs.Links.{Link, new_link, link_at, with_link, changed, is_close, ends, sends, takes}
-use Rattle.world_model.specs.Machines.{Machine}
-use Rattle.world_model.specs.Outside.{closed_by_drain}
-use Rattle.world_model.specs.Settings.{Setting}
+use Rattle.world_model.specs.meaning.Acting.{act_at, call_in, connection_of, frames_of, loses, owner_at, sent_by, steps}
+use Rattle.world_model.specs.meaning.Clients.{Doing, doing_at, heard}
+use Rattle.world_model.specs.meaning.Crashing.{fallen_link}
+use Rattle.world_model.specs.meaning.Cutting.{cut_link, reaped_link}
+use Rattle.world_model.specs.meaning.Frames.{Sent, Handled}
+use Rattle.world_model.specs.meaning.Going.{lost_at_once, unless_open}
+use Rattle.world_model.specs.meaning.Links.{Link, new_link, link_at, with_link, changed, is_close, ends, sends, takes}
+use Rattle.world_model.specs.meaning.Machines.{Machine}
+use Rattle.world_model.specs.meaning.Outside.{closed_by_drain}
+use Rattle.world_model.specs.meaning.Settings.{Setting}
 use Rattle.shown_laws.specs.TurnsServed.{served_in}
 use Rattle.shown_laws.proofs.GoNotes.{GoesAs, Idles, Rests, Waits, Lends, Opens, Fails, Takes, Loses, next_number, taking, with_new, with_pool}
 use Rattle.shown_laws.proofs.LinksSame.{SameRead, one_same, with_same, each_same, drained_same}

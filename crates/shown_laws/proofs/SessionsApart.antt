@@ -4,11 +4,11 @@ use Rattle.std.specs.Prelude.{not, slice_get, is_some, is_none}
 use Rattle.std.specs.List.{list_all, cons_option}
 use Rattle.std.proofs.lemmas.Bool.{and_parts, not-true, or_right}
 use Rattle.svc_values.specs.declared.entry.SessionId.{SessionId}
-use Rattle.svc_values.specs.Identifiers.{same_session}
-use Rattle.svc_values.specs.Same.{same_bool}
+use Rattle.svc_values.specs.meaning.Identifiers.{same_session}
+use Rattle.svc_values.specs.meaning.Same.{same_bool}
 use Rattle.svc_values.specs.SameLaws.{same_session_decides}
 use Rattle.world_model.specs.records.Basic.{at_most, ends_rightly, first_is_connect, is_named}
-use Rattle.world_model.specs.Links.{Link, link_at}
+use Rattle.world_model.specs.meaning.Links.{Link, link_at}
 use Rattle.world_model.specs.Parts.{is_closed, implies}
 use Rattle.world_model.specs.Sames.{all_with, each_pair}
 use Rattle.world_model.specs.Traced.{Traced}

@@ -8,23 +8,23 @@ use Rattle.svc_values.specs.declared.entry.Ltxid.{Ltxid}
 use Rattle.svc_values.specs.declared.entry.SessionId.{SessionId}
 use Rattle.svc_values.specs.declared.frame.Down.{Down}
 use Rattle.svc_values.specs.declared.frame.Down.TheVariants as down
-use Rattle.svc_values.specs.Identifiers.{session_of}
+use Rattle.svc_values.specs.meaning.Identifiers.{session_of}
 use Rattle.svc_values.specs.SameLaws.{same_ltxid_decides}
-use Rattle.client_model.specs.Conversation.{Done}
+use Rattle.client_model.specs.meaning.Conversation.{Done}
 use Rattle.client_model.specs.declared.input.Input.TheVariants.{Took}
-use Rattle.run_clauses.specs.Reports.{reached}
+use Rattle.run_clauses.specs.meaning.Reports.{reached}
 use Rattle.outage_schedule.specs.declared.item.Item.{Item}
 use Rattle.outage_schedule.specs.declared.item.Item.TheVariants as item
 use Rattle.outage_schedule.specs.declared.note.AskResult.TheVariants as told
 use Rattle.outage_schedule.specs.declared.note.GoNote.{GoNote}
 use Rattle.outage_schedule.specs.declared.document.Request.{Request}
-use Rattle.shown_clauses.specs.Links.{is_connect, is_hello}
-use Rattle.shown_clauses.specs.Parts.{is_lent}
-use Rattle.shown_clauses.specs.Steps.{Step as StepTold}
-use Rattle.world_model.specs.Clients.{Step, Doing, Client}
-use Rattle.world_model.specs.Links.{Link}
-use Rattle.world_model.specs.Serving.{identifier, reply_of}
-use Rattle.world_model.specs.Settings.{Setting}
+use Rattle.shown_clauses.specs.meaning.Links.{is_connect, is_hello}
+use Rattle.shown_clauses.specs.meaning.Parts.{is_lent}
+use Rattle.shown_clauses.specs.meaning.Steps.{Step as StepTold}
+use Rattle.world_model.specs.meaning.Clients.{Step, Doing, Client}
+use Rattle.world_model.specs.meaning.Links.{Link}
+use Rattle.world_model.specs.meaning.Serving.{identifier, reply_of}
+use Rattle.world_model.specs.meaning.Settings.{Setting}
 use Rattle.world_model.specs.Traced.{Traced}
 use Rattle.world_model.specs.records.Wire.{same_replies}
 use Rattle.world_model.specs.Words.{dones_of}

@@ -13,21 +13,21 @@ use Rattle.outage_schedule.specs.declared.item.Item.TheVariants as item
 use Rattle.outage_schedule.specs.declared.note.GoNote.{GoNote}
 use Rattle.outage_schedule.specs.declared.note.GoNote.TheVariants as go
 use Rattle.pool_core.specs.declared.answers.Back.{Back}
-use Rattle.pool_core.specs.Slots.{Slots, after_take, give_back_answer}
+use Rattle.pool_core.specs.meaning.Slots.{Slots, after_take, give_back_answer}
 use Rattle.client_model.specs.declared.input.Input.{Input}
 use Rattle.client_model.specs.declared.input.Input.TheVariants.{Waiting, Lent, Opened, TryFailed, Took}
-use Rattle.client_model.specs.Talk.{next_call, sends_or_ends, begin_of, talk_step}
-use Rattle.client_model.specs.Terms.{Terms, Talk, unsubmitted}
-use Rattle.shown_clauses.specs.Links.{Acquired, Seen, is_connect}
-use Rattle.world_model.specs.Acting.{sent_by, owner_at, call_in, act_at, connection_of, frames_of, steps, loses}
-use Rattle.world_model.specs.Clients.{Doing, Client, client_at, heard}
-use Rattle.world_model.specs.Frames.{Owner, Sent, Reply}
+use Rattle.client_model.specs.meaning.Talk.{next_call, sends_or_ends, begin_of, talk_step}
+use Rattle.client_model.specs.meaning.Terms.{Terms, Talk, unsubmitted}
+use Rattle.shown_clauses.specs.meaning.Links.{Acquired, Seen, is_connect}
+use Rattle.world_model.specs.meaning.Acting.{sent_by, owner_at, call_in, act_at, connection_of, frames_of, steps, loses}
+use Rattle.world_model.specs.meaning.Clients.{Doing, Client, client_at, heard}
+use Rattle.world_model.specs.meaning.Frames.{Owner, Sent, Reply}
 use Rattle.invariant_laws.specs.Invariant.{Invariant}
-use Rattle.world_model.specs.Links.{Link, new_link, link_at, with_link, changed, sends, takes}
-use Rattle.world_model.specs.Machines.{Machine}
+use Rattle.world_model.specs.meaning.Links.{Link, new_link, link_at, with_link, changed, sends, takes}
+use Rattle.world_model.specs.meaning.Machines.{Machine}
 use Rattle.world_model.specs.Parts.{implies}
 use Rattle.world_model.specs.Sames.{same_owners, same_up}
-use Rattle.world_model.specs.Serving.{is_item_of}
+use Rattle.world_model.specs.meaning.Serving.{is_item_of}
 use Rattle.world_model.specs.Traced.{Traced}
 use Rattle.invariant_laws.specs.UnservedBegins.{last_owner}
 use Rattle.world_model.specs.records.Wire.{New, next_stage, stage_of, is_right, is_fresh}

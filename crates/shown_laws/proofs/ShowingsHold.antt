@@ -7,24 +7,25 @@ use Rattle.std.proofs.lemmas.Bool.{and_from}
 use Rattle.svc_values.specs.declared.answer.Answer.TheVariants as answer
 use Rattle.svc_values.specs.declared.call.Call.{Call}
 use Rattle.svc_values.specs.declared.entry.Ltxid.{Ltxid}
-use Rattle.svc_values.specs.Identifiers.{same_ltxid}
-use Rattle.svc_values.specs.Same.{same_answers, same_bool, same_draws}
+use Rattle.svc_values.specs.meaning.Identifiers.{same_ltxid}
+use Rattle.svc_values.specs.meaning.Same.{same_answers, same_bool, same_draws}
 use Rattle.svc_values.specs.SameLaws.{same_answers_decide, same_bool_decides, same_draws_decide, same_ltxid_decides}
-use Rattle.client_model.specs.Account.{Account, account_of}
+use Rattle.client_model.specs.meaning.Account.{Account, account_of}
 use Rattle.client_model.specs.declared.act.Shown.{Shown}
 use Rattle.outage_schedule.specs.declared.item.Item.{Item}
 use Rattle.outage_schedule.specs.declared.item.Served.{Served}
 use Rattle.outage_schedule.specs.declared.request.Outcome.{Outcome}
 use Rattle.outage_schedule.specs.declared.request.RequestReport.{RequestReport}
 use Rattle.outage_schedule.specs.declared.request.ShownCall.{ShownCall}
-use Rattle.run_clauses.specs.Reports.{shown_call}
-use Rattle.shown_clauses.specs.Fronts.{is_empty}
-use Rattle.shown_clauses.specs.Parts.{Part}
-use Rattle.shown_clauses.specs.Showings.{outcome_at, outcome_told, same_outcome, has_its_outcomes, showing_at, showing_of, is_showing, showings, shown_with, shown_calls, tried_by_call, is_shown_by, has_its_showings}
-use Rattle.shown_clauses.specs.Steps.{Step as StepTold}
-use Rattle.shown_clauses.specs.Submissions.{Submission}
-use Rattle.world_model.specs.Clients.{Past}
-use Rattle.world_model.specs.Settings.{Setting}
+use Rattle.run_clauses.specs.meaning.Reports.{shown_call}
+use Rattle.shown_clauses.specs.meaning.Fronts.{is_empty}
+use Rattle.shown_clauses.specs.meaning.Parts.{Part}
+use Rattle.shown_clauses.specs.meaning.Showings.{outcome_at, outcome_told, same_outcome, showing_at, showing_of, is_showing, showings, shown_with, shown_calls, tried_by_call, is_shown_by, has_its_showings}
+use Rattle.shown_clauses.specs.Showings.{has_its_outcomes}
+use Rattle.shown_clauses.specs.meaning.Steps.{Step as StepTold}
+use Rattle.shown_clauses.specs.meaning.Submissions.{Submission}
+use Rattle.world_model.specs.meaning.Clients.{Past}
+use Rattle.world_model.specs.meaning.Settings.{Setting}
 use Rattle.world_model.specs.Words.{dones_of}
 use Rattle.shown_laws.specs.PartsTold.{IsQuiet, OutcomesAreTaken, CallsAreShown}
 use Rattle.shown_laws.specs.ShowingsTold.{ShownBy, ByReply, ByOutcome, AreShownBy, NoneShown, OneShown}

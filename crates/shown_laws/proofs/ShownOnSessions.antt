@@ -11,26 +11,26 @@ use Rattle.svc_values.specs.declared.entry.Ltxid.{Ltxid}
 use Rattle.svc_values.specs.declared.entry.SessionId.{SessionId}
 use Rattle.svc_values.specs.declared.frame.Down.{Down}
 use Rattle.svc_values.specs.declared.frame.Down.TheVariants as down
-use Rattle.svc_values.specs.Identifiers.{same_session, session_of}
+use Rattle.svc_values.specs.meaning.Identifiers.{same_session, session_of}
 use Rattle.svc_values.specs.SameLaws.{same_ltxid_decides}
 use Rattle.client_model.proofs.Offered.{Fits}
-use Rattle.client_model.specs.Account.{Account, after_step, account_of}
-use Rattle.client_model.specs.Terms.{Terms, Phase, Asked, Running, Replaying}
+use Rattle.client_model.specs.meaning.Account.{Account, after_step, account_of}
+use Rattle.client_model.specs.meaning.Terms.{Terms, Phase, Asked, Running, Replaying}
 use Rattle.client_model.specs.declared.input.Input.{Input}
 use Rattle.client_model.specs.declared.input.Input.TheVariants.{Waiting, Lent, Opened, TryFailed, Took, Gone}
 use Rattle.outage_schedule.specs.declared.item.Item.{Item}
 use Rattle.outage_schedule.specs.declared.item.Served.{Served}
 use Rattle.outage_schedule.specs.declared.note.AskResult.{AskResult}
 use Rattle.outage_schedule.specs.declared.note.AskResult.TheVariants as told
-use Rattle.shown_clauses.specs.Showings.{is_showing, showing_of, showing_at}
-use Rattle.shown_clauses.specs.Steps.{Step as StepTold}
+use Rattle.shown_clauses.specs.meaning.Showings.{is_showing, showing_of, showing_at}
+use Rattle.shown_clauses.specs.meaning.Steps.{Step as StepTold}
 use Rattle.world_model.specs.records.Basic.{is_named}
-use Rattle.world_model.specs.Clients.{Step, Doing, Client, client_at}
+use Rattle.world_model.specs.meaning.Clients.{Step, Doing, Client, client_at}
 use Rattle.world_model.specs.records.Conversing.{IsTalking}
 use Rattle.world_model.specs.records.Hold.{goes_by, same_held, is_by_held}
 use Rattle.invariant_laws.specs.Invariant.{Invariant}
-use Rattle.world_model.specs.Links.{Link, link_at}
-use Rattle.world_model.specs.Serving.{identifier, outcome_frame}
+use Rattle.world_model.specs.meaning.Links.{Link, link_at}
+use Rattle.world_model.specs.meaning.Serving.{identifier, outcome_frame}
 use Rattle.world_model.specs.Traced.{Traced}
 use Rattle.world_model.specs.Words.{dones_of}
 use Rattle.shown_laws.specs.ClientSteps.{now_at, after_now, ended_at, GoneBehind, GoesOn, IsOver, IsGone, TellsKind, Rested, FoundNone, Waited, WasLent, HasOpened, HasFailed, HasTaken, HasLost}

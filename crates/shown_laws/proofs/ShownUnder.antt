@@ -11,7 +11,7 @@ use Rattle.svc_values.specs.declared.frame.Ahead.TheVariants as ahead
 use Rattle.svc_values.specs.declared.frame.Down.{Down}
 use Rattle.svc_values.specs.declared.frame.Down.TheVariants as down
 use Rattle.svc_values.specs.declared.frame.Up.{Up}
-use Rattle.svc_values.specs.Identifiers.{same_ltxid}
+use Rattle.svc_values.specs.meaning.Identifiers.{same_ltxid}
 use Rattle.call_recorder.specs.declared.recorded.Recorded.{Recorded}
 use Rattle.request_bounds.specs.declared.rule.Why.{Why}
 use Rattle.request_bounds.specs.declared.rule.Why.TheVariants as why
@@ -19,12 +19,12 @@ use Rattle.client_model.specs.declared.act.Failed.TheVariants.{Disabled}
 use Rattle.client_model.specs.declared.act.Shown.{Shown}
 use Rattle.client_model.specs.declared.track.Mismatch.{Mismatch}
 use Rattle.client_model.specs.declared.track.Over.{Over}
-use Rattle.client_model.specs.States.{Living, Losing, Asking, Repeating, resumed, next_of}
-use Rattle.client_model.specs.Talk.{fails, begin_of, sends_call, sends_or_ends, next_call, goes_on, talk_shown, with_shown, on_hello, on_reply, sends_marked, repeats, on_compared, on_repeated, after_completed, on_completed, on_told, takes}
-use Rattle.client_model.specs.Terms.{Terms, Talk, Phase, Greeting, Asked, Running, Replaying, unsubmitted}
-use Rattle.client_model.specs.Told as told
-use Rattle.client_model.specs.Told.{completed_on, is_late, uncommitted, told_of, over, repeated}
-use Rattle.client_model.specs.Verifying.{compared, submitted}
+use Rattle.client_model.specs.meaning.States.{Living, Losing, Asking, Repeating, resumed, next_of}
+use Rattle.client_model.specs.meaning.Talk.{fails, begin_of, sends_call, sends_or_ends, next_call, goes_on, talk_shown, with_shown, on_hello, on_reply, sends_marked, repeats, on_compared, on_repeated, after_completed, on_completed, on_told, takes}
+use Rattle.client_model.specs.meaning.Terms.{Terms, Talk, Phase, Greeting, Asked, Running, Replaying, unsubmitted}
+use Rattle.client_model.specs.meaning.Told as told
+use Rattle.client_model.specs.meaning.Told.{completed_on, is_late, uncommitted, told_of, over, repeated}
+use Rattle.client_model.specs.meaning.Verifying.{compared, submitted}
 
 -- a call that is shown, if one is, has this identifier
 abbrev pub is_under : Ltxid → Option Shown → Bool

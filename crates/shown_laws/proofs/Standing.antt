@@ -2,12 +2,12 @@
 use Rattle.std.proofs.Common.{◌≡◌, sym, ap, ◌∙◌, true, ℕ, Some, None}
 use Rattle.std.proofs.lemmas.Bool.{and_parts}
 use Rattle.pool_core.specs.declared.answers.Take.TheVariants as take
-use Rattle.pool_core.specs.Slots.{take_answer, after_take}
+use Rattle.pool_core.specs.meaning.Slots.{take_answer, after_take}
 use Rattle.world_model.specs.records.Basic.{ends_rightly, is_named}
 use Rattle.world_model.specs.records.Hold.{is_connect}
 use Rattle.invariant_laws.specs.Invariant.{Invariant}
-use Rattle.world_model.specs.Links.{Link, link_at}
-use Rattle.world_model.specs.Serving.{Front, front_at}
+use Rattle.world_model.specs.meaning.Links.{Link, link_at}
+use Rattle.world_model.specs.meaning.Serving.{Front, front_at}
 use Rattle.world_model.specs.Traced.{Traced}
 use Rattle.world_model.specs.records.Wire.{is_sent_front, stage_of, is_right}
 use Rattle.world_model.proofs.Offered.{connect_first, IsLent, is_lent, dead_sends_none, idle_open_once}

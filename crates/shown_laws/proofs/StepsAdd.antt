@@ -8,24 +8,24 @@ use Rattle.svc_values.specs.declared.frame.Down.{Down}
 use Rattle.svc_values.specs.declared.frame.Down.TheVariants as down
 use Rattle.svc_values.specs.declared.frame.Up.{Up}
 use Rattle.svc_values.specs.declared.frame.Up.TheVariants as up
-use Rattle.client_model.specs.Account.{Account, Outcome as Heard, after_step}
-use Rattle.client_model.specs.Conversation.{Done, done_at}
+use Rattle.client_model.specs.meaning.Account.{Account, Outcome as Heard, after_step}
+use Rattle.client_model.specs.meaning.Conversation.{Done, done_at}
 use Rattle.client_model.specs.declared.act.Shown.{Shown}
 use Rattle.client_model.specs.declared.input.Input.TheVariants.{Waiting, Lent, Opened, TryFailed, Took, Gone}
-use Rattle.client_model.specs.States.{Asking}
-use Rattle.client_model.specs.Talk.{next_call, takes}
-use Rattle.client_model.specs.Terms.{Terms, Talk, Phase, Greeting, Asked, Running, Replaying}
+use Rattle.client_model.specs.meaning.States.{Asking}
+use Rattle.client_model.specs.meaning.Talk.{next_call, takes}
+use Rattle.client_model.specs.meaning.Terms.{Terms, Talk, Phase, Greeting, Asked, Running, Replaying}
 use Rattle.outage_schedule.specs.declared.item.Item.{Item}
 use Rattle.outage_schedule.specs.declared.item.Item.TheVariants as item
 use Rattle.outage_schedule.specs.declared.item.Served.{Served}
 use Rattle.outage_schedule.specs.declared.note.AskResult.{AskResult}
 use Rattle.outage_schedule.specs.declared.note.AskResult.TheVariants as told
-use Rattle.run_clauses.specs.Reports.{told_outcome}
-use Rattle.shown_clauses.specs.Showings.{shown_answers, is_showing, showing_of, showing_at, outcome_told, outcome_at}
-use Rattle.shown_clauses.specs.Steps.{Step as StepTold}
-use Rattle.world_model.specs.Clients.{Step, Doing}
-use Rattle.world_model.specs.Links.{Link}
-use Rattle.world_model.specs.Serving.{identifier, outcome_frame}
+use Rattle.run_clauses.specs.meaning.Reports.{told_outcome}
+use Rattle.shown_clauses.specs.meaning.Showings.{shown_answers, is_showing, showing_of, showing_at, outcome_told, outcome_at}
+use Rattle.shown_clauses.specs.meaning.Steps.{Step as StepTold}
+use Rattle.world_model.specs.meaning.Clients.{Step, Doing}
+use Rattle.world_model.specs.meaning.Links.{Link}
+use Rattle.world_model.specs.meaning.Serving.{identifier, outcome_frame}
 use Rattle.world_model.specs.Traced.{Traced}
 use Rattle.world_model.specs.Words.{dones_of}
 use Rattle.shown_laws.specs.ClientSteps.{now_at, after_now, ended_at, GoneBehind, GoesOn, IsOver, IsGone, TellsKind, Rested, FoundNone, Waited, WasLent, HasOpened, HasFailed, HasTaken, HasLost}

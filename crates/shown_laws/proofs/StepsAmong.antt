@@ -2,7 +2,7 @@
 use Rattle.std.proofs.Common.{◌≡◌, refl, sym, ap, subst, ◌∙◌, Bool, true, false, ℕ, ◌<◌, List, [], ◌∷◌, ◌++◌, filter, ◌⊎◌, inl, inr, if◌then◌else◌, arith}
 use Rattle.std.specs.List.{list_any}
 use Rattle.std.proofs.lemmas.Bool.{or_cases}
-use Rattle.shown_clauses.specs.Steps.{Step}
+use Rattle.shown_clauses.specs.meaning.Steps.{Step}
 use Rattle.shown_laws.proofs.ToldRise.{AllAfter, Rise}
 
 abbrev pub IsAmong : {A : Type 0} → A → List A → Type 0

@@ -11,16 +11,16 @@ use Rattle.client_model.specs.declared.input.Input.TheVariants.{Start, Waiting, 
 use Rattle.client_model.specs.declared.input.Wants.{Wants}
 use Rattle.client_model.specs.declared.input.Wants.TheVariants as wants
 use Rattle.client_model.specs.Conversation.{is_gone_next}
-use Rattle.client_model.specs.Talk.{talk_step, wants_of}
-use Rattle.client_model.specs.Terms.{Talk}
+use Rattle.client_model.specs.meaning.Talk.{talk_step, wants_of}
+use Rattle.client_model.specs.meaning.Terms.{Talk}
 use Rattle.outage_schedule.specs.declared.document.Request.{Request}
-use Rattle.shown_clauses.specs.Causes.{is_had}
-use Rattle.shown_clauses.specs.Steps.{Step as StepTold}
-use Rattle.world_model.specs.Clients.{Step, Doing, Client, client_at, begun}
+use Rattle.shown_clauses.specs.meaning.Causes.{is_had}
+use Rattle.shown_clauses.specs.meaning.Steps.{Step as StepTold}
+use Rattle.world_model.specs.meaning.Clients.{Step, Doing, Client, client_at, begun}
 use Rattle.world_model.specs.records.Conversing.{inputs_of, Talks}
 use Rattle.invariant_laws.specs.Invariant.{Invariant}
-use Rattle.world_model.specs.Links.{Link}
-use Rattle.world_model.specs.Settings.{Setting}
+use Rattle.world_model.specs.meaning.Links.{Link}
+use Rattle.world_model.specs.meaning.Settings.{Setting}
 use Rattle.world_model.specs.Traced.{Traced}
 use Rattle.world_model.specs.Words.{held_in}
 use Rattle.caused_laws.specs.Telling.{ToldStep, Before, first_talk, talk_of, act_at, begun_with, SentBy, loss_behind, TellsBy, Tells}

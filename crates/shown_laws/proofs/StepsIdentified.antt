@@ -8,15 +8,15 @@ use Rattle.svc_values.specs.declared.entry.Ltxid.{Ltxid}
 use Rattle.svc_values.specs.declared.frame.Down.{Down}
 use Rattle.svc_values.specs.declared.frame.Down.TheVariants as down
 use Rattle.client_model.specs.declared.input.Input.TheVariants.{Took}
-use Rattle.client_model.specs.Terms.{Phase, Asked}
+use Rattle.client_model.specs.meaning.Terms.{Phase, Asked}
 use Rattle.outage_schedule.specs.declared.document.Document.{Document}
 use Rattle.outage_schedule.specs.declared.document.Request.{Request}
 use Rattle.outage_schedule.specs.declared.item.Served.{Served}
 use Rattle.outage_schedule.specs.declared.report.Report.{Report}
-use Rattle.world_model.specs.Clients.{Step, Doing, Client}
+use Rattle.world_model.specs.meaning.Clients.{Step, Doing, Client}
 use Rattle.run_laws.specs.EntryCounts.{stored_by, are_counted}
-use Rattle.world_model.specs.Links.{Link, link_at}
-use Rattle.world_model.specs.Settings.{Setting}
+use Rattle.world_model.specs.meaning.Links.{Link, link_at}
+use Rattle.world_model.specs.meaning.Settings.{Setting}
 use Rattle.world_model.specs.Traced.{Traced}
 use Rattle.world_model.specs.records.Wire.{counted_with}
 use Rattle.world_model.proofs.Offered.{commits_behind}

@@ -4,10 +4,10 @@ use Rattle.std.specs.Prelude.{slice_get}
 use Rattle.std.proofs.lemmas.Bool.{or_left, or_right}
 use Rattle.std.proofs.lemmas.List.Folds.{list_any-append}
 use Rattle.outage_schedule.specs.declared.note.GoNote.{GoNote}
-use Rattle.shown_clauses.specs.Links.{Acquired, Seen}
-use Rattle.world_model.specs.Clients.{Client}
-use Rattle.world_model.specs.Frames.{Owner}
-use Rattle.world_model.specs.Machines.{Machine}
+use Rattle.shown_clauses.specs.meaning.Links.{Acquired, Seen}
+use Rattle.world_model.specs.meaning.Clients.{Client}
+use Rattle.world_model.specs.meaning.Frames.{Owner}
+use Rattle.world_model.specs.meaning.Machines.{Machine}
 use Rattle.world_model.specs.Traced.{Traced}
 use Rattle.shown_laws.specs.ByPlace.{RequestSteps, doing_so, requests_by_place, IsRequestOf}
 use Rattle.shown_laws.specs.RequestsGrow.{GoesOnAs}

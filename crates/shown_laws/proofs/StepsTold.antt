@@ -7,11 +7,11 @@ use Rattle.std.proofs.lemmas.Bool.{and_parts, or_cases, or_left, or_right}
 use Rattle.std.proofs.lemmas.List.{length_push}
 use Rattle.svc_values.specs.declared.entry.Ltxid.{Ltxid}
 use Rattle.svc_values.specs.declared.frame.Up.TheVariants as up
-use Rattle.svc_values.specs.Identifiers.{same_session, session_of}
-use Rattle.svc_values.specs.Same.{same_bool}
+use Rattle.svc_values.specs.meaning.Identifiers.{same_session, session_of}
+use Rattle.svc_values.specs.meaning.Same.{same_bool}
 use Rattle.pool_core.specs.declared.answers.Back.{Back}
 use Rattle.pool_core.specs.declared.answers.Back.TheVariants as back
-use Rattle.pool_core.specs.Slots.{Slots, give_back_answer}
+use Rattle.pool_core.specs.meaning.Slots.{Slots, give_back_answer}
 use Rattle.client_model.specs.declared.act.Act.{Act}
 use Rattle.client_model.specs.declared.act.Hold.{Hold}
 use Rattle.client_model.specs.declared.act.Hold.TheVariants as hold
@@ -22,18 +22,18 @@ use Rattle.outage_schedule.specs.declared.item.Served.{Served}
 use Rattle.outage_schedule.specs.declared.note.GoNote.{GoNote}
 use Rattle.outage_schedule.specs.declared.note.GoNote.TheVariants as go
 use Rattle.outage_schedule.specs.declared.note.Note.TheVariants as note
-use Rattle.shown_clauses.specs.Fronts.{first_item}
-use Rattle.shown_clauses.specs.Links.{Link as SeenLink, Seen, is_connect, is_hello, link_of}
-use Rattle.shown_clauses.specs.Steps.{Step as StepTold, reply_at, greeted, asked_of, lost_at, step_at as told_at_step, steps_at}
-use Rattle.world_model.specs.Acting.{closing, frames_of, steps}
+use Rattle.shown_clauses.specs.meaning.Fronts.{first_item}
+use Rattle.shown_clauses.specs.meaning.Links.{Link as SeenLink, Seen, is_connect, is_hello, link_of}
+use Rattle.shown_clauses.specs.meaning.Steps.{Step as StepTold, reply_at, greeted, asked_of, lost_at, step_at as told_at_step, steps_at}
+use Rattle.world_model.specs.meaning.Acting.{closing, frames_of, steps}
 use Rattle.world_model.specs.records.Basic.{first_is_connect, is_named}
-use Rattle.world_model.specs.Clients.{Step, Doing, Client, client_at, with_client, step_at, heard, doing_of}
-use Rattle.world_model.specs.Frames.{Reply}
+use Rattle.world_model.specs.meaning.Clients.{Step, Doing, Client, client_at, with_client, step_at, heard, doing_of}
+use Rattle.world_model.specs.meaning.Frames.{Reply}
 use Rattle.world_model.specs.records.Hold.{holds_connection, waits_on, is_held}
 use Rattle.invariant_laws.specs.Invariant.{Invariant}
-use Rattle.world_model.specs.Links.{Link, link_at}
+use Rattle.world_model.specs.meaning.Links.{Link, link_at}
 use Rattle.invariant_laws.specs.Lost.{without_last, has_last, lost_links, one_pending, wants_lost}
-use Rattle.world_model.specs.Machines.{Machine}
+use Rattle.world_model.specs.meaning.Machines.{Machine}
 use Rattle.world_model.specs.Parts.{is_closed, implies}
 use Rattle.world_model.specs.Words.{held_in}
 use Rattle.world_model.specs.Traced.{Traced, Course, course_now}

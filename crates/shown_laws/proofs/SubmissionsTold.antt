@@ -4,9 +4,9 @@ use Rattle.std.specs.Prelude.{not, position, slice_get, option_and_then, flat_ma
 use Rattle.std.proofs.lemmas.List.{map-append}
 use Rattle.outage_schedule.specs.declared.document.Request.{Request}
 use Rattle.outage_schedule.specs.declared.request.RequestReport.{RequestReport}
-use Rattle.run_clauses.specs.Copies.{Copies, is_repeated, with_copy, further_copies, copies_of, are_all_copies, is_over, next_of}
-use Rattle.shown_clauses.specs.Submissions.{Submission, submissions_of}
-use Rattle.world_model.specs.Clients.{Past, reports_of}
+use Rattle.run_clauses.specs.meaning.Copies.{Copies, is_repeated, with_copy, further_copies, copies_of, are_all_copies, is_over, next_of}
+use Rattle.shown_clauses.specs.meaning.Submissions.{Submission, submissions_of}
+use Rattle.world_model.specs.meaning.Clients.{Past, reports_of}
 use Rattle.world_model.proofs.Offered.{counted, position_cons}
 use Rattle.shown_laws.specs.Submitted.{submission_of}
 use Rattle.shown_laws.specs.Tellings.{FollowsFrom}

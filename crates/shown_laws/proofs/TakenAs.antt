@@ -10,17 +10,17 @@ use Rattle.svc_values.specs.declared.frame.Down.{Down}
 use Rattle.svc_values.specs.declared.frame.Down.TheVariants as down
 use Rattle.svc_values.specs.declared.frame.Up.{Up}
 use Rattle.svc_values.specs.declared.frame.Up.TheVariants as up
-use Rattle.svc_values.specs.Same.{same_bool}
+use Rattle.svc_values.specs.meaning.Same.{same_bool}
 use Rattle.svc_values.specs.SameLaws.{same_bool_decides, same_ltxid_decides}
-use Rattle.client_model.specs.States.{Living, Losing, Asking, Repeating}
-use Rattle.client_model.specs.Terms.{Phase, Greeting, Asked, Running, Replaying}
+use Rattle.client_model.specs.meaning.States.{Living, Losing, Asking, Repeating}
+use Rattle.client_model.specs.meaning.Terms.{Phase, Greeting, Asked, Running, Replaying}
 use Rattle.outage_schedule.specs.declared.item.Item.{Item}
 use Rattle.outage_schedule.specs.declared.item.Item.TheVariants as item
 use Rattle.outage_schedule.specs.declared.note.AskResult.{AskResult}
-use Rattle.world_model.specs.Frames.{Sent}
+use Rattle.world_model.specs.meaning.Frames.{Sent}
 use Rattle.world_model.specs.records.Hold.{is_awaited, is_call, is_connect, is_ask}
 use Rattle.world_model.specs.Sames.{same_up, same_sent}
-use Rattle.world_model.specs.Serving.{identifier, is_item_of, outcome_frame, reply_of}
+use Rattle.world_model.specs.meaning.Serving.{identifier, is_item_of, outcome_frame, reply_of}
 use Rattle.world_model.specs.records.Wire.{same_replies}
 use Rattle.shown_laws.proofs.FrameAnswered.{replied_is}
 

@@ -6,25 +6,25 @@ use Rattle.std.specs.Option.{option_map_or}
 use Rattle.std.proofs.lemmas.Bool.{and_parts, and_from}
 use Rattle.svc_values.specs.declared.frame.Down.{Down}
 use Rattle.svc_values.specs.declared.frame.Up.{Up}
-use Rattle.client_model.specs.Account.{Account}
+use Rattle.client_model.specs.meaning.Account.{Account}
 use Rattle.outage_schedule.specs.declared.item.Served.{Served}
-use Rattle.world_model.specs.Clients.{Doing, Client, client_at}
+use Rattle.world_model.specs.meaning.Clients.{Doing, Client, client_at}
 use Rattle.world_model.specs.records.Conversing.{Talks}
-use Rattle.world_model.specs.Frames.{Sent, Handled}
+use Rattle.world_model.specs.meaning.Frames.{Sent, Handled}
 use Rattle.invariant_laws.specs.Invariant.{Invariant}
-use Rattle.world_model.specs.Links.{Link, link_at}
+use Rattle.world_model.specs.meaning.Links.{Link, link_at}
 use Rattle.world_model.specs.Sames.{owned_by, same_owners, same_up}
 use Rattle.invariant_laws.specs.Shown.{is_call, calls_on, in_row, is_scripts, is_current, is_row, rows_on, stands}
 use Rattle.world_model.specs.Traced.{Traced, course_now}
 use Rattle.world_model.specs.Words.{held_in}
 use Rattle.svc_values.specs.declared.entry.Ltxid.{Ltxid}
-use Rattle.client_model.specs.Terms.{Terms, Phase, Idle, Unbegun, Queued, Seeking, Greeting, Asked, Running, Replaying}
+use Rattle.client_model.specs.meaning.Terms.{Terms, Phase, Idle, Unbegun, Queued, Seeking, Greeting, Asked, Running, Replaying}
 use Rattle.client_model.proofs.Offered.{Fits}
 use Rattle.outage_schedule.specs.declared.item.Item.{Item}
 use Rattle.outage_schedule.specs.declared.item.Item.TheVariants as item
-use Rattle.shown_clauses.specs.Causes.{is_had}
-use Rattle.shown_clauses.specs.Links.{Link as Seen}
-use Rattle.shown_clauses.specs.Steps.{Step as StepTold, asked_of}
+use Rattle.shown_clauses.specs.meaning.Causes.{is_had}
+use Rattle.shown_clauses.specs.meaning.Links.{Link as Seen}
+use Rattle.shown_clauses.specs.meaning.Steps.{Step as StepTold, asked_of}
 use Rattle.svc_values.specs.declared.call.Call.{Call}
 use Rattle.world_model.specs.Wanted.{Wanted, wanted_in}
 use Rattle.caused_laws.specs.Telling.{WasLost, LostBy}

@@ -9,10 +9,10 @@ use Rattle.outage_schedule.specs.declared.item.Served.{Served}
 use Rattle.outage_schedule.specs.declared.note.GoNote.{GoNote}
 use Rattle.outage_schedule.specs.declared.note.Note.{Note}
 use Rattle.server_model.specs.Seen.{Seen}
-use Rattle.shown_clauses.specs.Steps.{Step as StepTold}
-use Rattle.shown_clauses.specs.Whole.{takes, took_it, are_taken}
-use Rattle.world_model.specs.Clients.{Step, Doing}
-use Rattle.world_model.specs.Finishing.{Place}
+use Rattle.shown_clauses.specs.meaning.Steps.{Step as StepTold}
+use Rattle.shown_clauses.specs.meaning.Whole.{takes, took_it, are_taken}
+use Rattle.world_model.specs.meaning.Clients.{Step, Doing}
+use Rattle.world_model.specs.meaning.Finishing.{Place}
 use Rattle.invariant_laws.specs.Invariant.{Invariant}
 use Rattle.invariant_laws.specs.KeptLaws.{RunsKeepInvariant, FinishesKeepInvariant}
 use Rattle.world_model.specs.OneEvent.{OneEvent}

@@ -6,7 +6,7 @@ use Rattle.outage_schedule.specs.declared.document.Consistency.TheVariants as co
 use Rattle.outage_schedule.specs.declared.document.Failover.{Failover}
 use Rattle.outage_schedule.specs.declared.document.Failover.TheVariants as failover
 use Rattle.outage_schedule.specs.declared.document.ServiceOf.{ServiceOf}
-use Rattle.world_model.specs.Settings.{rules_of, terms_of}
+use Rattle.world_model.specs.meaning.Settings.{rules_of, terms_of}
 use Rattle.caused_laws.specs.ServiceTerms.{kind_of, AreTermsOf}
 
 -- by its failover and its consistency

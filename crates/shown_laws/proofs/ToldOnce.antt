@@ -11,10 +11,10 @@ use Rattle.outage_schedule.specs.declared.note.GoNote.{GoNote}
 use Rattle.outage_schedule.specs.declared.note.GoNote.TheVariants as go
 use Rattle.outage_schedule.specs.declared.note.Note.{Note}
 use Rattle.outage_schedule.specs.declared.note.Note.TheVariants as note
-use Rattle.shown_clauses.specs.Fronts.{first_of, changed_if, with_changed}
-use Rattle.shown_clauses.specs.Happenings.{Happening}
-use Rattle.shown_clauses.specs.Links.{Link, Seen, is_link, has_session, link_of, new_link, connected, served_on, stopped_connected, stopped_on, end_link, end_session, turn_begun, call_served, in_turn, acquire, linked, after_item, take_reply, after_go, after_note, after_happening}
-use Rattle.world_model.specs.Links.{Link as Connection, link_at}
+use Rattle.shown_clauses.specs.meaning.Fronts.{first_of, changed_if, with_changed}
+use Rattle.shown_clauses.specs.meaning.Happenings.{Happening}
+use Rattle.shown_clauses.specs.meaning.Links.{Link, Seen, is_link, has_session, link_of, new_link, connected, served_on, stopped_connected, stopped_on, end_link, end_session, turn_begun, call_served, in_turn, acquire, linked, after_item, take_reply, after_go, after_note, after_happening}
+use Rattle.world_model.specs.meaning.Links.{Link as Connection, link_at}
 use Rattle.world_model.specs.Sames.{all_with, each_pair}
 use Rattle.shown_laws.specs.Connections.{TellsAt, NoLink, Unnamed, Named, FoundBySession}
 use Rattle.shown_laws.proofs.ConnectionsTold.{AllTold, takes_kept}

@@ -7,10 +7,10 @@ use Rattle.outage_schedule.specs.declared.item.Served.{Served}
 use Rattle.outage_schedule.specs.declared.note.GoNote.TheVariants as go
 use Rattle.outage_schedule.specs.declared.note.Note.{Note}
 use Rattle.outage_schedule.specs.declared.note.Note.TheVariants as note
-use Rattle.shown_clauses.specs.Fronts.{rest_of}
-use Rattle.shown_clauses.specs.Happenings.{Happening, tick_after, is_up_to, items_at, happenings_from}
-use Rattle.shown_clauses.specs.Links.{Seen, nothing_seen, after_happening}
-use Rattle.shown_clauses.specs.Steps.{Step, steps_at, steps_from, steps_of}
+use Rattle.shown_clauses.specs.meaning.Fronts.{rest_of}
+use Rattle.shown_clauses.specs.meaning.Happenings.{Happening, tick_after, is_up_to, items_at, happenings_from}
+use Rattle.shown_clauses.specs.meaning.Links.{Seen, nothing_seen, after_happening}
+use Rattle.shown_clauses.specs.meaning.Steps.{Step, steps_at, steps_from, steps_of}
 use Rattle.shown_laws.specs.Telling.{steps_told}
 use Rattle.shown_laws.proofs.Lookups.{eq_from}
 

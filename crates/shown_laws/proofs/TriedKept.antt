@@ -10,10 +10,10 @@ use Rattle.svc_values.specs.declared.entry.Ltxid.{Ltxid}
 use Rattle.svc_values.specs.declared.frame.Down.TheVariants as down
 use Rattle.svc_values.specs.declared.frame.Up.{Up}
 use Rattle.svc_values.specs.declared.frame.Up.TheVariants as up
-use Rattle.svc_values.specs.Calls.{has_commit}
-use Rattle.svc_values.specs.Endings.{ends_committed}
-use Rattle.svc_values.specs.Identifiers.{same_ltxid}
-use Rattle.svc_values.specs.Same.{same_answers}
+use Rattle.svc_values.specs.meaning.Calls.{has_commit}
+use Rattle.svc_values.specs.meaning.Endings.{ends_committed}
+use Rattle.svc_values.specs.meaning.Identifiers.{same_ltxid}
+use Rattle.svc_values.specs.meaning.Same.{same_answers}
 use Rattle.svc_values.specs.SameLaws.{same_answers_decide}
 use Rattle.client_model.specs.declared.act.Shown.{Shown}
 use Rattle.client_model.specs.declared.input.Input.{Input}
@@ -21,9 +21,9 @@ use Rattle.client_model.specs.declared.input.Input.TheVariants.{Start, Waiting, 
 use Rattle.outage_schedule.specs.declared.request.Outcome.{Outcome}
 use Rattle.outage_schedule.specs.declared.request.ShownCall.{ShownCall}
 use Rattle.run_clauses.specs.Tried.{Sending as Tried, may_have_committed}
-use Rattle.shown_clauses.specs.Showings.{tried_by_call}
-use Rattle.world_model.specs.Clients.{Step}
-use Rattle.world_model.specs.Links.{told_by}
+use Rattle.shown_clauses.specs.meaning.Showings.{tried_by_call}
+use Rattle.world_model.specs.meaning.Clients.{Step}
+use Rattle.world_model.specs.meaning.Links.{told_by}
 use Rattle.invariant_laws.specs.Once.{is_known, is_untold, reverse_onto, shows_at, tells_tried, tried_one}
 use Rattle.world_model.specs.Parts.{Scan, Sending, answered, commit_sendings, scanned, sendings_of, sent_on, with_taken}
 use Rattle.world_model.specs.Traced.{Course}

@@ -7,14 +7,15 @@ use Rattle.std.proofs.lemmas.Bool.{and_parts, and_from, or_cases, or_left, or_ri
 use Rattle.std.proofs.lemmas.Bool.Decides.{nat_tests}
 use Rattle.std.proofs.lemmas.List.Folds.{list_any-append}
 use Rattle.svc_values.specs.declared.entry.Ltxid.{Ltxid}
-use Rattle.svc_values.specs.Endings.{ends_transaction}
-use Rattle.svc_values.specs.Identifiers.{same_ltxid}
+use Rattle.svc_values.specs.meaning.Endings.{ends_transaction}
+use Rattle.svc_values.specs.meaning.Identifiers.{same_ltxid}
 use Rattle.svc_values.specs.SameLaws.{same_ltxid_decides}
 use Rattle.outage_schedule.specs.declared.request.RequestReport.{RequestReport}
 use Rattle.outage_schedule.specs.declared.request.ShownCall.{ShownCall}
-use Rattle.run_clauses.specs.Transactions.{Txn, put_first, txns, with_tried}
-use Rattle.run_clauses.specs.Tried.{Sending, may_have_committed, holds, with_new, tried_among, tried_from, tried_of, is_tried}
-use Rattle.shown_clauses.specs.Showings.{tried_by_call}
+use Rattle.run_clauses.specs.meaning.Transactions.{Txn, put_first, txns, with_tried}
+use Rattle.run_clauses.specs.meaning.Tried.{holds}
+use Rattle.run_clauses.specs.Tried.{Sending, may_have_committed, with_new, tried_among, tried_from, tried_of, is_tried}
+use Rattle.shown_clauses.specs.meaning.Showings.{tried_by_call}
 use Rattle.shown_laws.proofs.Lookups.{eq_from}
 
 -- IDENTIFIERS -------------------------------------------------------------------------------------

@@ -3,12 +3,12 @@ use Rattle.std.proofs.Common.{◌≡◌, refl, sym, ap, ◌∙◌, Bool, true, f
 use Rattle.std.specs.Option.{option_map_or}
 use Rattle.svc_values.specs.declared.call.Call.{Call}
 use Rattle.svc_values.specs.declared.entry.SessionId.{SessionId}
-use Rattle.svc_values.specs.Identifiers.{same_session}
+use Rattle.svc_values.specs.meaning.Identifiers.{same_session}
 use Rattle.outage_schedule.specs.declared.item.Item.{Item}
 use Rattle.outage_schedule.specs.declared.item.Item.TheVariants as item
 use Rattle.outage_schedule.specs.declared.note.GoNote.{GoNote}
-use Rattle.shown_clauses.specs.Fronts.{changed_if, first_item}
-use Rattle.shown_clauses.specs.Links.{Link as Seen, Turn, Marked, has_session, link_of, in_turn, turn_begun, call_served, acquire_if, is_hello, after_go}
+use Rattle.shown_clauses.specs.meaning.Fronts.{changed_if, first_item}
+use Rattle.shown_clauses.specs.meaning.Links.{Link as Seen, Turn, Marked, has_session, link_of, in_turn, turn_begun, call_served, acquire_if, is_hello, after_go}
 use Rattle.shown_laws.specs.TurnsServed.{calls_after, calls_told, told_at}
 use Rattle.shown_laws.proofs.SeenLists.{link_changed}
 use Rattle.shown_laws.proofs.WordsKept.{KeptByEnds, gone_kept}

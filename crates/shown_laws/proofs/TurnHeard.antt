@@ -8,10 +8,10 @@ use Rattle.outage_schedule.specs.declared.item.Item.TheVariants as item
 use Rattle.outage_schedule.specs.declared.item.Served.{Served}
 use Rattle.outage_schedule.specs.declared.note.Note.{Note}
 use Rattle.outage_schedule.specs.declared.note.Note.TheVariants as note
-use Rattle.shown_clauses.specs.Fronts.{changed_if, with_changed, first_item}
-use Rattle.shown_clauses.specs.Happenings.{Happening}
-use Rattle.shown_clauses.specs.Links.{Acquired, Link, Turn, Seen, nothing_seen, has_session, is_hello, link_of, linked, end_session, in_turn, turn_begun, call_served, acquire_if, take_reply, after_item, after_note, after_happening}
-use Rattle.shown_clauses.specs.Steps.{Step, steps_at, steps_from}
+use Rattle.shown_clauses.specs.meaning.Fronts.{changed_if, with_changed, first_item}
+use Rattle.shown_clauses.specs.meaning.Happenings.{Happening}
+use Rattle.shown_clauses.specs.meaning.Links.{Acquired, Link, Turn, Seen, nothing_seen, has_session, is_hello, link_of, linked, end_session, in_turn, turn_begun, call_served, acquire_if, take_reply, after_item, after_note, after_happening}
+use Rattle.shown_clauses.specs.meaning.Steps.{Step, steps_at, steps_from}
 use Rattle.shown_laws.specs.AcquiredTold.{acquired_by, acquired_after, told_acquired}
 use Rattle.shown_laws.specs.Telling.{seen_after, events_told, seen_told, steps_told}
 use Rattle.shown_laws.proofs.AcquiredTold.{linked_kept, item_kept, happens}

@@ -11,9 +11,9 @@ use Rattle.svc_values.specs.declared.entry.SessionId.{SessionId}
 use Rattle.svc_values.specs.declared.frame.Down.{Down}
 use Rattle.svc_values.specs.declared.frame.Up.{Up}
 use Rattle.svc_values.specs.declared.frame.Up.TheVariants as up
-use Rattle.svc_values.specs.Calls.{sequences_in}
-use Rattle.svc_values.specs.Identifiers.{same_session}
-use Rattle.svc_values.specs.Same.{same_bool}
+use Rattle.svc_values.specs.meaning.Calls.{sequences_in}
+use Rattle.svc_values.specs.meaning.Identifiers.{same_session}
+use Rattle.svc_values.specs.meaning.Same.{same_bool}
 use Rattle.svc_values.specs.SameLaws.{same_session_decides}
 use Rattle.svc_values.specs.declared.value.Value.{Value}
 use Rattle.outage_schedule.specs.declared.item.Item.{Item}
@@ -21,20 +21,20 @@ use Rattle.outage_schedule.specs.declared.item.Item.TheVariants as item
 use Rattle.outage_schedule.specs.declared.item.Served.{Served}
 use Rattle.outage_schedule.specs.declared.note.Note.{Note}
 use Rattle.outage_schedule.specs.declared.note.Note.TheVariants as note
-use Rattle.shown_clauses.specs.Links.{Acquired, Link as Seen, Seen as AllSeen, link_of, is_connect, served_on, stopped_on, in_turn, end_link, end_session, after_happening}
+use Rattle.shown_clauses.specs.meaning.Links.{Acquired, Link as Seen, Seen as AllSeen, link_of, is_connect, served_on, stopped_on, in_turn, end_link, end_session, after_happening}
 use Rattle.world_model.specs.records.Basic.{first_is_connect, is_named}
 use Rattle.invariant_laws.specs.Begins.{is_begin_frame}
-use Rattle.world_model.specs.Clients.{Client}
-use Rattle.world_model.specs.Crashing.{is_crashed_item, is_stopped, fallen_link}
-use Rattle.world_model.specs.Cutting.{cut_link, reaped_link}
-use Rattle.world_model.specs.Frames.{Owner, Sent, Handled}
-use Rattle.world_model.specs.Links.{Link, link_at, with_link}
-use Rattle.world_model.specs.Machines.{Machine}
+use Rattle.world_model.specs.meaning.Clients.{Client}
+use Rattle.world_model.specs.meaning.Crashing.{is_crashed_item, is_stopped, fallen_link}
+use Rattle.world_model.specs.meaning.Cutting.{cut_link, reaped_link}
+use Rattle.world_model.specs.meaning.Frames.{Owner, Sent, Handled}
+use Rattle.world_model.specs.meaning.Links.{Link, link_at, with_link}
+use Rattle.world_model.specs.meaning.Machines.{Machine}
 use Rattle.world_model.specs.Parts.{implies}
 use Rattle.invariant_laws.specs.Same.{is_begin}
 use Rattle.world_model.specs.Sames.{is_front, same_owners, same_sent}
-use Rattle.world_model.specs.Serving.{Front, is_of_front, is_blocked, reply_of, commits_after, after_front, handled}
-use Rattle.world_model.specs.Settings.{Setting}
+use Rattle.world_model.specs.meaning.Serving.{Front, is_of_front, is_blocked, reply_of, commits_after, after_front, handled}
+use Rattle.world_model.specs.meaning.Settings.{Setting}
 use Rattle.invariant_laws.specs.UnservedBegins.{last_owner, is_of_last, begins_of_last}
 use Rattle.world_model.specs.records.Wire.{is_fresh, is_sent_front, nothing_cut, up_of}
 use Rattle.shown_laws.specs.AcquiredTold.{told_acquired}

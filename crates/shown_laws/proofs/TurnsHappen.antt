@@ -3,21 +3,21 @@ use Rattle.std.proofs.Common.{◌≡◌, ◌≢◌, refl, sym, ap, ◌∙◌, Bo
 use Rattle.std.specs.Option.{option_map_or}
 use Rattle.svc_values.specs.declared.entry.SessionId.{SessionId}
 use Rattle.svc_values.specs.declared.frame.Down.{Down}
-use Rattle.svc_values.specs.Identifiers.{same_session}
+use Rattle.svc_values.specs.meaning.Identifiers.{same_session}
 use Rattle.svc_values.specs.SameLaws.{same_session_decides}
 use Rattle.outage_schedule.specs.declared.item.Item.{Item}
 use Rattle.outage_schedule.specs.declared.item.Item.TheVariants as item
 use Rattle.outage_schedule.specs.declared.item.Served.{Served}
 use Rattle.outage_schedule.specs.declared.note.Note.{Note}
 use Rattle.outage_schedule.specs.declared.note.Note.TheVariants as note
-use Rattle.shown_clauses.specs.Links.{Link as Seen, Marked, Seen as AllSeen, link_of, is_connect, served_on, stopped_on, in_turn, end_link, end_session, after_happening}
-use Rattle.world_model.specs.Crashing.{fallen_link}
-use Rattle.world_model.specs.Cutting.{cut_link, reaped_link}
-use Rattle.world_model.specs.Frames.{Handled}
-use Rattle.world_model.specs.Links.{Link, link_at, with_link, ends}
-use Rattle.world_model.specs.Machines.{Machine}
-use Rattle.world_model.specs.Serving.{Front, is_blocked, reply_of, commits_after, after_front, handled}
-use Rattle.world_model.specs.Settings.{Setting}
+use Rattle.shown_clauses.specs.meaning.Links.{Link as Seen, Marked, Seen as AllSeen, link_of, is_connect, served_on, stopped_on, in_turn, end_link, end_session, after_happening}
+use Rattle.world_model.specs.meaning.Crashing.{fallen_link}
+use Rattle.world_model.specs.meaning.Cutting.{cut_link, reaped_link}
+use Rattle.world_model.specs.meaning.Frames.{Handled}
+use Rattle.world_model.specs.meaning.Links.{Link, link_at, with_link, ends}
+use Rattle.world_model.specs.meaning.Machines.{Machine}
+use Rattle.world_model.specs.meaning.Serving.{Front, is_blocked, reply_of, commits_after, after_front, handled}
+use Rattle.world_model.specs.meaning.Settings.{Setting}
 use Rattle.shown_laws.specs.Connections.{TellsAt, NoLink, Unnamed, Named}
 use Rattle.shown_laws.specs.TurnsServed.{calls_after, calls_served, calls_told, served_at, served_in, told_at, TellsTurns}
 use Rattle.shown_laws.proofs.ConnectionsTold.{AllTold}

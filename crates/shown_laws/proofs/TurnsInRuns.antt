@@ -4,7 +4,7 @@ use Rattle.outage_schedule.specs.declared.event.Event.{Event}
 use Rattle.outage_schedule.specs.declared.item.Served.{Served}
 use Rattle.outage_schedule.specs.declared.note.Note.{Note}
 use Rattle.server_model.specs.Seen.{Seen}
-use Rattle.shown_clauses.specs.Links.{Seen as AllSeen}
+use Rattle.shown_clauses.specs.meaning.Links.{Seen as AllSeen}
 use Rattle.invariant_laws.specs.KeptLaws.{RunsKeepInvariant, FinishesKeepInvariant}
 use Rattle.world_model.specs.OneEvent.{OneEvent}
 use Rattle.world_model.specs.Reached.{Begins, GoesOn, Scheduled, Finishes}

@@ -10,14 +10,14 @@ use Rattle.outage_schedule.specs.declared.item.Item.TheVariants as item
 use Rattle.outage_schedule.specs.declared.item.Served.{Served}
 use Rattle.outage_schedule.specs.declared.note.Note.{Note}
 use Rattle.outage_schedule.specs.declared.note.Note.TheVariants as note
-use Rattle.shown_clauses.specs.Links.{Link as Seen, Turn, Seen as AllSeen, link_of, link_of_session, is_connect, served_on, stopped_on, over_on, over_by, after_happening}
-use Rattle.world_model.specs.Crashing.{fallen_link}
-use Rattle.world_model.specs.Cutting.{cut_link, reaped_link}
-use Rattle.world_model.specs.Frames.{Handled}
-use Rattle.world_model.specs.Links.{Link, link_at, with_link}
-use Rattle.world_model.specs.Machines.{Machine}
-use Rattle.world_model.specs.Serving.{Front, is_blocked, reply_of, commits_after, after_front, handled}
-use Rattle.world_model.specs.Settings.{Setting}
+use Rattle.shown_clauses.specs.meaning.Links.{Link as Seen, Turn, Seen as AllSeen, link_of, link_of_session, is_connect, served_on, stopped_on, over_on, over_by, after_happening}
+use Rattle.world_model.specs.meaning.Crashing.{fallen_link}
+use Rattle.world_model.specs.meaning.Cutting.{cut_link, reaped_link}
+use Rattle.world_model.specs.meaning.Frames.{Handled}
+use Rattle.world_model.specs.meaning.Links.{Link, link_at, with_link}
+use Rattle.world_model.specs.meaning.Machines.{Machine}
+use Rattle.world_model.specs.meaning.Serving.{Front, is_blocked, reply_of, commits_after, after_front, handled}
+use Rattle.world_model.specs.meaning.Settings.{Setting}
 use Rattle.shown_laws.specs.Connections.{TellsAt, NoLink, Unnamed, Named, FoundBySession}
 use Rattle.shown_laws.specs.TurnsOver.{WereTurns, NoneOver, OneOver}
 use Rattle.shown_laws.specs.TurnsServed.{calls_served, calls_told, served_in, TellsTurns}

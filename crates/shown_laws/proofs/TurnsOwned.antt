@@ -6,16 +6,16 @@ use Rattle.std.specs.Option.{option_map_or}
 use Rattle.std.proofs.lemmas.Bool.{and_parts}
 use Rattle.outage_schedule.specs.declared.item.Served.{Served}
 use Rattle.outage_schedule.specs.declared.note.Note.{Note}
-use Rattle.shown_clauses.specs.Fronts.{front_of, rest_of}
-use Rattle.shown_clauses.specs.Links.{Acquired, Link as SeenLink, Marked, Turn, link_of, turn_of}
-use Rattle.shown_clauses.specs.Submissions.{Submission}
-use Rattle.shown_clauses.specs.Turns.{is_marked, begins_with, is_turn_right}
-use Rattle.world_model.specs.Clients.{Past, Client, client_at}
+use Rattle.shown_clauses.specs.meaning.Fronts.{front_of, rest_of}
+use Rattle.shown_clauses.specs.meaning.Links.{Acquired, Link as SeenLink, Marked, Turn, link_of, turn_of}
+use Rattle.shown_clauses.specs.meaning.Submissions.{Submission}
+use Rattle.shown_clauses.specs.meaning.Turns.{is_marked, begins_with, is_turn_right}
+use Rattle.world_model.specs.meaning.Clients.{Past, Client, client_at}
 use Rattle.invariant_laws.specs.FirstBegins.{begin_once}
-use Rattle.world_model.specs.Frames.{Owner, Sent, Handled}
+use Rattle.world_model.specs.meaning.Frames.{Owner, Sent, Handled}
 use Rattle.invariant_laws.specs.Invariant.{Invariant}
 use Rattle.invariant_laws.specs.KeptLaws.{RunsKeepInvariant}
-use Rattle.world_model.specs.Links.{Link, link_at}
+use Rattle.world_model.specs.meaning.Links.{Link, link_at}
 use Rattle.invariant_laws.specs.NearCalls.{send_near}
 use Rattle.invariant_laws.specs.SameLaws.{FollowsInvariant, HoldsInRuns}
 use Rattle.world_model.specs.Sames.{same_owners}

@@ -7,12 +7,12 @@ use Rattle.std.proofs.lemmas.Bool.{and_parts, and_from, or_cases}
 use Rattle.std.proofs.lemmas.List.Folds.{list_all-append}
 use Rattle.svc_values.specs.declared.frame.Up.{Up}
 use Rattle.svc_values.specs.declared.frame.Up.TheVariants as up
-use Rattle.shown_clauses.specs.Links.{Link as SeenLink, Turn, link_of}
-use Rattle.shown_clauses.specs.Turns.{is_turn_right}
+use Rattle.shown_clauses.specs.meaning.Links.{Link as SeenLink, Turn, link_of}
+use Rattle.shown_clauses.specs.meaning.Turns.{is_turn_right}
 use Rattle.invariant_laws.specs.FirstBegins.{begin_once}
-use Rattle.world_model.specs.Frames.{Owner, Sent, Handled}
+use Rattle.world_model.specs.meaning.Frames.{Owner, Sent, Handled}
 use Rattle.invariant_laws.specs.Invariant.{Invariant}
-use Rattle.world_model.specs.Links.{Link, link_at}
+use Rattle.world_model.specs.meaning.Links.{Link, link_at}
 use Rattle.invariant_laws.specs.NearCalls.{send_near}
 use Rattle.world_model.specs.Sames.{is_of, owned_by, same_owner, same_owners}
 use Rattle.world_model.specs.records.Script.{is_held_by, owned_rightly}

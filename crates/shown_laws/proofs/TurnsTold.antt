@@ -4,9 +4,9 @@ use Rattle.svc_values.specs.declared.call.Call.{Call}
 use Rattle.svc_values.specs.declared.entry.SessionId.{SessionId}
 use Rattle.outage_schedule.specs.declared.item.Item.{Item}
 use Rattle.outage_schedule.specs.declared.item.Item.TheVariants as item
-use Rattle.shown_clauses.specs.Fronts.{changed_if, with_changed}
-use Rattle.shown_clauses.specs.Links.{Link as Seen, has_session, link_of, in_turn, turn_begun, call_served, end_at, end_link, end_session}
-use Rattle.world_model.specs.Links.{Link, link_at}
+use Rattle.shown_clauses.specs.meaning.Fronts.{changed_if, with_changed}
+use Rattle.shown_clauses.specs.meaning.Links.{Link as Seen, has_session, link_of, in_turn, turn_begun, call_served, end_at, end_link, end_session}
+use Rattle.world_model.specs.meaning.Links.{Link, link_at}
 use Rattle.shown_laws.specs.Connections.{TellsReplies, TellsEnd, TellsLink, TellsAt, NoLink, Unnamed, Named}
 use Rattle.shown_laws.proofs.ConnectionsTold.{AllTold}
 use Rattle.shown_laws.proofs.EndsTold.{stays_at}

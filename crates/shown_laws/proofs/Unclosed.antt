@@ -7,25 +7,25 @@ use Rattle.std.proofs.lemmas.Bool.{and_parts, or_cases}
 use Rattle.std.proofs.lemmas.List.Elements.{filter_map-append}
 use Rattle.std.proofs.lemmas.List.Folds.{list_any-append}
 use Rattle.svc_values.specs.declared.frame.Up.{Up}
-use Rattle.svc_values.specs.Same.{same_bool}
+use Rattle.svc_values.specs.meaning.Same.{same_bool}
 use Rattle.pool_core.specs.declared.answers.Back.{Back}
 use Rattle.client_model.specs.declared.act.Hold.{Hold}
 use Rattle.client_model.specs.declared.act.Hold.TheVariants as hold
 use Rattle.client_model.specs.declared.input.Input.{Input}
 use Rattle.client_model.specs.declared.input.Wants.{Wants}
 use Rattle.client_model.specs.declared.input.Wants.TheVariants as wants
-use Rattle.client_model.specs.Talk.{wants_of}
+use Rattle.client_model.specs.meaning.Talk.{wants_of}
 use Rattle.outage_schedule.specs.declared.document.Request.{Request}
-use Rattle.world_model.specs.Acting.{closing}
+use Rattle.world_model.specs.meaning.Acting.{closing}
 use Rattle.world_model.specs.records.Basic.{at_most, ends_rightly}
-use Rattle.world_model.specs.Clients.{Step, Doing, Client, client_at, begun, doing_of, step_at}
-use Rattle.world_model.specs.Frames.{Sent}
+use Rattle.world_model.specs.meaning.Clients.{Step, Doing, Client, client_at, begun, doing_of, step_at}
+use Rattle.world_model.specs.meaning.Frames.{Sent}
 use Rattle.world_model.specs.records.Hold.{holds_connection, waits_on, is_held}
 use Rattle.invariant_laws.specs.Invariant.{Invariant}
-use Rattle.world_model.specs.Links.{Link, link_at, is_close}
-use Rattle.world_model.specs.Machines.{Machine}
+use Rattle.world_model.specs.meaning.Links.{Link, link_at, is_close}
+use Rattle.world_model.specs.meaning.Machines.{Machine}
 use Rattle.world_model.specs.Parts.{is_closed, implies}
-use Rattle.world_model.specs.Settings.{Setting}
+use Rattle.world_model.specs.meaning.Settings.{Setting}
 use Rattle.world_model.specs.Traced.{Traced, course_now}
 use Rattle.world_model.specs.Words.{brought, held_in}
 use Rattle.shown_laws.specs.Closing.{IsUnclosed, HeldUnclosed, AllUnclosed}

@@ -5,20 +5,20 @@ use Rattle.std.specs.List.{list_any}
 use Rattle.svc_values.specs.declared.entry.Ltxid.{Ltxid}
 use Rattle.svc_values.specs.declared.frame.Up.{Up}
 use Rattle.pool_core.specs.declared.answers.Take.TheVariants as take
-use Rattle.pool_core.specs.Slots.{Slots, is_among, take_answer, after_take, give_back_answer}
+use Rattle.pool_core.specs.meaning.Slots.{Slots, is_among, take_answer, after_take, give_back_answer}
 use Rattle.client_model.specs.declared.act.Hold.{Hold}
 use Rattle.client_model.specs.declared.act.Hold.TheVariants as hold
 use Rattle.client_model.specs.declared.input.Input.{Input}
 use Rattle.client_model.specs.declared.input.Input.TheVariants.{Lent, Opened, Gone}
 use Rattle.client_model.specs.declared.input.Wants.{Wants}
 use Rattle.client_model.specs.declared.input.Wants.TheVariants as wants
-use Rattle.world_model.specs.Acting.{sent_by, owner_at, call_in, act_at, connection_of, steps, loses}
+use Rattle.world_model.specs.meaning.Acting.{sent_by, owner_at, call_in, act_at, connection_of, steps, loses}
 use Rattle.world_model.specs.records.Basic.{ends_rightly}
-use Rattle.world_model.specs.Clients.{Doing, Client, client_at, with_client, after_hold, heard, step_at}
-use Rattle.world_model.specs.Frames.{Sent}
+use Rattle.world_model.specs.meaning.Clients.{Doing, Client, client_at, with_client, after_hold, heard, step_at}
+use Rattle.world_model.specs.meaning.Frames.{Sent}
 use Rattle.invariant_laws.specs.Invariant.{Invariant}
-use Rattle.world_model.specs.Links.{Link, new_link, link_at, is_close, sends}
-use Rattle.world_model.specs.Machines.{Machine}
+use Rattle.world_model.specs.meaning.Links.{Link, new_link, link_at, is_close, sends}
+use Rattle.world_model.specs.meaning.Machines.{Machine}
 use Rattle.world_model.specs.Traced.{Traced}
 use Rattle.world_model.specs.Words.{brought, held_in}
 use Rattle.shown_laws.specs.Closing.{IsUnclosed, HeldUnclosed, AllUnclosed}

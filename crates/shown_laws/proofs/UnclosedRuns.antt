@@ -2,7 +2,7 @@
 use Rattle.std.proofs.Common.{◌≡◌, refl, sym, ap, ◌∙◌, Bool, true, false, ℕ, zero, suc, ◌+◌, List, [], ◌∷◌, map, fold, Some, None, ◌⊎◌, inl, inr, IsTrue}
 use Rattle.std.specs.Prelude.{◌==◌, slice_get}
 use Rattle.std.proofs.lemmas.Bool.{or_cases}
-use Rattle.pool_core.specs.Slots.{is_among}
+use Rattle.pool_core.specs.meaning.Slots.{is_among}
 use Rattle.outage_schedule.specs.declared.document.Document.{Document}
 use Rattle.outage_schedule.specs.declared.document.Request.{Request}
 use Rattle.outage_schedule.specs.declared.event.Event.{Event}
@@ -10,18 +10,18 @@ use Rattle.outage_schedule.specs.declared.item.Served.{Served}
 use Rattle.outage_schedule.specs.declared.note.Note.{Note}
 use Rattle.server_model.specs.Seen.{Seen}
 use Rattle.world_model.proofs.Offered.{AreOpenOnce}
-use Rattle.world_model.specs.Clients.{Client, Doing, resting, client_at}
-use Rattle.world_model.specs.Crashing.{after_stopped, falls}
-use Rattle.world_model.specs.Cutting.{cut_link, after_cut, reaped_link}
-use Rattle.world_model.specs.Finishing.{Place}
+use Rattle.world_model.specs.meaning.Clients.{Client, Doing, resting, client_at}
+use Rattle.world_model.specs.meaning.Crashing.{after_stopped, falls}
+use Rattle.world_model.specs.meaning.Cutting.{cut_link, after_cut, reaped_link}
+use Rattle.world_model.specs.meaning.Finishing.{Place}
 use Rattle.invariant_laws.specs.Invariant.{Invariant}
 use Rattle.invariant_laws.specs.KeptLaws.{RunsKeepInvariant, FinishesKeepInvariant}
-use Rattle.world_model.specs.Links.{Link, link_at, with_link, changed, sends}
-use Rattle.world_model.specs.Machines.{Machine, start_of}
-use Rattle.world_model.specs.Outside.{closed_by_drain, drained}
+use Rattle.world_model.specs.meaning.Links.{Link, link_at, with_link, changed, sends}
+use Rattle.world_model.specs.meaning.Machines.{Machine, start_of}
+use Rattle.world_model.specs.meaning.Outside.{closed_by_drain, drained}
 use Rattle.world_model.specs.Reached.{Reached, Begins, GoesOn, IsFinishing, Scheduled, Finishes}
 use Rattle.world_model.specs.records.Ready.{all_requests_right}
-use Rattle.world_model.specs.Serving.{after_front, handled, after_served}
+use Rattle.world_model.specs.meaning.Serving.{after_front, handled, after_served}
 use Rattle.world_model.specs.Traced.{Traced}
 use Rattle.shown_laws.specs.Closing.{IsUnclosed, AllUnclosed, RunsLeaveUnclosed, FinishesLeaveUnclosed}
 use Rattle.shown_laws.proofs.EventsTold.{Stands, open_is}

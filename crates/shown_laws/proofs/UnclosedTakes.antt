@@ -2,22 +2,22 @@
 use Rattle.std.proofs.Common.{◌≡◌, ◌≢◌, refl, sym, ap, subst, ◌∙◌, Bool, true, false, ℕ, ◌+◌, List, Option, Some, None, ◌⊎◌, inl, inr, if◌then◌else◌}
 use Rattle.std.specs.Prelude.{◌==◌, unwrap_or}
 use Rattle.std.specs.List.{list_any}
-use Rattle.pool_core.specs.Slots.{after_take, give_back_answer}
+use Rattle.pool_core.specs.meaning.Slots.{after_take, give_back_answer}
 use Rattle.client_model.specs.declared.act.Hold.TheVariants as hold
 use Rattle.client_model.specs.declared.input.Input.TheVariants.{Waiting, TryFailed, Took, Gone}
 use Rattle.client_model.specs.declared.input.Wants.{Wants}
 use Rattle.client_model.specs.declared.input.Wants.TheVariants as wants
-use Rattle.client_model.specs.Talk.{takes as taken_by}
+use Rattle.client_model.specs.meaning.Talk.{takes as taken_by}
 use Rattle.outage_schedule.specs.declared.note.GoNote.{GoNote}
-use Rattle.pool_core.specs.Slots.{Slots}
-use Rattle.world_model.specs.Acting.{connection_of, steps}
-use Rattle.world_model.specs.Clients.{Step, Doing, heard, step_at, doing_at}
-use Rattle.world_model.specs.Frames.{Reply}
-use Rattle.world_model.specs.Going.{lost_at_once, unless_open}
+use Rattle.pool_core.specs.meaning.Slots.{Slots}
+use Rattle.world_model.specs.meaning.Acting.{connection_of, steps}
+use Rattle.world_model.specs.meaning.Clients.{Step, Doing, heard, step_at, doing_at}
+use Rattle.world_model.specs.meaning.Frames.{Reply}
+use Rattle.world_model.specs.meaning.Going.{lost_at_once, unless_open}
 use Rattle.invariant_laws.specs.Invariant.{Invariant}
-use Rattle.world_model.specs.Links.{Link, link_at, takes}
-use Rattle.world_model.specs.Machines.{Machine}
-use Rattle.world_model.specs.Settings.{Setting}
+use Rattle.world_model.specs.meaning.Links.{Link, link_at, takes}
+use Rattle.world_model.specs.meaning.Machines.{Machine}
+use Rattle.world_model.specs.meaning.Settings.{Setting}
 use Rattle.world_model.specs.Traced.{Traced}
 use Rattle.world_model.specs.Words.{held_in}
 use Rattle.shown_laws.specs.Closing.{IsUnclosed, HeldUnclosed, AllUnclosed}

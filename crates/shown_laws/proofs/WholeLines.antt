@@ -3,13 +3,13 @@ use Rattle.std.proofs.Common.{◌≡◌, refl, true, ℕ, ◌+◌, List, [], ◌
 use Rattle.std.specs.Prelude.{◌&&◌}
 use Rattle.std.specs.List.{list_all}
 use Rattle.std.proofs.lemmas.Bool.{and_parts, and_from}
-use Rattle.run_clauses.specs.Copies.{has_its_reports}
-use Rattle.shown_clauses.specs.Parts.{Part, parts_of, left_of, has_its_sessions}
-use Rattle.shown_clauses.specs.Showings.{has_its_showings, calls_served, have_identifiers}
-use Rattle.shown_clauses.specs.Steps.{Step, steps_of}
-use Rattle.shown_clauses.specs.Submissions.{Submission, submissions_by_client}
-use Rattle.shown_clauses.specs.Turns.{Owned, turns_of, turns_right, has_request, has_client}
-use Rattle.shown_clauses.specs.Whole.{Evidence, are_taken, is_part_whole, is_client_whole, are_clients_whole, is_told_whole, told_by}
+use Rattle.run_clauses.specs.meaning.Copies.{has_its_reports}
+use Rattle.shown_clauses.specs.meaning.Parts.{Part, parts_of, left_of, has_its_sessions}
+use Rattle.shown_clauses.specs.meaning.Showings.{has_its_showings, calls_served, have_identifiers}
+use Rattle.shown_clauses.specs.meaning.Steps.{Step, steps_of}
+use Rattle.shown_clauses.specs.meaning.Submissions.{Submission, submissions_by_client}
+use Rattle.shown_clauses.specs.meaning.Turns.{Owned, turns_of, turns_right, has_request, has_client}
+use Rattle.shown_clauses.specs.meaning.Whole.{Evidence, are_taken, is_part_whole, is_client_whole, are_clients_whole, is_told_whole, told_by}
 use Rattle.shown_laws.specs.ReportsTold.{are_parts}
 use Rattle.shown_laws.specs.TurnReports.{are_turns, parts_turn_right, turns_have_requests}
 use Rattle.shown_laws.specs.WholeLines.{LinesMakeWhole}

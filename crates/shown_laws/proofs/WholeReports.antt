@@ -1,12 +1,12 @@
 -- Each line of `Whole` holds of the report of every whole run, so it is whole.
 use Rattle.std.proofs.Common.{◌∙◌, Bool, suc}
 use Rattle.std.specs.List.{list_all}
-use Rattle.run_clauses.specs.Before.{journal_before}
-use Rattle.run_clauses.specs.EntryEvents.{stored_entries}
-use Rattle.shown_clauses.specs.Parts.{Part, parts_of}
-use Rattle.shown_clauses.specs.Showings.{have_identifiers}
-use Rattle.shown_clauses.specs.Steps.{steps, steps_of}
-use Rattle.shown_clauses.specs.Submissions.{submissions_by_client}
+use Rattle.run_clauses.specs.meaning.Before.{journal_before}
+use Rattle.run_clauses.specs.meaning.EntryEvents.{stored_entries}
+use Rattle.shown_clauses.specs.meaning.Parts.{Part, parts_of}
+use Rattle.shown_clauses.specs.meaning.Showings.{have_identifiers}
+use Rattle.shown_clauses.specs.meaning.Steps.{steps, steps_of}
+use Rattle.shown_clauses.specs.meaning.Submissions.{submissions_by_client}
 use Rattle.shown_laws.specs.AnswersTold.{ReportsServeCalls}
 use Rattle.shown_laws.specs.Identified.{IdentifiersAreStored, ReportsIdentifyCalls}
 use Rattle.shown_laws.specs.ReportsTold.{ReportsAreOrdered, ReportsTakeReplies, ReportsListSessions, ReportsListShowings}

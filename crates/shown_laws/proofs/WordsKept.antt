@@ -7,8 +7,8 @@ use Rattle.outage_schedule.specs.declared.item.Item.TheVariants as item
 use Rattle.outage_schedule.specs.declared.item.Served.{Served}
 use Rattle.outage_schedule.specs.declared.note.GoNote.{GoNote}
 use Rattle.outage_schedule.specs.declared.note.GoNote.TheVariants as go
-use Rattle.shown_clauses.specs.Fronts.{changed_if, with_changed}
-use Rattle.shown_clauses.specs.Links.{Link, is_connect, has_session, is_link, link_of, new_link, add_reply, connected, served_on, stopped_connected, stopped_on, end_link, end_session, acquire, take_reply, after_go}
+use Rattle.shown_clauses.specs.meaning.Fronts.{changed_if, with_changed}
+use Rattle.shown_clauses.specs.meaning.Links.{Link, is_connect, has_session, is_link, link_of, new_link, add_reply, connected, served_on, stopped_connected, stopped_on, end_link, end_session, acquire, take_reply, after_go}
 use Rattle.shown_laws.proofs.ConnectionsTold.{takes_kept}
 use Rattle.shown_laws.proofs.Lookups.{either}
 use Rattle.shown_laws.proofs.SeenLists.{KeepsNumber, link_changed, all_changed, new_own, new_others}

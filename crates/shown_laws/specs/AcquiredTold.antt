@@ -5,8 +5,8 @@ use Rattle.outage_schedule.specs.declared.item.Served.{Served}
 use Rattle.outage_schedule.specs.declared.note.GoNote.{GoNote}
 use Rattle.outage_schedule.specs.declared.note.GoNote.TheVariants as go
 use Rattle.outage_schedule.specs.declared.note.Note.{Note}
-use Rattle.shown_clauses.specs.Links.{Acquired, Link, link_of}
-use Rattle.shown_clauses.specs.Steps.{Step}
+use Rattle.shown_clauses.specs.meaning.Links.{Acquired, Link, link_of}
+use Rattle.shown_clauses.specs.meaning.Steps.{Step}
 use Rattle.shown_laws.specs.Telling.{seen_told, steps_told}
 
 -- the step was lent this connection, or took a reply on it

@@ -1,15 +1,15 @@
 -- The calls that a request was shown, each with the reply or the outcome that answered it.
 use Rattle.std.specs.Prelude.{◌&&◌, Bool, true, false}
 use Rattle.std.specs.List.{list_all, list_any}
-use Rattle.svc_values.specs.Calls.{is_lone_commit}
-use Rattle.svc_values.specs.Identifiers.{same_session}
-use Rattle.svc_values.specs.Same.{same_call}
+use Rattle.svc_values.specs.meaning.Calls.{is_lone_commit}
+use Rattle.svc_values.specs.meaning.Identifiers.{same_session}
+use Rattle.svc_values.specs.meaning.Same.{same_call}
 use Rattle.outage_schedule.specs.declared.item.Item.{Item}
 use Rattle.outage_schedule.specs.declared.item.Item.TheVariants as item
 use Rattle.outage_schedule.specs.declared.request.RequestReport.{RequestReport}
-use Rattle.run_clauses.specs.Tried.{holds}
-use Rattle.shown_clauses.specs.Parts.{Part}
-use Rattle.shown_clauses.specs.Showings.{Shown, shown_calls, says_completed, calls_served}
+use Rattle.run_clauses.specs.meaning.Tried.{holds}
+use Rattle.shown_clauses.specs.meaning.Parts.{Part}
+use Rattle.shown_clauses.specs.meaning.Showings.{Shown, shown_calls, says_completed, calls_served}
 use Rattle.shown_laws.specs.PartsTold.{HoldsOfParts}
 use Rattle.shown_laws.specs.ReportsTold.{HoldsOfReports, of_parts}
 

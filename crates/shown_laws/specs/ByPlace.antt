@@ -2,8 +2,8 @@
 use Rattle.std.specs.Prelude.{◌≡◌, List, [], ◌∷◌, ◌++◌, map, slice_get, Some}
 use Rattle.std.specs.Option.{option_map_or}
 use Rattle.outage_schedule.specs.declared.document.Request.{Request}
-use Rattle.world_model.specs.Clients.{Step, Past, Doing, Client, client_at}
-use Rattle.world_model.specs.Frames.{Owner}
+use Rattle.world_model.specs.meaning.Clients.{Step, Past, Doing, Client, client_at}
+use Rattle.world_model.specs.meaning.Frames.{Owner}
 
 -- a request with its steps so far
 pub record RequestSteps : Type 0 where

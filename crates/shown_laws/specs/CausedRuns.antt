@@ -4,7 +4,7 @@ use Rattle.outage_schedule.specs.declared.document.Document.{Document}
 use Rattle.outage_schedule.specs.declared.report.Report.{Report}
 use Rattle.server_model.specs.Runs.{Server}
 use Rattle.server_model.specs.Seen.{Seen}
-use Rattle.shown_clauses.specs.Caused.{caused}
+use Rattle.shown_clauses.specs.meaning.Caused.{caused}
 use Rattle.world_model.specs.records.Ready.{all_requests_right}
 use Rattle.world_model.specs.Reported.{IsReported}
 use Rattle.world_model.specs.Traced.{Traced}

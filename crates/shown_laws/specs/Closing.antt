@@ -6,10 +6,10 @@ use Rattle.outage_schedule.specs.declared.event.Event.{Event}
 use Rattle.outage_schedule.specs.declared.item.Served.{Served}
 use Rattle.outage_schedule.specs.declared.note.Note.{Note}
 use Rattle.server_model.specs.Seen.{Seen}
-use Rattle.world_model.specs.Clients.{Doing, Client, client_at}
-use Rattle.world_model.specs.Finishing.{Place}
-use Rattle.world_model.specs.Links.{Link, link_at}
-use Rattle.world_model.specs.Machines.{Machine}
+use Rattle.world_model.specs.meaning.Clients.{Doing, Client, client_at}
+use Rattle.world_model.specs.meaning.Finishing.{Place}
+use Rattle.world_model.specs.meaning.Links.{Link, link_at}
+use Rattle.world_model.specs.meaning.Machines.{Machine}
 use Rattle.world_model.specs.Parts.{is_closed}
 use Rattle.world_model.specs.Reached.{Reached, IsFinishing}
 use Rattle.world_model.specs.records.Ready.{all_requests_right}

@@ -5,7 +5,7 @@ use Rattle.outage_schedule.specs.declared.event.Event.{Event}
 use Rattle.outage_schedule.specs.declared.item.Served.{Served}
 use Rattle.outage_schedule.specs.declared.note.Note.{Note}
 use Rattle.server_model.specs.Seen.{Seen}
-use Rattle.world_model.specs.Finishing.{Place}
+use Rattle.world_model.specs.meaning.Finishing.{Place}
 use Rattle.world_model.specs.Reached.{Reached, IsFinishing}
 use Rattle.world_model.specs.records.Ready.{all_requests_right}
 use Rattle.world_model.specs.Traced.{Traced}

@@ -1,9 +1,9 @@
 -- What the notes and the items of a run tell of its connections, beside what these are.
 use Rattle.std.specs.Prelude.{◌≡◌, ◌<◌, ℕ, ◌==◌, true, false, not, IsTrue, List, [], ◌++◌, map, filter_map, Option, Some, None, option_map}
 use Rattle.outage_schedule.specs.declared.item.Served.{Served}
-use Rattle.shown_clauses.specs.Links.{Link as Seen, link_of, link_of_session}
-use Rattle.world_model.specs.Frames.{Reply, Handled}
-use Rattle.world_model.specs.Links.{Link, link_at}
+use Rattle.shown_clauses.specs.meaning.Links.{Link as Seen, link_of, link_of_session}
+use Rattle.world_model.specs.meaning.Frames.{Reply, Handled}
+use Rattle.world_model.specs.meaning.Links.{Link, link_at}
 use Rattle.world_model.specs.Parts.{is_closed}
 use Rattle.world_model.specs.Sames.{each_pair}
 

@@ -5,10 +5,10 @@ use Rattle.outage_schedule.specs.declared.event.Event.{Event}
 use Rattle.outage_schedule.specs.declared.item.Served.{Served}
 use Rattle.outage_schedule.specs.declared.note.Note.{Note}
 use Rattle.server_model.specs.Seen.{Seen}
-use Rattle.shown_clauses.specs.Happenings.{Happening}
-use Rattle.shown_clauses.specs.Links.{after_happening}
-use Rattle.world_model.specs.Finishing.{Place}
-use Rattle.world_model.specs.Machines.{Machine}
+use Rattle.shown_clauses.specs.meaning.Happenings.{Happening}
+use Rattle.shown_clauses.specs.meaning.Links.{after_happening}
+use Rattle.world_model.specs.meaning.Finishing.{Place}
+use Rattle.world_model.specs.meaning.Machines.{Machine}
 use Rattle.world_model.specs.OneEvent.{OneEvent}
 use Rattle.world_model.specs.Reached.{Reached, IsFinishing}
 use Rattle.world_model.specs.Traced.{Traced}

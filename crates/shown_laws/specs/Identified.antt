@@ -3,21 +3,21 @@ use Rattle.std.specs.Prelude.{◌≡◌, ℕ, Bool, true, IsTrue, List, map, Som
 use Rattle.std.specs.List.{list_all}
 use Rattle.std.specs.Option.{option_map_or}
 use Rattle.svc_values.specs.declared.entry.Ltxid.{Ltxid}
-use Rattle.svc_values.specs.Identifiers.{same_ltxid}
+use Rattle.svc_values.specs.meaning.Identifiers.{same_ltxid}
 use Rattle.outage_schedule.specs.declared.document.Document.{Document}
 use Rattle.outage_schedule.specs.declared.item.Served.{Served}
 use Rattle.outage_schedule.specs.declared.report.Report.{Report}
-use Rattle.run_clauses.specs.Before.{journal_before}
-use Rattle.run_clauses.specs.EntryEvents.{stored_entries}
+use Rattle.run_clauses.specs.meaning.Before.{journal_before}
+use Rattle.run_clauses.specs.meaning.EntryEvents.{stored_entries}
 use Rattle.server_model.specs.Runs.{Server}
 use Rattle.server_model.specs.Seen.{Seen}
-use Rattle.shown_clauses.specs.Parts.{parts_of}
-use Rattle.shown_clauses.specs.Showings.{identifier_at, have_identifiers}
-use Rattle.shown_clauses.specs.Steps.{Step as StepTold, steps_of}
-use Rattle.world_model.specs.Clients.{Step, Client, client_at}
+use Rattle.shown_clauses.specs.meaning.Parts.{parts_of}
+use Rattle.shown_clauses.specs.meaning.Showings.{identifier_at, have_identifiers}
+use Rattle.shown_clauses.specs.meaning.Steps.{Step as StepTold, steps_of}
+use Rattle.world_model.specs.meaning.Clients.{Step, Client, client_at}
 use Rattle.world_model.specs.records.Ready.{all_requests_right}
 use Rattle.world_model.specs.Reported.{IsReported}
-use Rattle.world_model.specs.Settings.{Setting}
+use Rattle.world_model.specs.meaning.Settings.{Setting}
 use Rattle.world_model.specs.Traced.{Traced}
 use Rattle.shown_laws.specs.ReportsTold.{HoldsOfReports, of_parts}
 use Rattle.shown_laws.specs.Submitted.{submission_of}

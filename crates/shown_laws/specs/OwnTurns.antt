@@ -1,11 +1,11 @@
 -- A turn of a connection is right for the request whose calls it served.
 use Rattle.std.specs.Prelude.{◌≡◌, ℕ, Bool, IsTrue, List, [], ◌++◌, map, Some}
 use Rattle.std.specs.List.{list_all}
-use Rattle.shown_clauses.specs.Links.{Turn}
-use Rattle.shown_clauses.specs.Turns.{is_turn_right}
+use Rattle.shown_clauses.specs.meaning.Links.{Turn}
+use Rattle.shown_clauses.specs.meaning.Turns.{is_turn_right}
 use Rattle.invariant_laws.specs.FirstBegins.{begin_new}
-use Rattle.world_model.specs.Frames.{Handled}
-use Rattle.world_model.specs.Links.{Link, link_at}
+use Rattle.world_model.specs.meaning.Frames.{Handled}
+use Rattle.world_model.specs.meaning.Links.{Link, link_at}
 use Rattle.invariant_laws.specs.NearCalls.{is_shown_or_next}
 use Rattle.world_model.specs.Sames.{is_front, owned_by, same_sent}
 use Rattle.invariant_laws.specs.Shown.{calls_on, is_row}

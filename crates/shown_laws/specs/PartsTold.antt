@@ -5,13 +5,14 @@ use Rattle.outage_schedule.specs.declared.document.Document.{Document}
 use Rattle.outage_schedule.specs.declared.item.Served.{Served}
 use Rattle.outage_schedule.specs.declared.note.Note.{Note}
 use Rattle.server_model.specs.Seen.{Seen}
-use Rattle.svc_values.specs.Identifiers.{same_session}
-use Rattle.shown_clauses.specs.Parts.{Part, acquires, parts_of, has_its_sessions}
-use Rattle.shown_clauses.specs.Showings.{showings, has_its_outcomes, has_its_showings}
-use Rattle.shown_clauses.specs.Steps.{Step, steps_of}
-use Rattle.shown_clauses.specs.Whole.{are_taken}
-use Rattle.world_model.specs.Clients.{Past, Client, client_at}
-use Rattle.world_model.specs.Finishing.{Place}
+use Rattle.svc_values.specs.meaning.Identifiers.{same_session}
+use Rattle.shown_clauses.specs.meaning.Parts.{Part, acquires, parts_of, has_its_sessions}
+use Rattle.shown_clauses.specs.meaning.Showings.{showings, has_its_showings}
+use Rattle.shown_clauses.specs.Showings.{has_its_outcomes}
+use Rattle.shown_clauses.specs.meaning.Steps.{Step, steps_of}
+use Rattle.shown_clauses.specs.meaning.Whole.{are_taken}
+use Rattle.world_model.specs.meaning.Clients.{Past, Client, client_at}
+use Rattle.world_model.specs.meaning.Finishing.{Place}
 use Rattle.world_model.specs.Reached.{IsFinishing}
 use Rattle.world_model.specs.records.Ready.{all_requests_right}
 use Rattle.world_model.specs.Traced.{Traced}

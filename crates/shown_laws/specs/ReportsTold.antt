@@ -3,14 +3,15 @@ use Rattle.std.specs.Prelude.{◌+◌, ◌&&◌, ℕ, Bool, true, IsTrue, List, 
 use Rattle.std.specs.List.{list_all}
 use Rattle.outage_schedule.specs.declared.document.Document.{Document}
 use Rattle.outage_schedule.specs.declared.report.Report.{Report}
-use Rattle.run_clauses.specs.Copies.{has_its_reports}
+use Rattle.run_clauses.specs.meaning.Copies.{has_its_reports}
 use Rattle.server_model.specs.Runs.{Server}
 use Rattle.server_model.specs.Seen.{Seen}
-use Rattle.shown_clauses.specs.Parts.{Part, parts_of, has_its_sessions}
-use Rattle.shown_clauses.specs.Showings.{has_its_showings}
-use Rattle.shown_clauses.specs.Steps.{Step, steps, steps_of}
-use Rattle.shown_clauses.specs.Submissions.{Submission, submissions_by_client}
-use Rattle.shown_clauses.specs.Whole.{are_taken, outcomes_taken}
+use Rattle.shown_clauses.specs.meaning.Parts.{Part, parts_of, has_its_sessions}
+use Rattle.shown_clauses.specs.meaning.Showings.{has_its_showings}
+use Rattle.shown_clauses.specs.meaning.Steps.{Step, steps, steps_of}
+use Rattle.shown_clauses.specs.meaning.Submissions.{Submission, submissions_by_client}
+use Rattle.shown_clauses.specs.meaning.Whole.{are_taken}
+use Rattle.shown_clauses.specs.Whole.{outcomes_taken}
 use Rattle.world_model.specs.records.Ready.{all_requests_right}
 use Rattle.world_model.specs.Reported.{IsReported}
 use Rattle.world_model.specs.Traced.{Traced}

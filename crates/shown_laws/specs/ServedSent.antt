@@ -1,10 +1,10 @@
 -- What a connection's session served since the last Begin, beside the frames that were sent.
 use Rattle.std.specs.Prelude.{◌≡◌, ◌&&◌, Bool, not, IsTrue, List, ◌++◌, map, reverse, Some}
 use Rattle.std.specs.List.{list_all}
-use Rattle.shown_clauses.specs.Links.{Marked}
-use Rattle.world_model.specs.Frames.{Sent, Handled}
+use Rattle.shown_clauses.specs.meaning.Links.{Marked}
+use Rattle.world_model.specs.meaning.Frames.{Sent, Handled}
 use Rattle.world_model.specs.Sames.{is_front, same_sent}
-use Rattle.world_model.specs.Serving.{is_blocked}
+use Rattle.world_model.specs.meaning.Serving.{is_blocked}
 use Rattle.invariant_laws.specs.Shown.{is_marked}
 use Rattle.world_model.specs.records.Wire.{handled_from}
 use Rattle.shown_laws.specs.TurnRows.{ServedOf}

@@ -7,7 +7,7 @@ use Rattle.client_model.specs.declared.act.Shown.{Shown}
 use Rattle.outage_schedule.specs.declared.item.Item.TheVariants as item
 use Rattle.outage_schedule.specs.declared.item.Served.{Served}
 use Rattle.outage_schedule.specs.declared.note.AskResult.TheVariants as told
-use Rattle.world_model.specs.Serving.{identifier}
+use Rattle.world_model.specs.meaning.Serving.{identifier}
 
 -- It has the answers and draws of a call that was served without the mark, and the identifier of that session with its commits; or it is shown
 -- with Committed and no draws, by an outcome that says committed and completed.

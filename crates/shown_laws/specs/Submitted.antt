@@ -1,6 +1,6 @@
 -- What was submitted: a request, with its report.
-use Rattle.shown_clauses.specs.Submissions.{Submission}
-use Rattle.world_model.specs.Clients.{Past}
+use Rattle.shown_clauses.specs.meaning.Submissions.{Submission}
+use Rattle.world_model.specs.meaning.Clients.{Past}
 use Rattle.world_model.specs.Traced.{Course}
 
 -- a request that is over

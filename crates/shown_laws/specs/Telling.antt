@@ -2,9 +2,9 @@
 use Rattle.std.specs.Prelude.{ℕ, ◌+◌, List, fold}
 use Rattle.outage_schedule.specs.declared.item.Served.{Served}
 use Rattle.outage_schedule.specs.declared.note.Note.{Note}
-use Rattle.shown_clauses.specs.Happenings.{Happening, tick_after, happenings_from}
-use Rattle.shown_clauses.specs.Links.{Seen, nothing_seen, after_happening}
-use Rattle.shown_clauses.specs.Steps.{Step, steps_at, steps_from}
+use Rattle.shown_clauses.specs.meaning.Happenings.{Happening, tick_after, happenings_from}
+use Rattle.shown_clauses.specs.meaning.Links.{Seen, nothing_seen, after_happening}
+use Rattle.shown_clauses.specs.meaning.Steps.{Step, steps_at, steps_from}
 
 -- the events
 abbrev pub events_told : List Note → List Served → List Happening

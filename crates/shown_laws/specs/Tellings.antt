@@ -6,17 +6,17 @@ use Rattle.outage_schedule.specs.declared.event.Event.{Event}
 use Rattle.outage_schedule.specs.declared.item.Served.{Served}
 use Rattle.outage_schedule.specs.declared.note.Note.{Note}
 use Rattle.outage_schedule.specs.declared.request.RequestReport.{RequestReport}
-use Rattle.run_clauses.specs.Copies.{next_of}
+use Rattle.run_clauses.specs.meaning.Copies.{next_of}
 use Rattle.server_model.specs.Seen.{Seen}
-use Rattle.client_model.specs.Terms.{requested}
+use Rattle.client_model.specs.meaning.Terms.{requested}
 use Rattle.client_model.specs.declared.input.Input.TheVariants.{Start}
-use Rattle.shown_clauses.specs.Steps.{Step as StepTold, steps_of}
-use Rattle.world_model.specs.Clients.{Step, Doing, Past, Client, client_at, script_at, begun, doing_of, reports_of}
-use Rattle.world_model.specs.Finishing.{Place}
+use Rattle.shown_clauses.specs.meaning.Steps.{Step as StepTold, steps_of}
+use Rattle.world_model.specs.meaning.Clients.{Step, Doing, Past, Client, client_at, script_at, begun, doing_of, reports_of}
+use Rattle.world_model.specs.meaning.Finishing.{Place}
 use Rattle.invariant_laws.specs.Invariant.{Invariant}
 use Rattle.world_model.specs.Reached.{Reached, IsFinishing}
 use Rattle.world_model.specs.records.Ready.{all_requests_right}
-use Rattle.world_model.specs.Settings.{Setting}
+use Rattle.world_model.specs.meaning.Settings.{Setting}
 use Rattle.world_model.specs.Traced.{Traced}
 use Rattle.shown_laws.specs.ClientSteps.{now_at, TellsKind}
 use Rattle.shown_laws.specs.Telling.{steps_told}

@@ -1,7 +1,7 @@
 -- The calls since the last Begin are all that their request sent on the connection.
 use Rattle.std.specs.Prelude.{◌≡◌, IsTrue, List, [], filter, fold, Option}
 use Rattle.invariant_laws.specs.FirstBegins.{begin_new, is_call_by}
-use Rattle.world_model.specs.Frames.{Owner, Sent}
+use Rattle.world_model.specs.meaning.Frames.{Owner, Sent}
 use Rattle.world_model.specs.records.Wire.{New, next_stage, is_right}
 use Rattle.shown_laws.specs.TurnSent.{sent_since}
 

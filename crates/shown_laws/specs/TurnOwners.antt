@@ -12,12 +12,12 @@ use Rattle.outage_schedule.specs.declared.event.Event.{Event}
 use Rattle.outage_schedule.specs.declared.item.Served.{Served}
 use Rattle.outage_schedule.specs.declared.note.Note.{Note}
 use Rattle.server_model.specs.Seen.{Seen as ServerSeen}
-use Rattle.shown_clauses.specs.Links.{Acquired, Link as SeenLink, Turn, link_of}
-use Rattle.shown_clauses.specs.Steps.{turns_seen}
-use Rattle.shown_clauses.specs.Turns.{is_turn_right}
-use Rattle.world_model.specs.Clients.{Step, Past, Client, client_at}
-use Rattle.world_model.specs.Frames.{Owner, Sent, Handled}
-use Rattle.world_model.specs.Links.{Link, link_at}
+use Rattle.shown_clauses.specs.meaning.Links.{Acquired, Link as SeenLink, Turn, link_of}
+use Rattle.shown_clauses.specs.meaning.Steps.{turns_seen}
+use Rattle.shown_clauses.specs.meaning.Turns.{is_turn_right}
+use Rattle.world_model.specs.meaning.Clients.{Step, Past, Client, client_at}
+use Rattle.world_model.specs.meaning.Frames.{Owner, Sent, Handled}
+use Rattle.world_model.specs.meaning.Links.{Link, link_at}
 use Rattle.world_model.specs.Reached.{Reached, IsRun}
 use Rattle.world_model.specs.records.Ready.{all_requests_right}
 use Rattle.world_model.specs.Traced.{Traced}

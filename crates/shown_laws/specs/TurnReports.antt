@@ -3,11 +3,11 @@ use Rattle.std.specs.Prelude.{◌+◌, ◌&&◌, ℕ, Bool, true, List, [], ◌�
 use Rattle.std.specs.List.{list_all}
 use Rattle.outage_schedule.specs.declared.document.Document.{Document}
 use Rattle.outage_schedule.specs.declared.report.Report.{Report}
-use Rattle.shown_clauses.specs.Links.{Turn}
-use Rattle.shown_clauses.specs.Parts.{parts_of, left_of}
-use Rattle.shown_clauses.specs.Steps.{Step, steps, steps_of, turns}
-use Rattle.shown_clauses.specs.Submissions.{Submission, submissions_by_client}
-use Rattle.shown_clauses.specs.Turns.{Owned, turns_of, turns_right, has_request, has_client}
+use Rattle.shown_clauses.specs.meaning.Links.{Turn}
+use Rattle.shown_clauses.specs.meaning.Parts.{parts_of, left_of}
+use Rattle.shown_clauses.specs.meaning.Steps.{Step, steps, steps_of, turns}
+use Rattle.shown_clauses.specs.meaning.Submissions.{Submission, submissions_by_client}
+use Rattle.shown_clauses.specs.meaning.Turns.{Owned, turns_of, turns_right, has_request, has_client}
 use Rattle.shown_laws.specs.ReportsTold.{HoldsOfReports}
 
 -- Each session in which a request began was acquired by one of the clients.

@@ -4,9 +4,9 @@ use Rattle.std.specs.List.{list_all}
 use Rattle.svc_values.specs.declared.call.Call.{Call}
 use Rattle.svc_values.specs.declared.draw.Draw.{Draw}
 use Rattle.svc_values.specs.declared.frame.Up.TheVariants as up
-use Rattle.shown_clauses.specs.Links.{Marked, Turn}
-use Rattle.shown_clauses.specs.Turns.{is_turn_right}
-use Rattle.world_model.specs.Frames.{Sent}
+use Rattle.shown_clauses.specs.meaning.Links.{Marked, Turn}
+use Rattle.shown_clauses.specs.meaning.Turns.{is_turn_right}
+use Rattle.world_model.specs.meaning.Frames.{Sent}
 use Rattle.invariant_laws.specs.NearCalls.{is_shown_or_next}
 use Rattle.invariant_laws.specs.Shown.{is_marked, is_row}
 use Rattle.world_model.specs.Traced.{Course}

@@ -3,8 +3,8 @@ use Rattle.std.specs.Prelude.{IsTrue, List, [], ◌∷◌, ◌++◌, fold, Optio
 use Rattle.std.specs.List.{list_all}
 use Rattle.svc_values.specs.declared.frame.Up.{Up}
 use Rattle.svc_values.specs.declared.frame.Up.TheVariants as up
-use Rattle.world_model.specs.Frames.{Owner, Sent}
-use Rattle.world_model.specs.Links.{Link}
+use Rattle.world_model.specs.meaning.Frames.{Owner, Sent}
+use Rattle.world_model.specs.meaning.Links.{Link}
 use Rattle.world_model.specs.Sames.{same_owners}
 use Rattle.world_model.specs.records.Wire.{stage_of, is_right}
 use Rattle.shown_laws.specs.TurnRows.{are_marked_first}

@@ -5,10 +5,10 @@ use Rattle.outage_schedule.specs.declared.event.Event.{Event}
 use Rattle.outage_schedule.specs.declared.item.Served.{Served}
 use Rattle.outage_schedule.specs.declared.note.Note.{Note}
 use Rattle.server_model.specs.Seen.{Seen as ServerSeen}
-use Rattle.shown_clauses.specs.Links.{Turn}
-use Rattle.world_model.specs.Finishing.{Place}
-use Rattle.world_model.specs.Frames.{Handled}
-use Rattle.world_model.specs.Links.{Link, link_at}
+use Rattle.shown_clauses.specs.meaning.Links.{Turn}
+use Rattle.world_model.specs.meaning.Finishing.{Place}
+use Rattle.world_model.specs.meaning.Frames.{Handled}
+use Rattle.world_model.specs.meaning.Links.{Link, link_at}
 use Rattle.world_model.specs.Reached.{Reached, IsFinishing}
 use Rattle.world_model.specs.records.Ready.{all_requests_right}
 use Rattle.world_model.specs.Traced.{Traced}

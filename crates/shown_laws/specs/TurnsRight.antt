@@ -6,10 +6,10 @@ use Rattle.outage_schedule.specs.declared.event.Event.{Event}
 use Rattle.outage_schedule.specs.declared.item.Served.{Served}
 use Rattle.outage_schedule.specs.declared.note.Note.{Note}
 use Rattle.server_model.specs.Seen.{Seen as ServerSeen}
-use Rattle.shown_clauses.specs.Links.{Link as SeenLink, Seen, Turn, link_of}
-use Rattle.shown_clauses.specs.Steps.{turns_seen}
-use Rattle.shown_clauses.specs.Turns.{is_turn_right}
-use Rattle.world_model.specs.Finishing.{Place}
+use Rattle.shown_clauses.specs.meaning.Links.{Link as SeenLink, Seen, Turn, link_of}
+use Rattle.shown_clauses.specs.meaning.Steps.{turns_seen}
+use Rattle.shown_clauses.specs.meaning.Turns.{is_turn_right}
+use Rattle.world_model.specs.meaning.Finishing.{Place}
 use Rattle.world_model.specs.Reached.{Reached, IsFinishing, IsRun}
 use Rattle.world_model.specs.records.Ready.{all_requests_right}
 use Rattle.world_model.specs.Traced.{Traced, Course, courses_of}

@@ -1,7 +1,7 @@
 -- A session answers Blocked only to a call without the mark.
 use Rattle.std.specs.Prelude.{Bool}
 use Rattle.std.specs.List.{list_all}
-use Rattle.world_model.specs.Links.{Link}
+use Rattle.world_model.specs.meaning.Links.{Link}
 use Rattle.world_model.specs.Traced.{Traced}
 use Rattle.shown_laws.specs.ServedSent.{none_blocked}
 

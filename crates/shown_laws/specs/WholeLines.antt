@@ -2,13 +2,13 @@
 use Rattle.std.specs.Prelude.{IsTrue}
 use Rattle.outage_schedule.specs.declared.document.Document.{Document}
 use Rattle.outage_schedule.specs.declared.report.Report.{Report}
-use Rattle.run_clauses.specs.Before.{journal_before}
-use Rattle.run_clauses.specs.Copies.{has_its_reports}
-use Rattle.run_clauses.specs.EntryEvents.{stored_entries}
-use Rattle.shown_clauses.specs.Parts.{has_its_sessions}
-use Rattle.shown_clauses.specs.Showings.{has_its_showings, calls_served, have_identifiers}
-use Rattle.shown_clauses.specs.Steps.{steps}
-use Rattle.shown_clauses.specs.Whole.{are_taken, whole}
+use Rattle.run_clauses.specs.meaning.Before.{journal_before}
+use Rattle.run_clauses.specs.meaning.Copies.{has_its_reports}
+use Rattle.run_clauses.specs.meaning.EntryEvents.{stored_entries}
+use Rattle.shown_clauses.specs.meaning.Parts.{has_its_sessions}
+use Rattle.shown_clauses.specs.meaning.Showings.{has_its_showings, calls_served, have_identifiers}
+use Rattle.shown_clauses.specs.meaning.Steps.{steps}
+use Rattle.shown_clauses.specs.meaning.Whole.{are_taken, whole}
 use Rattle.shown_laws.specs.ReportsTold.{of_parts}
 use Rattle.shown_laws.specs.TurnReports.{turns_have_clients, of_turns, parts_turn_right, turns_have_requests}
 

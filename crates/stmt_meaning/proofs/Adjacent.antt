@@ -4,7 +4,8 @@ use Rattle.std.specs.Prelude.{◌&&◌, ◌↔◌}
 use Rattle.std.proofs.lemmas.List.{drop_more, take_all}
 use Rattle.std.proofs.Math.ListN.{drop_of_length-le}
 use Rattle.svc_values.specs.declared.tables.PlainRow.{PlainRow}
-use Rattle.svc_values.specs.Tables.{comes_before, AreTables}
+use Rattle.svc_values.specs.meaning.Tables.{comes_before}
+use Rattle.svc_values.specs.Tables.{AreTables}
 use Rattle.svc_values.proofs.Offered.{ComesFirst-trans}
 use Rattle.stmt_meaning.proofs.PlanFits.{both, and-true}
 

@@ -13,16 +13,16 @@ use Rattle.svc_values.specs.declared.statement.Operand.{Operand}
 use Rattle.svc_values.specs.declared.statement.Statement.{Statement}
 use Rattle.svc_values.specs.declared.tables.PlainRow.{PlainRow}
 use Rattle.svc_values.specs.declared.value.Value.{Value}
-use Rattle.svc_values.specs.Calls.{operands_of}
-use Rattle.svc_values.specs.Draws.{is_of_kind}
-use Rattle.svc_values.specs.SettingsList.{NamedValues}
-use Rattle.svc_values.specs.Tables.{with_writes}
+use Rattle.svc_values.specs.meaning.Calls.{operands_of}
+use Rattle.svc_values.specs.meaning.Draws.{is_of_kind}
+use Rattle.svc_values.specs.meaning.SettingsList.{NamedValues}
+use Rattle.svc_values.specs.meaning.Tables.{with_writes}
 use Rattle.stmt_meaning.specs.declared.plan.Plan.{Plan}
 use Rattle.stmt_meaning.specs.Asked.{UsesInOrder}
 use Rattle.stmt_meaning.specs.AskedIn.{asked_before, asked_by_operands, asked_at, asked_in, asked_while}
-use Rattle.stmt_meaning.specs.Meaning.{OneDone, AllDone, Meant, done_at, mean1, is_refusal, ended_by, after_first, and_on, statements_done, worked, mean, commit_answer}
-use Rattle.stmt_meaning.specs.Operands.{Reading, ◌>>=◌, drawn_value, take_draw, Wanted, Known, Drawn, wanted, taken, values_of}
-use Rattle.stmt_meaning.specs.Plans.{Aim, aim_of, plan_for, plan_at, plan_of}
+use Rattle.stmt_meaning.specs.meaning.Meaning.{OneDone, AllDone, Meant, done_at, mean1, is_refusal, ended_by, after_first, and_on, statements_done, worked, mean, commit_answer}
+use Rattle.stmt_meaning.specs.meaning.Operands.{Reading, ◌>>=◌, drawn_value, take_draw, Wanted, Known, Drawn, wanted, taken, values_of}
+use Rattle.stmt_meaning.specs.meaning.Plans.{Aim, aim_of, plan_for, plan_at, plan_of}
 use Rattle.stmt_meaning.proofs.DrawOrder.{kind_is, no_need, onward}
 
 -- ---- operands

@@ -13,12 +13,13 @@ use Rattle.svc_values.specs.declared.answer.StatementFault.{StatementFault}
 use Rattle.svc_values.specs.declared.answer.StatementFault.TheVariants as fault
 use Rattle.svc_values.specs.SameLaws.{bytes_decide}
 use Rattle.stmt_meaning.specs.declared.plan.Plan.{Plan}
-use Rattle.stmt_meaning.specs.Operands.{Reading, ◌>>=◌, drawn_value, take_draw, Wanted, Known, Drawn, wanted, wanted_draw, taken, value_of, values_of}
-use Rattle.svc_values.specs.Draws.{is_of_kind, is_there}
+use Rattle.stmt_meaning.specs.meaning.Operands.{Reading, ◌>>=◌, drawn_value, take_draw, Wanted, Known, Drawn, wanted, wanted_draw, taken, value_of, values_of}
+use Rattle.svc_values.specs.meaning.Draws.{is_of_kind}
+use Rattle.svc_values.specs.Draws.{is_there}
 use Rattle.stmt_meaning.specs.Drawing.{is_first}
-use Rattle.stmt_meaning.specs.Plans.{Aim, aim_of, plan_for, plan_at, plan_of}
-use Rattle.svc_values.specs.Calls.{operands_of}
-use Rattle.svc_values.specs.SettingsList.{NamedValues}
+use Rattle.stmt_meaning.specs.meaning.Plans.{Aim, aim_of, plan_for, plan_at, plan_of}
+use Rattle.svc_values.specs.meaning.Calls.{operands_of}
+use Rattle.svc_values.specs.meaning.SettingsList.{NamedValues}
 
 -- more draws behind those that are left
 abbrev pub behind : {A : Type 0} → List Draw → Reading A → Reading A

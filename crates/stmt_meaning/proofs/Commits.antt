@@ -8,10 +8,11 @@ use Rattle.svc_values.specs.declared.call.Call.TheVariants as call
 use Rattle.svc_values.specs.declared.answer.Answer.{Answer}
 use Rattle.svc_values.specs.declared.answer.Answer.TheVariants as answer
 use Rattle.svc_values.specs.declared.tables.PlainRow.{PlainRow}
-use Rattle.svc_values.specs.Tables.{with_writes}
-use Rattle.stmt_meaning.specs.Meaning.{OneDone, AllDone, Meant, mean1, is_refusal, ends_refused, ended_by, after_first, and_on, statements_done, worked, mean, commit_answer}
+use Rattle.svc_values.specs.meaning.Tables.{with_writes}
+use Rattle.stmt_meaning.specs.meaning.Meaning.{OneDone, AllDone, Meant, mean1, is_refusal, ended_by, after_first, and_on, statements_done, worked, mean, commit_answer}
+use Rattle.stmt_meaning.specs.Refused.{ends_refused}
 use Rattle.stmt_meaning.specs.Laws.{closed_by}
-use Rattle.svc_values.specs.SettingsList.{NamedValues}
+use Rattle.svc_values.specs.meaning.SettingsList.{NamedValues}
 
 -- the answers tell whether a statement was refused
 abbrev pub Tells : Option AllDone → Type 0

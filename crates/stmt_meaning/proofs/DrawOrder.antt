@@ -19,17 +19,19 @@ use Rattle.svc_values.specs.declared.frame.Up.TheVariants as up
 use Rattle.svc_values.specs.declared.answer.StatementFault.{StatementFault}
 use Rattle.svc_values.specs.declared.answer.StatementFault.TheVariants as fault
 use Rattle.svc_values.specs.declared.tables.PlainRow.{PlainRow}
-use Rattle.svc_values.specs.Calls.{operands_of, from_sequence, from_sequences, sequences_in}
-use Rattle.svc_values.specs.Draws.{is_of_kind}
-use Rattle.svc_values.specs.Names.{is_name_of}
+use Rattle.svc_values.specs.meaning.Calls.{operands_of, from_sequence, from_sequences, sequences_in}
+use Rattle.svc_values.specs.meaning.Draws.{is_of_kind}
+use Rattle.svc_values.specs.meaning.Names.{is_name_of}
 use Rattle.svc_values.specs.SameLaws.{bytes_decide}
-use Rattle.svc_values.specs.SettingsList.{NamedValues, setting_of}
-use Rattle.svc_values.specs.Tables.{with_writes}
+use Rattle.svc_values.specs.meaning.SettingsList.{NamedValues, setting_of}
+use Rattle.svc_values.specs.meaning.Tables.{with_writes}
 use Rattle.stmt_meaning.specs.declared.plan.Plan.{Plan}
-use Rattle.stmt_meaning.specs.Asked.{kind_drawn, asked_by_operand, asked_by_statement, asked_by_call, UsesInOrder, is_of_sequence, sequences_drawn}
-use Rattle.stmt_meaning.specs.Meaning.{OneDone, AllDone, Meant, done_at, mean1, is_refusal, ends_refused, ended_by, after_first, and_on, statements_done, worked, mean, commit_answer}
-use Rattle.stmt_meaning.specs.Operands.{Reading, ◌>>=◌, drawn_value, take_draw, Drawn, wanted_setting, wanted_draw, taken, value_of, values_of}
-use Rattle.stmt_meaning.specs.Plans.{Aim, aim_of, plan_for, plan_at, plan_of}
+use Rattle.stmt_meaning.specs.meaning.Asked.{asked_by_operand, asked_by_statement, asked_by_call}
+use Rattle.stmt_meaning.specs.Asked.{kind_drawn, UsesInOrder, is_of_sequence, sequences_drawn}
+use Rattle.stmt_meaning.specs.meaning.Meaning.{OneDone, AllDone, Meant, done_at, mean1, is_refusal, ended_by, after_first, and_on, statements_done, worked, mean, commit_answer}
+use Rattle.stmt_meaning.specs.Refused.{ends_refused}
+use Rattle.stmt_meaning.specs.meaning.Operands.{Reading, ◌>>=◌, drawn_value, take_draw, Drawn, wanted_setting, wanted_draw, taken, value_of, values_of}
+use Rattle.stmt_meaning.specs.meaning.Plans.{Aim, aim_of, plan_for, plan_at, plan_of}
 use Rattle.stmt_meaning.proofs.Commits.{Tells, tells}
 
 -- ---- parts

@@ -4,7 +4,7 @@ use Rattle.std.specs.Prelude.{Option, Some, None, Ok, Err, option_map}
 use Rattle.svc_values.specs.declared.value.Value.{Value}
 use Rattle.svc_values.specs.declared.draw.Draw.{Draw}
 use Rattle.svc_values.specs.declared.draw.DrawKind.{DrawKind}
-use Rattle.stmt_meaning.specs.Operands.{Reading, drawn_value, wanted_draw, taken}
+use Rattle.stmt_meaning.specs.meaning.Operands.{Reading, drawn_value, wanted_draw, taken}
 use Rattle.stmt_meaning.specs.declared.fault.DrawFromFault.{DrawFromFault}
 use Rattle.stmt_meaning.specs.declared.fault.DrawFromFault.TheVariants as fault
 use Rattle.stmt_meaning.specs.declared.fault.TxnFault.{TxnFault}

@@ -11,10 +11,11 @@ use Rattle.std.proofs.lemmas.Cmp.{then_total}
 use Rattle.std.proofs.lemmas.List.{reverse-append}
 use Rattle.std.proofs.lemmas.List.Elements.{filter-append}
 use Rattle.std.proofs.lemmas.List.Sorted.{ranks_by, sorted_far}
-use Rattle.svc_values.specs.Order.{value_cmp}
+use Rattle.svc_values.specs.meaning.Order.{value_cmp}
 use Rattle.svc_values.proofs.Offered.{value_cmp_total}
 use Rattle.svc_values.specs.declared.tables.PlainRow.{PlainRow}
-use Rattle.svc_values.specs.Tables.{row_cmp, comes_before, put_row, in_order}
+use Rattle.svc_values.specs.meaning.Tables.{comes_before, put_row, in_order}
+use Rattle.svc_values.specs.Tables.{row_cmp}
 
 row_cmp_total : IsTotalOrder row_cmp
 row_cmp_total = then_total (on_texts (λ (row : PlainRow). row.table)) (on_total (λ (row : PlainRow). row.key) value_cmp_total)

@@ -12,13 +12,14 @@ use Rattle.svc_values.specs.declared.entry.Write.{Write}
 use Rattle.stmt_meaning.specs.declared.plan.Plan.{Plan}
 use Rattle.svc_values.specs.declared.tables.PlainRow.{PlainRow}
 use Rattle.svc_values.specs.declared.tables.Place.{Place}
-use Rattle.svc_values.specs.Tables.{with_writes, AreTables, AgreeAt}
-use Rattle.stmt_meaning.specs.Operands.{Reading}
-use Rattle.stmt_meaning.specs.Plans.{plan_of, place_of}
-use Rattle.stmt_meaning.specs.Effects.{effect}
-use Rattle.stmt_meaning.specs.Meaning.{OneDone, AllDone, Meant, seen_at, done_at, mean1, statements_done, and_on, after_first, ended_by, is_refusal, worked, alone, mean, commit_answer}
+use Rattle.svc_values.specs.meaning.Tables.{with_writes}
+use Rattle.svc_values.specs.Tables.{AreTables, AgreeAt}
+use Rattle.stmt_meaning.specs.meaning.Operands.{Reading}
+use Rattle.stmt_meaning.specs.meaning.Plans.{plan_of, place_of}
+use Rattle.stmt_meaning.specs.meaning.Effects.{effect}
+use Rattle.stmt_meaning.specs.meaning.Meaning.{OneDone, AllDone, Meant, seen_at, done_at, mean1, statements_done, and_on, after_first, ended_by, is_refusal, worked, alone, mean, commit_answer}
 use Rattle.svc_values.proofs.Offered.{rows_at-with_writes, AreTables-with_writes}
-use Rattle.svc_values.specs.SettingsList.{NamedValues}
+use Rattle.svc_values.specs.meaning.SettingsList.{NamedValues}
 
 -- ---- places
 

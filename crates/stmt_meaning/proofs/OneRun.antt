@@ -8,16 +8,16 @@ use Rattle.svc_values.specs.declared.statement.Statement.{Statement}
 use Rattle.svc_values.specs.declared.answer.Answer.TheVariants as answer
 use Rattle.svc_values.specs.declared.answer.StatementFault.{StatementFault}
 use Rattle.svc_values.specs.declared.tables.PlainRow.{PlainRow}
-use Rattle.svc_values.specs.Calls.{operands_of}
-use Rattle.svc_values.specs.SettingsList.{NamedValues}
+use Rattle.svc_values.specs.meaning.Calls.{operands_of}
+use Rattle.svc_values.specs.meaning.SettingsList.{NamedValues}
 use Rattle.stmt_meaning.specs.declared.plan.Plan.{Plan}
 use Rattle.stmt_meaning.specs.declared.effect.Effect.{Effect}
 use Rattle.stmt_meaning.specs.declared.fault.TxnFault.{TxnFault}
 use Rattle.stmt_meaning.specs.declared.fault.TxnFault.TheVariants as txn_fault
-use Rattle.stmt_meaning.specs.Operands.{Reading, ◌>>=◌, values_of}
-use Rattle.stmt_meaning.specs.Plans.{Aim, aim_of, place_of, plan_for, plan_at, plan_of}
-use Rattle.stmt_meaning.specs.Effects.{effect}
-use Rattle.stmt_meaning.specs.Meaning.{OneDone, seen_at, done_at, mean1}
+use Rattle.stmt_meaning.specs.meaning.Operands.{Reading, ◌>>=◌, values_of}
+use Rattle.stmt_meaning.specs.meaning.Plans.{Aim, aim_of, place_of, plan_for, plan_at, plan_of}
+use Rattle.stmt_meaning.specs.meaning.Effects.{effect}
+use Rattle.stmt_meaning.specs.meaning.Meaning.{OneDone, seen_at, done_at, mean1}
 use Rattle.stmt_meaning.specs.Drawing.{Drew, Ends}
 use Rattle.stmt_meaning.specs.InnerReading.{ReadsAll, left_of}
 use Rattle.stmt_meaning.specs.InnerRunning.{RanOne, one_left, one_of}

@@ -13,17 +13,17 @@ use Rattle.svc_values.specs.declared.statement.Test.{Test}
 use Rattle.svc_values.specs.declared.statement.Statement.TheVariants as statement
 use Rattle.svc_values.specs.declared.answer.StatementFault.{StatementFault}
 use Rattle.svc_values.specs.declared.entry.Write.{Write}
-use Rattle.svc_values.specs.Kinds.{kind_of, same_kind, row_fits}
-use Rattle.svc_values.specs.Same.{same_value}
+use Rattle.svc_values.specs.meaning.Kinds.{kind_of, same_kind, row_fits}
+use Rattle.svc_values.specs.meaning.Same.{same_value}
 use Rattle.svc_values.specs.SameLaws.{same_value_decides}
 use Rattle.stmt_meaning.specs.declared.plan.Plan.{Plan}
 use Rattle.stmt_meaning.specs.declared.plan.Plan.TheVariants as plan
 use Rattle.stmt_meaning.specs.declared.plan.RowWork.{RowWork}
 use Rattle.stmt_meaning.specs.declared.plan.RowWork.TheVariants as row_work
-use Rattle.stmt_meaning.specs.Plans.{Aim, in_table, in_column, at_column, whole, but_key, aim_of, if_kinds_fit, key_plan, set_plan, add_plan, change_plan, select_plan, plan_for, show_plan}
-use Rattle.svc_values.specs.Schemas.{schema_of, column_of, is_column_kind, key_fits, key_of}
-use Rattle.stmt_meaning.specs.Effects.{fits_i64, number_at, added, row_effect}
-use Rattle.svc_values.specs.Fitting.{is_row_of, has_fit, write_fits}
+use Rattle.stmt_meaning.specs.meaning.Plans.{Aim, in_table, in_column, at_column, whole, but_key, aim_of, if_kinds_fit, key_plan, set_plan, add_plan, change_plan, select_plan, plan_for, show_plan}
+use Rattle.svc_values.specs.meaning.Schemas.{schema_of, column_of, is_column_kind, key_fits, key_of}
+use Rattle.stmt_meaning.specs.meaning.Effects.{fits_i64, number_at, added, row_effect}
+use Rattle.svc_values.specs.meaning.Fitting.{is_row_of, has_fit, write_fits}
 
 -- ---- tests
 

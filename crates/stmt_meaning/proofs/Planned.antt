@@ -10,9 +10,9 @@ use Rattle.stmt_meaning.specs.declared.plan.Plan.{Plan}
 use Rattle.stmt_meaning.specs.declared.planning.PlanFault.{PlanFault}
 use Rattle.stmt_meaning.specs.declared.planning.PlanFault.TheVariants as plan_fault
 use Rattle.stmt_meaning.specs.InnerAnswers.{IsRefusedAs}
-use Rattle.stmt_meaning.specs.Operands.{Reading, ◌>>=◌, values_of}
-use Rattle.stmt_meaning.specs.Plans.{Aim, aim_of, plan_for, plan_at, plan_of}
-use Rattle.svc_values.specs.Calls.{operands_of}
+use Rattle.stmt_meaning.specs.meaning.Operands.{Reading, ◌>>=◌, values_of}
+use Rattle.stmt_meaning.specs.meaning.Plans.{Aim, aim_of, plan_for, plan_at, plan_of}
+use Rattle.svc_values.specs.meaning.Calls.{operands_of}
 use Rattle.stmt_meaning.specs.declared.fault.TxnFault.{TxnFault}
 use Rattle.stmt_meaning.specs.declared.stop.Stop.{Stop}
 use Rattle.stmt_meaning.specs.declared.stop.Stop.TheVariants as stop
@@ -20,7 +20,7 @@ use Rattle.stmt_meaning.specs.Drawing.{Drew, Ends}
 use Rattle.stmt_meaning.specs.InnerReading.{ReadsAll, HasRead, left_of}
 use Rattle.stmt_meaning.specs.InnerStops.{stop_of_plan}
 use Rattle.stmt_meaning.proofs.Drawn.{lacking, ends_as}
-use Rattle.svc_values.specs.SettingsList.{NamedValues}
+use Rattle.svc_values.specs.meaning.SettingsList.{NamedValues}
 
 module _ {S : Type 0} (drew : S → Drew → S → Type 0) (shape : Shape) (settings : NamedValues) (asked : Statement) (old : S) (before : List Draw) where
   abbrev plans : List Draw → Reading Plan

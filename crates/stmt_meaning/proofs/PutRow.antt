@@ -5,7 +5,7 @@ use Rattle.std.proofs.lemmas.Bool.{ltb-false}
 use Rattle.std.specs.Prelude.{Some, None, position, unwrap_or, insert}
 use Rattle.std.specs.List.{position_or_len}
 use Rattle.svc_values.specs.declared.tables.PlainRow.{PlainRow}
-use Rattle.svc_values.specs.Tables.{put_row, comes_before}
+use Rattle.svc_values.specs.meaning.Tables.{put_row, comes_before}
 
 put_at : (row first : PlainRow) (rest : List PlainRow) (b : Bool) → comes_before row first ≡ b → put_row row rest ≡ insert rest (position_or_len (λ other. comes_before row other) rest) row
     → put_row row (first ∷ rest) ≡ insert (first ∷ rest) (position_or_len (λ other. comes_before row other) (first ∷ rest)) row

@@ -9,8 +9,8 @@ use Rattle.svc_values.specs.declared.value.Value.{Value}
 use Rattle.svc_values.specs.declared.draw.Draw.{Draw}
 use Rattle.svc_values.specs.declared.statement.Operand.{Operand}
 use Rattle.svc_values.specs.declared.answer.StatementFault.{StatementFault}
-use Rattle.stmt_meaning.specs.Operands.{Reading, ◌>>=◌, value_of, values_of}
-use Rattle.svc_values.specs.SettingsList.{NamedValues}
+use Rattle.stmt_meaning.specs.meaning.Operands.{Reading, ◌>>=◌, value_of, values_of}
+use Rattle.svc_values.specs.meaning.SettingsList.{NamedValues}
 
 -- these values before the ones that are read
 abbrev pub after_values : List Value → Reading (List Value) → Reading (List Value)

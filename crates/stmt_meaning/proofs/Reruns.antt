@@ -6,15 +6,18 @@ use Rattle.svc_values.specs.declared.schema.Shape.{Shape}
 use Rattle.svc_values.specs.declared.entry.Write.{Write}
 use Rattle.svc_values.specs.declared.tables.Place.{Place}
 use Rattle.svc_values.specs.declared.tables.PlainRow.{PlainRow}
-use Rattle.svc_values.specs.Tables.{rows_at, with_writes, AreTables, AgreeAt}
-use Rattle.stmt_meaning.specs.Meaning.{Meant}
-use Rattle.stmt_meaning.specs.Reads.{Read, reads_at, ReadsStand}
-use Rattle.stmt_meaning.specs.Serial.{Replays, Transaction, RunWhole, CommitLast}
+use Rattle.svc_values.specs.meaning.Tables.{rows_at, with_writes}
+use Rattle.svc_values.specs.Tables.{AreTables, AgreeAt}
+use Rattle.stmt_meaning.specs.meaning.Meaning.{Meant}
+use Rattle.stmt_meaning.specs.meaning.Reads.{Read, reads_at}
+use Rattle.stmt_meaning.specs.Reads.{ReadsStand}
+use Rattle.stmt_meaning.specs.meaning.Serial.{Replays, Transaction}
+use Rattle.stmt_meaning.specs.Serial.{RunWhole, CommitLast}
 use Rattle.stmt_meaning.specs.Rerun.{CallAt, RanAt, AreOrdered, at_once, pieces_of, reads_of, reads_then}
 use Rattle.svc_values.proofs.Offered.{AreTables-with_writes, with_writes-append}
 use Rattle.stmt_meaning.proofs.MeanLocal.{mean-same, mean-tables, meant_on, AgreeAt-with_writes}
 use Rattle.stmt_meaning.proofs.SerialSteps.{Transaction-whole}
-use Rattle.svc_values.specs.SettingsList.{NamedValues}
+use Rattle.svc_values.specs.meaning.SettingsList.{NamedValues}
 
 -- ---- reads that stand
 

@@ -9,12 +9,12 @@ use Rattle.svc_values.specs.declared.answer.Answer.{Answer}
 use Rattle.svc_values.specs.declared.entry.Write.{Write}
 use Rattle.svc_values.specs.declared.tables.PlainRow.{PlainRow}
 use Rattle.svc_values.specs.declared.tables.Place.{Place}
-use Rattle.svc_values.specs.SettingsList.{NamedValues}
-use Rattle.svc_values.specs.Tables.{with_writes}
+use Rattle.svc_values.specs.meaning.SettingsList.{NamedValues}
+use Rattle.svc_values.specs.meaning.Tables.{with_writes}
 use Rattle.svc_values.proofs.Offered.{with_writes-append}
 use Rattle.stmt_meaning.specs.declared.fault.TxnFault.{TxnFault}
 use Rattle.stmt_meaning.specs.declared.fault.TxnFault.TheVariants as txn_fault
-use Rattle.stmt_meaning.specs.Meaning.{OneDone, AllDone, mean1, is_refusal, after_first, ended_by, and_on, statements_done}
+use Rattle.stmt_meaning.specs.meaning.Meaning.{OneDone, AllDone, mean1, is_refusal, after_first, ended_by, and_on, statements_done}
 use Rattle.stmt_meaning.specs.Drawing.{Drew, DrewAll, Ends}
 use Rattle.stmt_meaning.specs.InnerRunning.{RanOne, one_left, all_left}
 use Rattle.stmt_meaning.proofs.Drawn.{drew_append, ended_on}

@@ -13,8 +13,8 @@ use Rattle.stmt_meaning.specs.declared.plan.TableWork.{TableWork}
 use Rattle.stmt_meaning.specs.declared.plan.TableWork.TheVariants as table_work
 use Rattle.stmt_meaning.specs.declared.scan.Scan.{Scan}
 use Rattle.stmt_meaning.specs.declared.scan.Scan.TheVariants as scan
-use Rattle.svc_values.specs.Tests.{selected, value_meets}
-use Rattle.stmt_meaning.specs.Effects.{number_at, total, limited, table_answer}
+use Rattle.svc_values.specs.meaning.Tests.{selected, value_meets}
+use Rattle.stmt_meaning.specs.meaning.Effects.{number_at, total, limited, table_answer}
 use Rattle.stmt_meaning.specs.InnerScans.{scanned, next_scan, last_answer, answer_of, with_met, is_settled}
 
 pub total-append : (at : ℕ) (rows more : List (List Value)) → total at (rows ++ more) ≡ total at rows +ℤ total at more

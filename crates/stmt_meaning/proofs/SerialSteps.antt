@@ -5,9 +5,10 @@ use Rattle.svc_values.specs.declared.schema.Shape.{Shape}
 use Rattle.svc_values.specs.declared.entry.Piece.{Piece}
 use Rattle.svc_values.specs.declared.entry.Entry.{Entry}
 use Rattle.svc_values.specs.declared.tables.PlainRow.{PlainRow}
-use Rattle.stmt_meaning.specs.Meaning.{Meant}
-use Rattle.stmt_meaning.specs.Serial.{Replays, Transaction, Serial, RunWhole, CommitLast}
-use Rattle.svc_values.specs.SettingsList.{NamedValues}
+use Rattle.stmt_meaning.specs.meaning.Meaning.{Meant}
+use Rattle.stmt_meaning.specs.meaning.Serial.{Replays, Transaction, Serial}
+use Rattle.stmt_meaning.specs.Serial.{RunWhole, CommitLast}
+use Rattle.svc_values.specs.meaning.SettingsList.{NamedValues}
 
 some_same : (a b : Meant) → Some a ≡ Some b → a ≡ b
 some_same a b e = cc

@@ -5,14 +5,15 @@ use Rattle.svc_values.specs.declared.schema.Shape.{Shape}
 use Rattle.svc_values.specs.declared.draw.Draw.{Draw}
 use Rattle.svc_values.specs.declared.entry.Piece.{Piece}
 use Rattle.svc_values.specs.declared.entry.Entry.{Entry}
-use Rattle.svc_values.specs.Endings.{ends_committed}
+use Rattle.svc_values.specs.meaning.Endings.{ends_committed}
 use Rattle.svc_values.specs.SameLaws.{same_answers_decide}
 use Rattle.svc_values.specs.declared.tables.PlainRow.{PlainRow}
-use Rattle.stmt_meaning.specs.Meaning.{Meant, mean}
-use Rattle.stmt_meaning.specs.Serial.{Replays, Transaction, Serial}
-use Rattle.svc_values.specs.Same.{same_answers}
-use Rattle.stmt_meaning.specs.SerialTest.{is_nil, if_replayed, replayed, if_commits, transaction_after, and_then, serial_after}
-use Rattle.svc_values.specs.SettingsList.{NamedValues}
+use Rattle.stmt_meaning.specs.meaning.Meaning.{Meant, mean}
+use Rattle.stmt_meaning.specs.meaning.Serial.{Replays, Transaction, Serial}
+use Rattle.svc_values.specs.meaning.Same.{same_answers}
+use Rattle.stmt_meaning.specs.meaning.SerialTest.{is_nil}
+use Rattle.stmt_meaning.specs.SerialTest.{if_replayed, replayed, if_commits, transaction_after, and_then, serial_after}
+use Rattle.svc_values.specs.meaning.SettingsList.{NamedValues}
 
 nil_is : (draws : List Draw) → is_nil draws ≡ true → draws ≡ []
 nil_is [] h = refl

@@ -8,9 +8,9 @@ use Rattle.stmt_meaning.specs.declared.plan.TableWork.{TableWork}
 use Rattle.stmt_meaning.specs.declared.scan.Scan.{Scan}
 use Rattle.svc_values.specs.declared.tables.PlainRow.{PlainRow}
 use Rattle.svc_values.specs.declared.tables.Place.{Place}
-use Rattle.svc_values.specs.Tables.{rows_at, is_at}
-use Rattle.stmt_meaning.specs.Effects.{first_of, table_answer}
-use Rattle.stmt_meaning.specs.Meaning.{seen_at}
+use Rattle.svc_values.specs.meaning.Tables.{rows_at, is_at}
+use Rattle.stmt_meaning.specs.meaning.Effects.{first_of, table_answer}
+use Rattle.stmt_meaning.specs.meaning.Meaning.{seen_at}
 use Rattle.stmt_meaning.specs.InnerScans.{scanned, next_scan, last_answer}
 use Rattle.stmt_meaning.proofs.ScanLaws.{scanned-next, scanned-append, last_answer-scanned}
 

@@ -16,20 +16,21 @@ use Rattle.stmt_meaning.specs.declared.plan.Plan.{Plan}
 use Rattle.stmt_meaning.specs.declared.plan.Plan.TheVariants as plan
 use Rattle.svc_values.specs.declared.tables.PlainRow.{PlainRow}
 use Rattle.svc_values.specs.declared.tables.Place.TheVariants as place
-use Rattle.stmt_meaning.specs.Operands.{Reading, ◌>>=◌, values_of}
-use Rattle.stmt_meaning.specs.Plans.{Aim, aim_of, plan_for, plan_at, plan_of, place_of}
-use Rattle.svc_values.specs.Calls.{operands_of}
-use Rattle.svc_values.specs.Schemas.{schema_of}
-use Rattle.stmt_meaning.specs.Effects.{effect, first_of}
-use Rattle.svc_values.specs.Tables.{is_at, put_row, put_if_any, without, with_write, with_writes, comes_before}
-use Rattle.stmt_meaning.specs.Meaning.{OneDone, AllDone, Meant, seen_at, done_at, mean1, statements_done, and_on, after_first, ended_by, is_refusal, worked, alone, mean, commit_answer}
-use Rattle.svc_values.specs.Fitting.{is_row_of, has_fit, tables_fit, write_fits, writes_fit, IsBase}
+use Rattle.stmt_meaning.specs.meaning.Operands.{Reading, ◌>>=◌, values_of}
+use Rattle.stmt_meaning.specs.meaning.Plans.{Aim, aim_of, plan_for, plan_at, plan_of, place_of}
+use Rattle.svc_values.specs.meaning.Calls.{operands_of}
+use Rattle.svc_values.specs.meaning.Schemas.{schema_of}
+use Rattle.stmt_meaning.specs.meaning.Effects.{effect, first_of}
+use Rattle.svc_values.specs.meaning.Tables.{is_at, put_row, put_if_any, without, with_write, with_writes, comes_before}
+use Rattle.stmt_meaning.specs.meaning.Meaning.{OneDone, AllDone, Meant, seen_at, done_at, mean1, statements_done, and_on, after_first, ended_by, is_refusal, worked, alone, mean, commit_answer}
+use Rattle.svc_values.specs.meaning.Fitting.{is_row_of, has_fit, write_fits, writes_fit}
+use Rattle.svc_values.specs.Fitting.{tables_fit, IsBase}
 use Rattle.stmt_meaning.specs.PlainRuns.{IsMeaning}
 use Rattle.stmt_meaning.specs.declared.plain.PlainRun.{PlainRun}
 use Rattle.svc_values.proofs.Offered.{AreTables-with_writes, is_at-row}
 use Rattle.stmt_meaning.proofs.MeanLocal.{mean-tables}
 use Rattle.stmt_meaning.proofs.PlanFits.{both, and-true, PlanFits, PlanFits-for, OneFits, OneFits-row_effect}
-use Rattle.svc_values.specs.SettingsList.{NamedValues}
+use Rattle.svc_values.specs.meaning.SettingsList.{NamedValues}
 
 -- ---- tests of all rows
 

@@ -5,7 +5,7 @@ use Rattle.svc_values.specs.declared.value.Value.{Value}
 use Rattle.svc_values.specs.declared.draw.Draw.{Draw}
 use Rattle.svc_values.specs.declared.statement.Operand.{Operand}
 use Rattle.svc_values.specs.declared.answer.StatementFault.{StatementFault}
-use Rattle.stmt_meaning.specs.Operands.{Reading, wanted, value_of, values_of}
+use Rattle.stmt_meaning.specs.meaning.Operands.{Reading, wanted, value_of, values_of}
 use Rattle.stmt_meaning.proofs.ReadValues.{after_values, drop-slice_get, reads_on, reads_stop, reads_refused, reads_end}
 use Rattle.stmt_meaning.specs.declared.fault.TxnFault.{TxnFault}
 use Rattle.stmt_meaning.specs.declared.fault.TxnFault.TheVariants as txn_fault
@@ -15,7 +15,7 @@ use Rattle.stmt_meaning.specs.Drawing.{Drew, DrewAll, EndedBy, Ends}
 use Rattle.stmt_meaning.specs.InnerReading.{ReadsAll, HasRead, left_of}
 use Rattle.stmt_meaning.proofs.Asking.{EnoughAfter, taken-more, enough_after}
 use Rattle.stmt_meaning.proofs.Drawn.{drew_append, ended_on}
-use Rattle.svc_values.specs.SettingsList.{NamedValues}
+use Rattle.svc_values.specs.meaning.SettingsList.{NamedValues}
 
 -- what was read with all draws used
 pub read_all : {A : Type 0} (come : Reading A) → option_map (λ c. c.1) come ≡ Some [] → (r : Result A StatementFault) × (come ≡ Some (r, []))

@@ -11,8 +11,8 @@ use Rattle.svc_values.specs.declared.entry.Write.{Write}
 use Rattle.svc_values.specs.declared.tables.Place.{Place}
 use Rattle.svc_values.specs.declared.tables.PlainRow.{PlainRow}
 use Rattle.svc_values.specs.declared.call.Call.{Call}
-use Rattle.svc_values.specs.SettingsList.{NamedValues}
-use Rattle.svc_values.specs.Tables.{with_writes}
+use Rattle.svc_values.specs.meaning.SettingsList.{NamedValues}
+use Rattle.svc_values.specs.meaning.Tables.{with_writes}
 use Rattle.stmt_meaning.specs.declared.fault.TxnFault.{TxnFault}
 use Rattle.stmt_meaning.specs.declared.fault.TxnFault.TheVariants as txn_fault
 use Rattle.stmt_meaning.specs.declared.plain.PlainRun.{PlainRun}
@@ -21,7 +21,7 @@ use Rattle.stmt_meaning.specs.Drawing.{DrewAll, Ends}
 use Rattle.stmt_meaning.specs.InnerAnswers.{DidAll}
 use Rattle.stmt_meaning.specs.InnerRunning.{RanNext, all_left, one_left}
 use Rattle.stmt_meaning.specs.Listed.{Listing, TakesFirst}
-use Rattle.stmt_meaning.specs.Meaning.{AllDone, Meant, statements_done, worked, alone, commit_answer, mean}
+use Rattle.stmt_meaning.specs.meaning.Meaning.{AllDone, Meant, statements_done, worked, alone, commit_answer, mean}
 use Rattle.stmt_meaning.specs.PlainRuns.{IsMeaning}
 use Rattle.stmt_meaning.proofs.Running.{RanSoFar, left_is, ran_all, ran_drew, ran_ended, ran_none, ran_on, ran_refusal}
 

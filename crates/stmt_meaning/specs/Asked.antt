@@ -1,33 +1,16 @@
 -- Which draws a call asks for: those of its operands, in the order in which these are read.
-use Rattle.std.specs.Prelude.{◌≡◌, ℕ, Bool, true, false, List, [], ◌∷◌, ◌++◌, map, filter, flat_map, length}
+-- Here is what contracts and proofs say of it besides.
+use Rattle.std.specs.Prelude.{◌≡◌, ℕ, Bool, true, false, List, [], ◌++◌, map, filter, length}
 use Rattle.svc_values.specs.declared.draw.Draw.{Draw}
 use Rattle.svc_values.specs.declared.draw.Draw.TheVariants as draw
 use Rattle.svc_values.specs.declared.draw.DrawKind.{DrawKind}
 use Rattle.svc_values.specs.declared.draw.DrawKind.TheVariants as kind
-use Rattle.svc_values.specs.declared.statement.Operand.{Operand}
-use Rattle.svc_values.specs.declared.statement.Operand.TheVariants as operand
-use Rattle.svc_values.specs.declared.statement.Statement.{Statement}
-use Rattle.svc_values.specs.declared.call.Call.{Call}
-use Rattle.svc_values.specs.declared.call.Call.TheVariants as call
-use Rattle.svc_values.specs.Calls.{operands_of}
 
 -- what a draw was asked for as: its kind, with the name of its sequence
 abbrev pub kind_drawn : Draw → DrawKind
 kind_drawn (draw.Seq name n) = kind.Seq name
 kind_drawn (draw.Clock tick) = kind.Clock
 kind_drawn (draw.Id id) = kind.Id
-
-abbrev pub asked_by_operand : Operand → List DrawKind
-asked_by_operand (operand.Draw asked) = asked ∷ []
-asked_by_operand _ = []
-
-abbrev pub asked_by_statement : Statement → List DrawKind
-asked_by_statement statement = flat_map asked_by_operand (operands_of statement)
-
--- what a call asks for of which no statement is refused
-abbrev pub asked_by_call : Call → List DrawKind
-asked_by_call (call.Work statements commit) = flat_map asked_by_statement statements
-asked_by_call _ = []
 
 -- The draws before `rest` were used: they are those that are asked for, in order, up to some place, and all of them where nothing was refused.
 pub record UsesInOrder (asked : List DrawKind) (draws rest : List Draw) (is_refused : Bool) : Type 0 where

@@ -10,11 +10,11 @@ use Rattle.svc_values.specs.declared.draw.DrawKind.{DrawKind}
 use Rattle.svc_values.specs.declared.schema.Shape.{Shape}
 use Rattle.svc_values.specs.declared.statement.Operand.{Operand}
 use Rattle.svc_values.specs.declared.statement.Statement.{Statement}
-use Rattle.svc_values.specs.Calls.{operands_of}
-use Rattle.svc_values.specs.Endings.{ends_with}
-use Rattle.svc_values.specs.SettingsList.{NamedValues}
-use Rattle.stmt_meaning.specs.Operands.{Wanted, Known, Drawn, wanted}
-use Rattle.stmt_meaning.specs.Plans.{Aim, aim_of}
+use Rattle.svc_values.specs.meaning.Calls.{operands_of}
+use Rattle.svc_values.specs.meaning.Endings.{ends_with}
+use Rattle.svc_values.specs.meaning.SettingsList.{NamedValues}
+use Rattle.stmt_meaning.specs.meaning.Operands.{Wanted, Known, Drawn, wanted}
+use Rattle.stmt_meaning.specs.meaning.Plans.{Aim, aim_of}
 
 -- what is asked for before what comes behind an operand: nothing comes behind one that refuses
 abbrev pub asked_before : Result Wanted StatementFault → List DrawKind → List DrawKind

@@ -4,10 +4,10 @@ use Rattle.svc_values.specs.declared.call.Call.{Call}
 use Rattle.svc_values.specs.declared.draw.Draw.{Draw}
 use Rattle.svc_values.specs.declared.schema.Shape.{Shape}
 use Rattle.svc_values.specs.declared.tables.PlainRow.{PlainRow}
-use Rattle.svc_values.specs.SettingsList.{NamedValues}
+use Rattle.svc_values.specs.meaning.SettingsList.{NamedValues}
 use Rattle.stmt_meaning.specs.Asked.{kind_drawn, UsesInOrder}
 use Rattle.stmt_meaning.specs.AskedIn.{asked_while, ends_unset}
-use Rattle.stmt_meaning.specs.Meaning.{Meant, mean}
+use Rattle.stmt_meaning.specs.meaning.Meaning.{Meant, mean}
 
 -- A call takes exactly the draws that its statements ask for in its settings, up to the last that has an answer.
 abbrev pub CallsDrawAsAnswered : Type 0

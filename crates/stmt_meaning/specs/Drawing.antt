@@ -2,7 +2,8 @@
 use Rattle.std.specs.Prelude.{◌≡◌, ◌⊎◌, ℕ, Bool, true, false, List, [], ◌∷◌, ◌++◌, Option, Some, None, Result, Ok, Err}
 use Rattle.svc_values.specs.declared.draw.Draw.{Draw}
 use Rattle.svc_values.specs.declared.draw.DrawKind.{DrawKind}
-use Rattle.svc_values.specs.Draws.{is_of_kind, is_there}
+use Rattle.svc_values.specs.meaning.Draws.{is_of_kind}
+use Rattle.svc_values.specs.Draws.{is_there}
 use Rattle.stmt_meaning.specs.declared.fault.DrawFromFault.{DrawFromFault}
 use Rattle.stmt_meaning.specs.declared.fault.DrawFromFault.TheVariants as fault
 use Rattle.stmt_meaning.specs.declared.fault.TxnFault.{TxnFault}

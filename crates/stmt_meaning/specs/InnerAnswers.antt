@@ -5,8 +5,8 @@ use Rattle.svc_values.specs.declared.answer.StatementFault.{StatementFault}
 use Rattle.stmt_meaning.specs.declared.plan.Plan.{Plan}
 use Rattle.svc_values.specs.declared.tables.PlainRow.{PlainRow}
 use Rattle.svc_values.specs.declared.answer.Answer.{Answer}
-use Rattle.svc_values.specs.Tables.{with_writes}
-use Rattle.stmt_meaning.specs.Meaning.{AllDone}
+use Rattle.svc_values.specs.meaning.Tables.{with_writes}
+use Rattle.stmt_meaning.specs.meaning.Meaning.{AllDone}
 use Rattle.stmt_meaning.specs.declared.planning.PlanFault.{PlanFault}
 use Rattle.stmt_meaning.specs.declared.planning.PlanFault.TheVariants as plan_fault
 

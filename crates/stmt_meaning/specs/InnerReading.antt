@@ -3,7 +3,7 @@ use Rattle.std.specs.Prelude.{◌≡◌, List, [], ◌++◌, Option, Some, Resul
 use Rattle.svc_values.specs.declared.draw.Draw.{Draw}
 use Rattle.svc_values.specs.declared.answer.StatementFault.{StatementFault}
 use Rattle.stmt_meaning.specs.Drawing.{Drew, DrewAll, Ends}
-use Rattle.stmt_meaning.specs.Operands.{Reading}
+use Rattle.stmt_meaning.specs.meaning.Operands.{Reading}
 use Rattle.stmt_meaning.specs.declared.stop.Stop.{Stop}
 use Rattle.stmt_meaning.specs.declared.stop.Stop.TheVariants as stop
 

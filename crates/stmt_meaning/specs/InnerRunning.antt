@@ -5,13 +5,13 @@ use Rattle.svc_values.specs.declared.schema.Shape.{Shape}
 use Rattle.svc_values.specs.declared.statement.Statement.{Statement}
 use Rattle.svc_values.specs.declared.tables.PlainRow.{PlainRow}
 use Rattle.svc_values.specs.declared.tables.Place.{Place}
-use Rattle.svc_values.specs.SettingsList.{NamedValues}
-use Rattle.svc_values.specs.Tables.{with_writes}
+use Rattle.svc_values.specs.meaning.SettingsList.{NamedValues}
+use Rattle.svc_values.specs.meaning.Tables.{with_writes}
 use Rattle.stmt_meaning.specs.declared.effect.Effect.{Effect}
 use Rattle.stmt_meaning.specs.declared.rows.Worked.{Worked}
 use Rattle.stmt_meaning.specs.Drawing.{Drew, DrewAll}
 use Rattle.stmt_meaning.specs.Listed.{Listing, TakesFirst}
-use Rattle.stmt_meaning.specs.Meaning.{OneDone, mean1, statements_done, is_refusal}
+use Rattle.stmt_meaning.specs.meaning.Meaning.{OneDone, mean1, statements_done, is_refusal}
 
 -- One statement that ran: it used exactly the draws that it was given, which are put behind those before.
 pub record RanOne {S : Type 0} (drew : S → Drew → S → Type 0) (shape : Shape) (rows : List PlainRow) (settings : NamedValues) (statement : Statement) (old : S) (before : List Draw) (one : OneDone) (new : S) (after : List Draw) : Type 0 where

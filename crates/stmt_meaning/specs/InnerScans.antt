@@ -9,8 +9,8 @@ use Rattle.stmt_meaning.specs.declared.plan.TableWork.{TableWork}
 use Rattle.stmt_meaning.specs.declared.plan.TableWork.TheVariants as table_work
 use Rattle.stmt_meaning.specs.declared.scan.Scan.{Scan}
 use Rattle.stmt_meaning.specs.declared.scan.Scan.TheVariants as scan
-use Rattle.svc_values.specs.Tests.{selected, value_meets}
-use Rattle.stmt_meaning.specs.Effects.{number_at, total, summed}
+use Rattle.svc_values.specs.meaning.Tests.{selected, value_meets}
+use Rattle.stmt_meaning.specs.meaning.Effects.{number_at, total, summed}
 
 -- what was found in these rows. Of the rows that meet a select's test the first 32 are kept
 abbrev pub scanned : TableWork → List (List Value) → Scan

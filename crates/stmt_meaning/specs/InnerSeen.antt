@@ -2,7 +2,7 @@
 use Rattle.std.specs.Prelude.{Result, Ok, Err}
 use Rattle.svc_values.specs.declared.answer.StatementFault.{StatementFault}
 use Rattle.stmt_meaning.specs.declared.target.Target.{Target}
-use Rattle.stmt_meaning.specs.Plans.{Aim}
+use Rattle.stmt_meaning.specs.meaning.Plans.{Aim}
 
 abbrev pub aim : Target → Aim
 aim target = record { columns = target.columns.now; at = target.at }

@@ -9,12 +9,16 @@ use Rattle.svc_values.specs.declared.answer.Answer.{Answer}
 use Rattle.svc_values.specs.declared.answer.Answer.TheVariants as answer
 use Rattle.svc_values.specs.declared.frame.Up.TheVariants as up
 use Rattle.svc_values.specs.declared.tables.PlainRow.{PlainRow}
-use Rattle.svc_values.specs.Calls.{sequences_in}
-use Rattle.svc_values.specs.Fitting.{IsBase, writes_fit}
-use Rattle.svc_values.specs.SettingsList.{NamedValues}
-use Rattle.svc_values.specs.Tables.{with_writes, AreTables, AgreeAt}
-use Rattle.stmt_meaning.specs.Asked.{asked_by_call, is_of_sequence, UsesInOrder, sequences_drawn}
-use Rattle.stmt_meaning.specs.Meaning.{OneDone, Meant, mean1, mean, ends_refused}
+use Rattle.svc_values.specs.meaning.Calls.{sequences_in}
+use Rattle.svc_values.specs.meaning.Fitting.{writes_fit}
+use Rattle.svc_values.specs.Fitting.{IsBase}
+use Rattle.svc_values.specs.meaning.SettingsList.{NamedValues}
+use Rattle.svc_values.specs.meaning.Tables.{with_writes}
+use Rattle.svc_values.specs.Tables.{AreTables, AgreeAt}
+use Rattle.stmt_meaning.specs.meaning.Asked.{asked_by_call}
+use Rattle.stmt_meaning.specs.Asked.{is_of_sequence, UsesInOrder, sequences_drawn}
+use Rattle.stmt_meaning.specs.meaning.Meaning.{OneDone, Meant, mean1, mean}
+use Rattle.stmt_meaning.specs.Refused.{ends_refused}
 
 -- the draws that are left by a statement, and whether there are enough, depend on no row
 abbrev pub DrawsLookAtNoRow : Type 0

@@ -2,13 +2,9 @@ pub mod Asked
 pub mod AskedIn
 pub mod DrawLaws
 pub mod Drawing
-pub mod Effects
 pub mod Laws
 pub mod Listed
-pub mod Meaning
-pub mod Operands
 pub mod PlainRuns
-pub mod Plans
 pub mod Reads
 pub mod Rerun
 pub mod Serial
@@ -20,3 +16,5 @@ pub mod InnerRunning
 pub mod InnerScans
 pub mod InnerSeen
 pub mod InnerStops
+pub mod Refused
+pub mod meaning

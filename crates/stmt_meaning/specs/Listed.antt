@@ -1,6 +1,7 @@
 -- Draws that are taken from the front of a list.
 use Rattle.std.specs.Prelude.{◌≡◌, ℕ, List, [], ◌∷◌, Option, Some, None, Result, Ok, Err, false, if◌then◌else◌}
-use Rattle.svc_values.specs.Draws.{is_of_kind, is_there}
+use Rattle.svc_values.specs.meaning.Draws.{is_of_kind}
+use Rattle.svc_values.specs.Draws.{is_there}
 use Rattle.stmt_meaning.specs.declared.fault.DrawFromFault.{DrawFromFault}
 use Rattle.stmt_meaning.specs.declared.fault.DrawFromFault.TheVariants as fault
 use Rattle.svc_values.specs.declared.draw.Draw.{Draw}

@@ -2,7 +2,7 @@
 use Rattle.std.specs.Prelude.{◌≡◌, ◌+◌, length, drop, List, Option, Some}
 use Rattle.svc_values.specs.declared.draw.Draw.{Draw}
 use Rattle.stmt_meaning.specs.declared.plain.PlainRun.{PlainRun}
-use Rattle.stmt_meaning.specs.Meaning.{Meant}
+use Rattle.stmt_meaning.specs.meaning.Meaning.{Meant}
 
 -- A run of a call has what the call means, and used as many of the draws as it took.
 pub record Gives (meant : Meant) (draws : List Draw) (run : PlainRun) : Type 0 where

@@ -1,21 +1,10 @@
 -- What a transaction read, each place with the rows that were committed there at that moment.
-use Rattle.std.specs.Prelude.{◌≡◌, List, Option, Some, None, map, All, Contains}
+-- Here is what contracts and proofs say of it besides.
+use Rattle.std.specs.Prelude.{◌≡◌, List, Option, Some, None, All, Contains}
 use Rattle.svc_values.specs.declared.tables.PlainRow.{PlainRow}
 use Rattle.svc_values.specs.declared.tables.Place.{Place}
-use Rattle.svc_values.specs.Tables.{rows_at}
-
--- A place was read, and these rows were committed there: the row of its key or none, or all rows of the table in order of key.
-pub record Read : Type 0 where
-  pub at : Place
-  pub found : List PlainRow
-
--- a read of the place at the moment of these committed rows
-abbrev pub read_at : List PlainRow → Place → Read
-read_at committed at = record { at = at; found = rows_at committed at }
-
--- places that are read at one moment
-abbrev pub reads_at : List PlainRow → List Place → List Read
-reads_at committed places = map (read_at committed) places
+use Rattle.svc_values.specs.meaning.Tables.{rows_at}
+use Rattle.stmt_meaning.specs.meaning.Reads.{Read}
 
 -- each place that was read has the rows now that were found there
 abbrev pub ReadsStand : List Read → List PlainRow → Type 0

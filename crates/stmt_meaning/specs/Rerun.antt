@@ -4,11 +4,12 @@ use Rattle.svc_values.specs.declared.schema.Shape.{Shape}
 use Rattle.svc_values.specs.declared.entry.Piece.{Piece}
 use Rattle.svc_values.specs.declared.entry.Write.{Write}
 use Rattle.svc_values.specs.declared.tables.PlainRow.{PlainRow}
-use Rattle.svc_values.specs.Tables.{with_writes, AreTables}
-use Rattle.stmt_meaning.specs.Meaning.{Meant, mean}
-use Rattle.stmt_meaning.specs.Reads.{Read, reads_at}
-use Rattle.stmt_meaning.specs.Serial.{Replays}
-use Rattle.svc_values.specs.SettingsList.{NamedValues}
+use Rattle.svc_values.specs.meaning.Tables.{with_writes}
+use Rattle.svc_values.specs.Tables.{AreTables}
+use Rattle.stmt_meaning.specs.meaning.Meaning.{Meant, mean}
+use Rattle.stmt_meaning.specs.meaning.Reads.{Read, reads_at}
+use Rattle.stmt_meaning.specs.meaning.Serial.{Replays}
+use Rattle.svc_values.specs.meaning.SettingsList.{NamedValues}
 
 -- A call of a transaction: the committed tables at its moment, and the piece that it left.
 pub record CallAt : Type 0 where

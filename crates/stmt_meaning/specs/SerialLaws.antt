@@ -4,12 +4,15 @@ use Rattle.svc_values.specs.declared.schema.Shape.{Shape}
 use Rattle.svc_values.specs.declared.entry.Entry.{Entry}
 use Rattle.svc_values.specs.declared.entry.Write.{Write}
 use Rattle.svc_values.specs.declared.tables.PlainRow.{PlainRow}
-use Rattle.svc_values.specs.SettingsList.{NamedValues}
-use Rattle.svc_values.specs.Tables.{with_writes, AreTables}
-use Rattle.stmt_meaning.specs.Meaning.{Meant}
-use Rattle.stmt_meaning.specs.Reads.{ReadsStand, reads_at}
+use Rattle.svc_values.specs.meaning.SettingsList.{NamedValues}
+use Rattle.svc_values.specs.meaning.Tables.{with_writes}
+use Rattle.svc_values.specs.Tables.{AreTables}
+use Rattle.stmt_meaning.specs.meaning.Meaning.{Meant}
+use Rattle.stmt_meaning.specs.meaning.Reads.{reads_at}
+use Rattle.stmt_meaning.specs.Reads.{ReadsStand}
 use Rattle.stmt_meaning.specs.Rerun.{CallAt, RanAt, AreOrdered, at_once, pieces_of, reads_of}
-use Rattle.stmt_meaning.specs.Serial.{Replays, RunWhole, CommitLast, Transaction, Serial}
+use Rattle.stmt_meaning.specs.meaning.Serial.{Replays, Transaction, Serial}
+use Rattle.stmt_meaning.specs.Serial.{RunWhole, CommitLast}
 use Rattle.stmt_meaning.specs.SerialTest.{serial_after}
 
 -- a serial run goes on by one entry

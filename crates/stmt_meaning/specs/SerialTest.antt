@@ -1,18 +1,15 @@
 -- A serial run as a test that computes.
-use Rattle.std.specs.Prelude.{◌&&◌, Bool, true, false, not, List, [], ◌∷◌, Option, Some, None, is_some, if◌then◌else◌}
+-- Here is what contracts and proofs say of it besides.
+use Rattle.std.specs.Prelude.{◌&&◌, Bool, not, List, [], ◌∷◌, Option, Some, None, is_some, if◌then◌else◌}
 use Rattle.svc_values.specs.declared.schema.Shape.{Shape}
-use Rattle.svc_values.specs.declared.draw.Draw.{Draw}
 use Rattle.svc_values.specs.declared.entry.Piece.{Piece}
 use Rattle.svc_values.specs.declared.entry.Entry.{Entry}
-use Rattle.svc_values.specs.Endings.{ends_committed}
-use Rattle.svc_values.specs.Same.{same_answers}
+use Rattle.svc_values.specs.meaning.Endings.{ends_committed}
+use Rattle.svc_values.specs.meaning.Same.{same_answers}
 use Rattle.svc_values.specs.declared.tables.PlainRow.{PlainRow}
-use Rattle.stmt_meaning.specs.Meaning.{Meant, mean}
-use Rattle.svc_values.specs.SettingsList.{NamedValues}
-
-abbrev pub is_nil : List Draw → Bool
-is_nil [] = true
-is_nil (draw ∷ draws) = false
+use Rattle.stmt_meaning.specs.meaning.Meaning.{Meant, mean}
+use Rattle.svc_values.specs.meaning.SettingsList.{NamedValues}
+use Rattle.stmt_meaning.specs.meaning.SerialTest.{is_nil}
 
 abbrev pub if_replayed : Piece → Option Meant → Option Meant
 if_replayed piece None = None

@@ -1,8 +1,9 @@
 //! What is answered and written at the row of a key.
 ghost use Rattle.std.specs.Prelude.{◌≡◌, IfOk, option_copied, slice_set, ◌+ℤ◌, [], ◌∷◌};
-ghost use Rattle.svc_values.specs.Endings.{last_answer};
-ghost use Rattle.stmt_meaning.specs.Effects.{number_at as number_at_def, row_effect as row_effect_def, only as only_def, wrote as wrote_def, added as added_def, refused as refused_def};
-ghost use Rattle.stmt_meaning.specs.Meaning.{is_refusal as is_refusal_def, ends_refused as ends_refused_def};
+ghost use Rattle.svc_values.specs.meaning.Endings.{last_answer};
+ghost use Rattle.stmt_meaning.specs.meaning.Effects.{number_at as number_at_def, row_effect as row_effect_def, only as only_def, wrote as wrote_def, added as added_def, refused as refused_def};
+ghost use Rattle.stmt_meaning.specs.meaning.Meaning.{is_refusal as is_refusal_def};
+ghost use Rattle.stmt_meaning.specs.Refused.{ends_refused as ends_refused_def};
 
 use crate::plan::RowWork;
 use std::alloc::Global;

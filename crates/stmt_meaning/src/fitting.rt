@@ -1,8 +1,8 @@
 //! Whether rows and writes fit what is declared, and stand in order.
 ghost use Rattle.std.specs.Prelude.{◌≡◌, ◌↔◌, IsTrue, Some};
-ghost use Rattle.svc_values.specs.Fitting.{is_row_of as is_row_of_def, write_fits as write_fits_def};
-ghost use Rattle.svc_values.specs.Schemas.{key_of};
-ghost use Rattle.svc_values.specs.Same.{same_value};
+ghost use Rattle.svc_values.specs.meaning.Fitting.{is_row_of as is_row_of_def, write_fits as write_fits_def};
+ghost use Rattle.svc_values.specs.meaning.Schemas.{key_of};
+ghost use Rattle.svc_values.specs.meaning.Same.{same_value};
 ghost use Rattle.svc_values.specs.Tables.{AreTables};
 
 use crate::planning::is_column_kind;

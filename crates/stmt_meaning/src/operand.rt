@@ -1,7 +1,7 @@
 //! Operands: the order in which they are read, and what they stand for.
 ghost use Rattle.std.specs.Prelude.{◌≡◌, ◌<◌, IfOk, IsSome, option_copied, slice_get};
-ghost use Rattle.stmt_meaning.specs.Operands.{drawn_value as drawn_value_def};
-ghost use Rattle.svc_values.specs.Calls.{operands_of, operand_of};
+ghost use Rattle.stmt_meaning.specs.meaning.Operands.{drawn_value as drawn_value_def};
+ghost use Rattle.svc_values.specs.meaning.Calls.{operands_of, operand_of};
 
 use std::alloc::Global;
 use svc_values::{Change, Draw, NoMemory, Octets, Operand, Statement, Value};

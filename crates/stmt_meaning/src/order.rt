@@ -1,6 +1,7 @@
 //! The order of table and key.
 ghost use Rattle.std.specs.Prelude.{◌≡◌, IfOk};
-ghost use Rattle.svc_values.specs.Tables.{in_order as in_order_def, row_cmp};
+ghost use Rattle.svc_values.specs.meaning.Tables.{in_order as in_order_def};
+ghost use Rattle.svc_values.specs.Tables.{row_cmp};
 
 use std::cmp::Ordering;
 use svc_values::{NoMemory, PlainRow, PlainTables};

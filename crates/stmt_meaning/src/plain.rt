@@ -1,9 +1,9 @@
 //! Calls on plain tables.
 ghost use Rattle.std.specs.Prelude.{◌≡◌, ◌++◌, ◌∷◌, [], IfOk, IsErrOf, List, None, Option, length};
 ghost use Rattle.svc_values.specs.Fitting.{IsBase};
-ghost use Rattle.svc_values.specs.SettingsList.{put_setting};
+ghost use Rattle.svc_values.specs.meaning.SettingsList.{put_setting};
 ghost use Rattle.stmt_meaning.specs.InnerAnswers.{DidAll};
-ghost use Rattle.stmt_meaning.specs.Meaning.{AllDone, commit_answer, mean, statements_done, worked as worked_def};
+ghost use Rattle.stmt_meaning.specs.meaning.Meaning.{AllDone, commit_answer, mean, statements_done, worked as worked_def};
 ghost use Rattle.stmt_meaning.specs.PlainRuns.{IsMeaning};
 ghost use Rattle.stmt_meaning.specs.declared.plain.PlainFault.TheVariants as plain_fault;
 

@@ -1,6 +1,6 @@
 //! What a statement asks to be done once its operands are read.
 ghost use Rattle.std.specs.Prelude.{◌≡◌, IfOk};
-ghost use Rattle.stmt_meaning.specs.Plans.{place_of};
+ghost use Rattle.stmt_meaning.specs.meaning.Plans.{place_of};
 
 use std::alloc::Global;
 use svc_values::{Name, NoMemory, Place, Row, Test, TryCopy, Value};

@@ -1,10 +1,10 @@
 //! The plan of a statement, from the values of its operands: the checks of their kinds.
 ghost use Rattle.std.specs.Prelude.{◌≡◌, option_copied, slice_get};
 ghost use Rattle.stmt_meaning.specs.InnerAnswers.{IsPlanned};
-ghost use Rattle.svc_values.specs.Schemas.{is_column_kind as is_column_kind_def, key_of};
-ghost use Rattle.stmt_meaning.specs.Plans.{key_plan as key_plan_def, set_plan as set_plan_def, add_plan as add_plan_def, change_plan as change_plan_def, select_plan as select_plan_def, show_plan as show_plan_def, plan_for as plan_for_def, if_kinds_fit};
+ghost use Rattle.svc_values.specs.meaning.Schemas.{is_column_kind as is_column_kind_def, key_of};
+ghost use Rattle.stmt_meaning.specs.meaning.Plans.{key_plan as key_plan_def, set_plan as set_plan_def, add_plan as add_plan_def, change_plan as change_plan_def, select_plan as select_plan_def, show_plan as show_plan_def, plan_for as plan_for_def, if_kinds_fit};
 ghost use Rattle.stmt_meaning.specs.InnerSeen.{aim};
-ghost use Rattle.svc_values.specs.Kinds.{row_fits};
+ghost use Rattle.svc_values.specs.meaning.Kinds.{row_fits};
 ghost use Rattle.stmt_meaning.specs.declared.planning.PlanFault.TheVariants as plan_fault;
 
 use crate::plan::{Plan, RowWork, TableWork};

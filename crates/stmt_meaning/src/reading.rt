@@ -1,9 +1,9 @@
 //! Operands read, with draws from a source.
 ghost use Rattle.std.specs.Prelude.{◌≡◌};
-ghost use Rattle.svc_values.specs.Calls.{operands_of};
+ghost use Rattle.svc_values.specs.meaning.Calls.{operands_of};
 ghost use Rattle.stmt_meaning.specs.InnerReading.{HasRead};
-ghost use Rattle.stmt_meaning.specs.Operands.{taken, value_of as value_of_def, values_of as values_of_def, wanted_draw};
-ghost use Rattle.stmt_meaning.specs.Plans.{plan_of as plan_of_def};
+ghost use Rattle.stmt_meaning.specs.meaning.Operands.{taken, value_of as value_of_def, values_of as values_of_def, wanted_draw};
+ghost use Rattle.stmt_meaning.specs.meaning.Plans.{plan_of as plan_of_def};
 
 use crate::draw_from::DrawFrom;
 use crate::operand::{drawn_value, operand_at};

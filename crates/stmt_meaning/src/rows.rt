@@ -1,12 +1,12 @@
 //! Statements on plain rows.
 ghost use Rattle.std.specs.Prelude.{◌≡◌, IfErr, IfOk, OnOk, Some, length, option_copied};
 ghost use Rattle.stmt_meaning.specs.Drawing.{Ends};
-ghost use Rattle.stmt_meaning.specs.Effects.{effect as effect_def, first_of, table_answer};
+ghost use Rattle.stmt_meaning.specs.meaning.Effects.{effect as effect_def, first_of, table_answer};
 ghost use Rattle.stmt_meaning.specs.InnerAnswers.{DidAll};
 ghost use Rattle.stmt_meaning.specs.InnerRunning.{HadEffect, RanNext, all_left, one_left};
 ghost use Rattle.stmt_meaning.specs.Listed.{TakesFirst};
-ghost use Rattle.stmt_meaning.specs.Meaning.{seen_at, statements_done};
-ghost use Rattle.stmt_meaning.specs.Plans.{place_of};
+ghost use Rattle.stmt_meaning.specs.meaning.Meaning.{seen_at, statements_done};
+ghost use Rattle.stmt_meaning.specs.meaning.Plans.{place_of};
 
 use crate::effect::{Effect, is_refusal, row_effect, shown};
 use crate::fault::TxnFault;

@@ -1,7 +1,7 @@
 //! What is asked of a whole table, row after row.
 ghost use Rattle.std.specs.Prelude.{◌≡◌, ◌++◌, ◌∷◌, [], List, IfOk, IsTrue, length, fold, ◌<◌};
 ghost use Rattle.svc_values.specs.declared.value.Value.{Value as Kept};
-ghost use Rattle.stmt_meaning.specs.Effects.{summed as summed_def};
+ghost use Rattle.stmt_meaning.specs.meaning.Effects.{summed as summed_def};
 ghost use Rattle.stmt_meaning.specs.InnerScans.{scanned, next_scan, last_answer, is_settled as is_settled_def};
 
 use crate::effect::number_at;

@@ -1,7 +1,7 @@
 //! Where a statement works: the checks of its names.
 ghost use Rattle.std.specs.Prelude.{◌≡◌};
-ghost use Rattle.stmt_meaning.specs.Plans.{aim_of, in_table as in_table_def, in_column as in_column_def, whole};
-ghost use Rattle.svc_values.specs.Schemas.{column_of as column_of_def, schema_of as schema_of_def};
+ghost use Rattle.stmt_meaning.specs.meaning.Plans.{aim_of, in_table as in_table_def, in_column as in_column_def, whole};
+ghost use Rattle.svc_values.specs.meaning.Schemas.{column_of as column_of_def, schema_of as schema_of_def};
 ghost use Rattle.stmt_meaning.specs.InnerSeen.{aim_seen};
 
 use svc_values::{Column, Name, Schema, Statement, StatementFault, schema_of};

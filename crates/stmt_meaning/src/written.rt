@@ -1,7 +1,7 @@
 //! Plain tables after a write.
 ghost use Rattle.std.specs.Prelude.{◌≡◌, ◌≤◌, OnOk, OnErr, position, option_to_list};
 ghost use Rattle.std.specs.Vec.{vec_capacity, vec_len};
-ghost use Rattle.svc_values.specs.Tables.{is_at, comes_before as comes_before_def, put_row as put_row_def, with_write, with_writes, without};
+ghost use Rattle.svc_values.specs.meaning.Tables.{is_at, comes_before as comes_before_def, put_row as put_row_def, with_write, with_writes, without};
 
 use std::cmp::Ordering;
 use svc_values::{Name, NoMemory, Place, PlainRow, Value, Write};

@@ -4,11 +4,11 @@ use Rattle.std.specs.Prelude.{nat_le}
 use Rattle.std.proofs.lemmas.Bool.{le-leb, and_from}
 use Rattle.svc_values.specs.declared.entry.Entry.{Entry}
 use Rattle.svc_values.specs.declared.entry.Write.{Write}
-use Rattle.svc_values.specs.Fitting.{writes_fit}
-use Rattle.ltxid_book.specs.Sessions.{Sessions, may_commit as may_note}
+use Rattle.svc_values.specs.meaning.Fitting.{writes_fit}
+use Rattle.ltxid_book.specs.meaning.Sessions.{Sessions, may_commit as may_note}
 use Rattle.commit_log.specs.declared.journal.Journal.{Journal}
-use Rattle.commit_log.specs.Bases.{schemas_of}
-use Rattle.commit_log.specs.Rules.{sessions_of, may_commit}
+use Rattle.commit_log.specs.meaning.Bases.{schemas_of}
+use Rattle.commit_log.specs.meaning.Rules.{sessions_of, may_commit}
 
 -- a commit that writes no row
 pub may_come_next : (sessions : Sessions) (journal : Journal) (entry : Entry) → sessions ≡ sessions_of journal → entry.ltxid.incarnation ≤ journal.incarnation → entry.writes ≡ [] → may_note sessions entry.ltxid ≡ true

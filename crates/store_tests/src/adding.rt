@@ -5,8 +5,8 @@ ghost use Rattle.svc_values.specs.Identifiers.{IsLtxid};
 ghost use Rattle.canon_bytes.specs.Entries.{IsMadeEntry};
 ghost use Rattle.ltxid_book.specs.Sessions.{sessions_in};
 ghost use Rattle.commit_log.specs.Bases.{IsBase};
-ghost use Rattle.commit_log.specs.Rules.{sessions_of, reservation_size, may_commit as may_commit_def, may_block as may_block_def, may_reserve as may_reserve_def};
-ghost use Rattle.commit_log.specs.Journals.{journal_of};
+ghost use Rattle.commit_log.specs.meaning.Rules.{sessions_of, reservation_size, may_commit as may_commit_def, may_block as may_block_def, may_reserve as may_reserve_def};
+ghost use Rattle.commit_log.specs.meaning.Journals.{journal_of};
 ghost use Rattle.commit_log.specs.Logs.{CanLog};
 
 use commit_log::{
@@ -19,7 +19,7 @@ use std::test::Fail;
 use svc_values::{Entry, Ltxid, Name, NoMemory};
 
 // A base of no table and one sequence `s`, which begins at 1.
-#[tactic(auto, unfolding(commit_log::specs::Bases::is_base))]
+#[tactic(auto, unfolding(commit_log::specs::meaning::Bases::is_base))]
 pub fn one_sequence(alloc: Global) -> Result<Base, Fail>
     ensures { IfOk result IsBase }
 {
@@ -74,7 +74,7 @@ fn follows(end: i64, upto: i64) -> bool
 }
 
 // Whether the reservation is the next one of the only sequence.
-#[tactic(auto, unfolding(commit_log::specs::Rules::may_reserve))]
+#[tactic(auto, unfolding(commit_log::specs::meaning::Rules::may_reserve))]
 fn may_reserve(journal: &Journal, reservation: &Reservation) -> bool
     ensures { result ≡ true → IsTrue (may_reserve_def journal.now reservation.now) }
 {

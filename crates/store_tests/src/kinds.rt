@@ -2,7 +2,7 @@
 ghost use Rattle.std.specs.Prelude.{◌≡◌, ◌<◌, [], IfOk, Ok};
 ghost use Rattle.svc_values.specs.Identifiers.{IsLtxid};
 ghost use Rattle.canon_bytes.specs.Entries.{IsMadeEntry};
-ghost use Rattle.commit_log.specs.Journals.{journal_of};
+ghost use Rattle.commit_log.specs.meaning.Journals.{journal_of};
 ghost use Rattle.commit_log.specs.Logs.{CanLog};
 
 use crate::adding::{block_next, commit_next, one_sequence, reserve_next};

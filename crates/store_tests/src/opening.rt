@@ -8,7 +8,7 @@ use commit_log::{Base, BaseSequences, BaseTables, Journal, Log, LogFault};
 use disk_model::Disk;
 use std::alloc::Global;
 
-#[tactic(auto, unfolding(commit_log::specs::Bases::is_base))]
+#[tactic(auto, unfolding(commit_log::specs::meaning::Bases::is_base))]
 pub fn no_tables(alloc: Global) -> Base
     ensures { IsBase result }
 {

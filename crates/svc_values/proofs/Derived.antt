@@ -6,8 +6,8 @@ use Rattle.svc_values.specs.declared.value.Value.{Value}
 use Rattle.svc_values.specs.declared.value.Value.TheVariants as value
 use Rattle.svc_values.specs.contracts.value.ValueOrd.TheImpl.{cmp-value}
 use Rattle.svc_values.specs.contracts.value.ValuePartialEq.TheImpl.{eq-value}
-use Rattle.svc_values.specs.Order.{value_cmp}
-use Rattle.svc_values.specs.Same.{same_value}
+use Rattle.svc_values.specs.meaning.Order.{value_cmp}
+use Rattle.svc_values.specs.meaning.Same.{same_value}
 
 pub by_kind : (a b : Value) → cmp-value.it a b ≡ value_cmp a b
 by_kind (value.Int a) (value.Int b) = refl

@@ -3,7 +3,7 @@ use Rattle.std.proofs.Common.{◌≡◌, suc, ◌-◌, List, [], ◌∷◌, ◌+
 use Rattle.std.specs.Prelude.{Option, Some, None, slice_get}
 use Rattle.std.specs.List.{last_or}
 use Rattle.svc_values.specs.declared.answer.Answer.{Answer}
-use Rattle.svc_values.specs.Endings.{last_answer}
+use Rattle.svc_values.specs.meaning.Endings.{last_answer}
 
 last_or-next : (answers : List Answer) (before : Option Answer) (a : Answer) → last_or before (answers ++ a ∷ []) ≡ Some a
 last_or-next [] before a = refl

@@ -6,7 +6,8 @@ use Rattle.svc_values.specs.declared.entry.Write.{Write}
 use Rattle.svc_values.specs.declared.tables.PlainRow.{PlainRow}
 use Rattle.svc_values.specs.declared.tables.Place.{Place}
 use Rattle.svc_values.specs.declared.tables.Place.TheVariants as place
-use Rattle.svc_values.specs.Tables.{is_at, rows_at, comes_before, put_row, put_if_any, without, with_write, with_writes, ComesFirst, AreTables}
+use Rattle.svc_values.specs.meaning.Tables.{is_at, rows_at, comes_before, put_row, put_if_any, without, with_write, with_writes}
+use Rattle.svc_values.specs.Tables.{ComesFirst, AreTables}
 use Rattle.svc_values.specs.TableLaws.{written_row, is_touched}
 use Rattle.svc_values.proofs.RowOrder.{comes_before-trans, comes_before-other, is_at-row, is_at-own, AtOne}
 

@@ -9,13 +9,13 @@ use Rattle.std.specs.Cmp.Lexicographic.{slice_cmp}
 use Rattle.std.proofs.lemmas.Cmp.{nat_list_cmp_total}
 use Rattle.std.proofs.lemmas.Map.Lookups.{exact_bytes}
 use Rattle.svc_values.specs.declared.value.Value.{Value}
-use Rattle.svc_values.specs.Order.{value_cmp}
-use Rattle.svc_values.specs.Same.{same_value}
+use Rattle.svc_values.specs.meaning.Order.{value_cmp}
+use Rattle.svc_values.specs.meaning.Same.{same_value}
 use Rattle.svc_values.specs.SameLaws.{bytes_decide, same_value_decides}
 use Rattle.svc_values.proofs.ValueOrder.{value_cmp_total, exact_values}
 use Rattle.svc_values.specs.declared.tables.PlainRow.{PlainRow}
 use Rattle.svc_values.specs.declared.tables.Place.TheVariants as place
-use Rattle.svc_values.specs.Tables.{is_at, comes_before}
+use Rattle.svc_values.specs.meaning.Tables.{is_at, comes_before}
 
 -- of one table and key
 pub record AtOne (a b : PlainRow) : Type 0 where

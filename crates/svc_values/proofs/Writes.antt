@@ -2,7 +2,7 @@
 use Rattle.std.proofs.Common.{◌≡◌, List, [], ◌∷◌, ◌++◌, refl}
 use Rattle.svc_values.specs.declared.entry.Write.{Write}
 use Rattle.svc_values.specs.declared.tables.PlainRow.{PlainRow}
-use Rattle.svc_values.specs.Tables.{with_write, with_writes}
+use Rattle.svc_values.specs.meaning.Tables.{with_write, with_writes}
 
 pub with_writes-append : (tables : List PlainRow) (writes more : List Write) → with_writes tables (writes ++ more) ≡ with_writes (with_writes tables writes) more
 with_writes-append tables [] more = refl

@@ -9,8 +9,9 @@ use Rattle.svc_values.specs.declared.entry.Ltxid.{Ltxid}
 use Rattle.svc_values.specs.declared.entry.SessionId.{SessionId}
 use Rattle.svc_values.specs.declared.tables.PlainRow.{PlainRow}
 use Rattle.svc_values.specs.declared.tables.Place.{Place}
-use Rattle.svc_values.specs.Identifiers.{same_ltxid, same_session}
-use Rattle.svc_values.specs.Same.{same_value, same_answers, same_call, same_draw, same_piece, same_rows, same_place}
+use Rattle.svc_values.specs.meaning.Identifiers.{same_ltxid, same_session}
+use Rattle.svc_values.specs.meaning.Same.{same_value, same_answers, same_call, same_draw, same_piece, same_rows}
+use Rattle.svc_values.specs.Same.{same_place}
 
 -- each test is true exactly of a value and itself
 pub record AreExact : Type 0 where

@@ -30,9 +30,10 @@ use Rattle.svc_values.specs.declared.tables.Place.{Place}
 use Rattle.svc_values.specs.declared.tables.Place.TheVariants as place
 use Rattle.svc_values.specs.declared.entry.Ltxid.{Ltxid}
 use Rattle.svc_values.specs.declared.entry.SessionId.{SessionId}
-use Rattle.svc_values.specs.Identifiers.{same_ltxid, same_session}
-use Rattle.svc_values.specs.Same.{same_value, fault_code, same_answer, same_answers, same_bool, same_draw_kind, same_draw, same_draws, same_operand, same_change, same_test, same_statement, same_call, same_calls, same_piece, same_place, same_row, same_rows}
-use Rattle.svc_values.specs.SettingsList.{same_settings}
+use Rattle.svc_values.specs.meaning.Identifiers.{same_ltxid, same_session}
+use Rattle.svc_values.specs.meaning.Same.{same_value, fault_code, same_answer, same_answers, same_bool, same_draw_kind, same_draw, same_draws, same_operand, same_change, same_test, same_statement, same_call, same_calls, same_piece, same_row, same_rows}
+use Rattle.svc_values.specs.Same.{same_place}
+use Rattle.svc_values.specs.meaning.SettingsList.{same_settings}
 
 -- bytes that are compared as equal are the same bytes
 pub bytes_decide : (a b : List ℕ) → Decides (pointwise nat_eq a b) (a ≡ b)

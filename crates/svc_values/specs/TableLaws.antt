@@ -5,7 +5,8 @@ use Rattle.svc_values.specs.declared.entry.Write.{Write}
 use Rattle.svc_values.specs.declared.tables.PlainRow.{PlainRow}
 use Rattle.svc_values.specs.declared.tables.Place.{Place}
 use Rattle.svc_values.specs.declared.tables.Place.TheVariants as place
-use Rattle.svc_values.specs.Tables.{is_at, rows_at, with_write, with_writes, AreTables}
+use Rattle.svc_values.specs.meaning.Tables.{is_at, rows_at, with_write, with_writes}
+use Rattle.svc_values.specs.Tables.{AreTables}
 
 -- what stands at a place after writes depends on what stood there alone
 abbrev pub WritesAreLocal : Type 0

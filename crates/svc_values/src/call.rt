@@ -1,6 +1,7 @@
 //! Calls: what a client submits at once.
 ghost use Rattle.std.specs.Prelude.{◌≡◌, length, false, true, IfOk, IsErrOf, ◌↔◌, ◌≤◌};
-ghost use Rattle.svc_values.specs.Calls.{has_commit, is_lone_commit, IsMade};
+ghost use Rattle.svc_values.specs.meaning.Calls.{has_commit, is_lone_commit};
+ghost use Rattle.svc_values.specs.Calls.{IsMade};
 
 use crate::memory::{NoMemory, TryCopy};
 use crate::statement::Statements;

@@ -1,6 +1,7 @@
 //! Draws: the values that a call takes from outside its tables.
 ghost use Rattle.std.specs.Prelude.{◌≡◌};
-ghost use Rattle.svc_values.specs.Draws.{is_of_kind as is_of_kind_def, is_there as is_there_def};
+ghost use Rattle.svc_values.specs.meaning.Draws.{is_of_kind as is_of_kind_def};
+ghost use Rattle.svc_values.specs.Draws.{is_there as is_there_def};
 
 use crate::list::Listed;
 use crate::memory::{NoMemory, TryCopy};

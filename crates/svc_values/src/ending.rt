@@ -1,7 +1,7 @@
 //! How the answers of a call end.
 ghost use Rattle.std.specs.Prelude.{◌≡◌};
 ghost use Rattle.std.specs.Option.{option_copied};
-ghost use Rattle.svc_values.specs.Endings.{last_answer, ends_committed as ends_committed_def, ends_conflict as ends_conflict_def, ends_transaction as ends_transaction_def};
+ghost use Rattle.svc_values.specs.meaning.Endings.{last_answer, ends_committed as ends_committed_def, ends_conflict as ends_conflict_def, ends_transaction as ends_transaction_def};
 
 use crate::answer::Answer;
 

@@ -1,6 +1,7 @@
 //! What the journal keeps of a transaction that committed.
 ghost use Rattle.std.specs.Prelude.{◌≡◌, ◌↔◌, IsTrue};
-ghost use Rattle.svc_values.specs.Identifiers.{IsLtxid, is_ltxid, session_of};
+ghost use Rattle.svc_values.specs.meaning.Identifiers.{session_of};
+ghost use Rattle.svc_values.specs.Identifiers.{IsLtxid, is_ltxid};
 
 use crate::answer::Answers;
 use crate::call::Call;

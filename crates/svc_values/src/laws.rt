@@ -1,8 +1,8 @@
 //! Laws of the definitions. Each function does nothing, and its contract is the law.
 ghost use Rattle.std.specs.Prelude.{◌≡◌, ◌≤◌, length};
 ghost use Rattle.svc_values.specs.Laws.{AreExact};
-ghost use Rattle.svc_values.specs.Order.{value_cmp};
-ghost use Rattle.svc_values.specs.Same.{same_value};
+ghost use Rattle.svc_values.specs.meaning.Order.{value_cmp};
+ghost use Rattle.svc_values.specs.meaning.Same.{same_value};
 ghost use Rattle.svc_values.specs.TableLaws.{WritesAreLocal, WritesKeepOrder, WritesStand, WritesTouchNoOther, WritesGoOn};
 
 use crate::answer::Rows;

@@ -1,8 +1,9 @@
 //! Tables as they are declared.
 ghost use Rattle.std.specs.Prelude.{◌≡◌, [], IfOk, IsErrOf, ◌↔◌, true, false, option_copied};
-ghost use Rattle.svc_values.specs.Kinds.{row_fits, has_column as has_column_def, have_distinct_names};
-ghost use Rattle.svc_values.specs.Names.{is_name_of};
-ghost use Rattle.svc_values.specs.Schemas.{IsDeclared, schema_of as schema_of_def};
+ghost use Rattle.svc_values.specs.meaning.Kinds.{row_fits, has_column as has_column_def, have_distinct_names};
+ghost use Rattle.svc_values.specs.meaning.Names.{is_name_of};
+ghost use Rattle.svc_values.specs.meaning.Schemas.{schema_of as schema_of_def};
+ghost use Rattle.svc_values.specs.Schemas.{IsDeclared};
 
 use crate::list::Limited;
 use crate::memory::{NoMemory, TryCopy};

@@ -1,6 +1,6 @@
 //! Statements and their operands.
 ghost use Rattle.std.specs.Prelude.{◌≡◌, option_copied};
-ghost use Rattle.svc_values.specs.Tests.{meets as meets_def, value_meets as value_meets_def};
+ghost use Rattle.svc_values.specs.meaning.Tests.{meets as meets_def, value_meets as value_meets_def};
 
 use crate::draw::DrawKind;
 use crate::list::Limited;

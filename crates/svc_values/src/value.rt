@@ -1,6 +1,6 @@
 //! Values and rows.
 ghost use Rattle.std.specs.Prelude.{◌≡◌};
-ghost use Rattle.svc_values.specs.Kinds.{kind_of};
+ghost use Rattle.svc_values.specs.meaning.Kinds.{kind_of};
 
 use crate::list::Limited;
 use crate::memory::{NoMemory, TryCopy};

@@ -6,7 +6,8 @@ use Rattle.svc_values.specs.declared.value.Value.{Value}
 use Rattle.svc_values.specs.declared.tables.PlainRow.{PlainRow}
 use Rattle.svc_values.specs.declared.tables.Place.{Place}
 use Rattle.svc_values.specs.declared.tables.Place.TheVariants as place
-use Rattle.svc_values.specs.Tables.{is_at, rows_at, comes_before, ComesFirst, AreTables}
+use Rattle.svc_values.specs.meaning.Tables.{is_at, rows_at, comes_before}
+use Rattle.svc_values.specs.Tables.{ComesFirst, AreTables}
 use Rattle.table_store.proofs.Places.{before_one_way, before_not_at, at_own_place}
 
 pub filter_pass : {X : Type 0} (p : X → Bool) (x : X) (xs : List X) → p x ≡ true → filter p (x ∷ xs) ≡ x ∷ filter p xs

@@ -10,10 +10,10 @@ use Rattle.std.specs.Map.{lookup, set_value, update_all}
 use Rattle.std.proofs.lemmas.Bool.{cases_Bool}
 use Rattle.svc_values.specs.declared.value.Value.{Value}
 use Rattle.svc_values.specs.declared.entry.Write.{Write}
-use Rattle.svc_values.specs.Order.{value_cmp}
+use Rattle.svc_values.specs.meaning.Order.{value_cmp}
 use Rattle.svc_values.specs.declared.tables.PlainRow.{PlainRow}
 use Rattle.svc_values.specs.declared.tables.Place.TheVariants as place
-use Rattle.svc_values.specs.Tables.{is_at, rows_at, put_row, without, with_write, comes_before}
+use Rattle.svc_values.specs.meaning.Tables.{is_at, rows_at, put_row, without, with_write, comes_before}
 use Rattle.table_store.specs.Rows.{Keyed, KeysRise, Shelves, IsShelved, all_rows, shelf_of, keyed_of, keyed_if_any, row_kept, row_if_any}
 use Rattle.table_store.specs.Shelves.{is_place, Changes, ChangesAll}
 use Rattle.table_store.proofs.Places.{at_place}

@@ -9,7 +9,7 @@ use Rattle.std.specs.List.Sorted.{IsStrictlySortedBy}
 use Rattle.std.specs.Map.{keys_of}
 use Rattle.svc_values.specs.declared.schema.Schema.{Schema}
 use Rattle.svc_values.specs.SameLaws.{bytes_decide}
-use Rattle.svc_values.specs.Schemas.{schema_of}
+use Rattle.svc_values.specs.meaning.Schemas.{schema_of}
 use Rattle.table_store.specs.Given.{named_in, shelf_named}
 use Rattle.table_store.specs.Rows.{Keyed, Shelves, all_rows, rows_if_any, shelf_of, shelf_rows}
 use Rattle.table_store.proofs.Maps.{rows_of_table, same_if_equal}

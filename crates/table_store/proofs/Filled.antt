@@ -13,9 +13,10 @@ use Rattle.svc_values.specs.declared.value.Value.{Value}
 use Rattle.svc_values.specs.declared.tables.PlainRow.{PlainRow}
 use Rattle.svc_values.specs.declared.tables.Place.{Place}
 use Rattle.svc_values.specs.declared.tables.Place.TheVariants as place
-use Rattle.svc_values.specs.Order.{value_cmp}
-use Rattle.svc_values.specs.Schemas.{key_of}
-use Rattle.svc_values.specs.Tables.{is_at, rows_at, in_order, AreTables}
+use Rattle.svc_values.specs.meaning.Order.{value_cmp}
+use Rattle.svc_values.specs.meaning.Schemas.{key_of}
+use Rattle.svc_values.specs.meaning.Tables.{is_at, rows_at, in_order}
+use Rattle.svc_values.specs.Tables.{AreTables}
 use Rattle.table_store.specs.Given.{keyed, plain, plain_given}
 use Rattle.table_store.specs.Rows.{Shelves, IsShelved, all_rows, row_if_any, row_kept}
 use Rattle.table_store.specs.Shelves.{ChangesAll}

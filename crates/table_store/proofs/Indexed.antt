@@ -8,7 +8,7 @@ use Rattle.std.specs.Ordering.{is_eq}
 use Rattle.std.specs.Map.{keys_of}
 use Rattle.std.proofs.lemmas.Bool.{cases_Bool}
 use Rattle.svc_values.specs.declared.value.Value.{Value}
-use Rattle.svc_values.specs.Order.{value_cmp}
+use Rattle.svc_values.specs.meaning.Order.{value_cmp}
 use Rattle.table_store.specs.declared.column_index.ColumnIndex.{ColumnIndex}
 use Rattle.table_store.specs.declared.column_index.Pair.{Pair}
 use Rattle.table_store.specs.Indexes.{has_pair, is_value, value_in, IsIndexOf, AreIndexesOf, with_row}

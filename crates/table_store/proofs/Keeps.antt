@@ -9,9 +9,10 @@ use Rattle.svc_values.specs.declared.schema.Schema.{Schema}
 use Rattle.svc_values.specs.declared.entry.Write.{Write}
 use Rattle.svc_values.specs.declared.tables.PlainRow.{PlainRow}
 use Rattle.svc_values.specs.declared.tables.Place.TheVariants as place
-use Rattle.svc_values.specs.Tables.{rows_at, with_write, with_writes}
-use Rattle.svc_values.specs.Schemas.{schema_of}
-use Rattle.svc_values.specs.Fitting.{is_row_of, has_fit, write_fits, tables_fit}
+use Rattle.svc_values.specs.meaning.Tables.{rows_at, with_write, with_writes}
+use Rattle.svc_values.specs.meaning.Schemas.{schema_of}
+use Rattle.svc_values.specs.meaning.Fitting.{is_row_of, has_fit, write_fits}
+use Rattle.svc_values.specs.Fitting.{tables_fit}
 use Rattle.table_store.specs.Given.{keyed_rows}
 use Rattle.table_store.specs.Rows.{Keyed, Shelves, IsShelved, plain_rows, all_rows}
 use Rattle.table_store.specs.Shelves.{Changes}

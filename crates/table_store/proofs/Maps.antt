@@ -16,13 +16,14 @@ use Rattle.std.proofs.lemmas.List.{append-nil}
 use Rattle.std.proofs.lemmas.List.Elements.{filter-append}
 use Rattle.std.proofs.lemmas.Map.Lookups.{exact_bytes}
 use Rattle.svc_values.specs.declared.value.Value.{Value}
-use Rattle.svc_values.specs.Order.{value_cmp}
+use Rattle.svc_values.specs.meaning.Order.{value_cmp}
 use Rattle.svc_values.specs.SameLaws.{bytes_decide}
 use Rattle.svc_values.proofs.Offered.{value_cmp_total, exact_values}
 use Rattle.svc_values.specs.declared.tables.PlainRow.{PlainRow}
 use Rattle.svc_values.specs.declared.tables.Place.{Place}
 use Rattle.svc_values.specs.declared.tables.Place.TheVariants as place
-use Rattle.svc_values.specs.Tables.{is_at, rows_at, comes_before, ComesFirst, AreTables}
+use Rattle.svc_values.specs.meaning.Tables.{is_at, rows_at, comes_before}
+use Rattle.svc_values.specs.Tables.{ComesFirst, AreTables}
 use Rattle.table_store.specs.Rows.{Keyed, KeysRise, Shelves, IsShelved, plain_row, plain_rows, all_rows, rows_if_any, row_if_any, shelf_of, keyed_of, keyed_if_any, row_kept}
 use Rattle.table_store.proofs.Places.{at_place, at_place_if}
 use Rattle.table_store.proofs.Alike.{filter_pass, filter_skip}

@@ -6,7 +6,7 @@ use Rattle.std.specs.declared.cmp.Ordering.TheVariants.{Less, Equal, Greater}
 use Rattle.std.specs.Ordering.{is_eq, ordering_then}
 use Rattle.std.specs.BTreeSet.{BTreeSet, Updates}
 use Rattle.svc_values.specs.declared.value.Value.{Value}
-use Rattle.svc_values.specs.Order.{value_cmp}
+use Rattle.svc_values.specs.meaning.Order.{value_cmp}
 use Rattle.svc_values.proofs.Offered.{cmp_is}
 use Rattle.table_store.specs.declared.column_index.Pair.{Pair}
 use Rattle.table_store.specs.declared.column_index.Spot.{Spot}

@@ -17,8 +17,8 @@ use Rattle.std.proofs.lemmas.Map.Made.{is_some-lookup}
 use Rattle.std.proofs.lemmas.Map.Steps.{length-le_from_keys}
 use Rattle.svc_values.specs.declared.statement.Test.{Test}
 use Rattle.svc_values.specs.declared.value.Value.{Value}
-use Rattle.svc_values.specs.Order.{value_cmp}
-use Rattle.svc_values.specs.Tests.{selected, value_meets}
+use Rattle.svc_values.specs.meaning.Order.{value_cmp}
+use Rattle.svc_values.specs.meaning.Tests.{selected, value_meets}
 use Rattle.svc_values.proofs.Offered.{value_cmp_total, exact_values}
 use Rattle.table_store.specs.Rows.{Keyed, KeysRise, keyed_of}
 use Rattle.table_store.specs.Selection.{apart_from, at_most_32, is_among, meeting}

@@ -9,8 +9,8 @@ use Rattle.svc_values.proofs.Offered.{value_cmp_total}
 use Rattle.std.proofs.lemmas.Bool.{cases_Bool}
 use Rattle.svc_values.specs.declared.statement.Test.{Test}
 use Rattle.svc_values.specs.declared.value.Value.{Value}
-use Rattle.svc_values.specs.Order.{value_cmp}
-use Rattle.svc_values.specs.Tests.{value_meets}
+use Rattle.svc_values.specs.meaning.Order.{value_cmp}
+use Rattle.svc_values.specs.meaning.Tests.{value_meets}
 use Rattle.table_store.specs.declared.column_index.Spot.{Spot}
 use Rattle.table_store.specs.declared.column_index.Spot.TheVariants as spot
 use Rattle.table_store.specs.Indexes.{is_spot_of}

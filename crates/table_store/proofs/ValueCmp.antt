@@ -7,7 +7,7 @@ use Rattle.std.specs.declared.cmp.Ordering.{Ordering}
 use Rattle.std.specs.Ordering.{is_eq}
 use Rattle.svc_values.specs.declared.value.Value.{Value}
 use Rattle.svc_values.specs.contracts.value.ValueOrd.TheImpl.{cmp-value}
-use Rattle.svc_values.specs.Order.{value_cmp}
+use Rattle.svc_values.specs.meaning.Order.{value_cmp}
 use Rattle.svc_values.proofs.Offered.{cmp_is}
 use Rattle.table_store.specs.Rows.{Keyed, keyed_of}
 

@@ -16,8 +16,8 @@ use Rattle.std.proofs.lemmas.Map.Views.{any-filter_same}
 use Rattle.svc_values.specs.declared.statement.Test.{Test}
 use Rattle.svc_values.specs.declared.statement.Test.TheVariants as test
 use Rattle.svc_values.specs.declared.value.Value.{Value}
-use Rattle.svc_values.specs.Order.{value_cmp}
-use Rattle.svc_values.specs.Tests.{meets, value_meets}
+use Rattle.svc_values.specs.meaning.Order.{value_cmp}
+use Rattle.svc_values.specs.meaning.Tests.{meets, value_meets}
 use Rattle.svc_values.proofs.Offered.{value_cmp_total, exact_values}
 use Rattle.table_store.specs.declared.column_index.ColumnIndex.{ColumnIndex}
 use Rattle.table_store.specs.declared.column_index.Pair.{Pair}

@@ -7,7 +7,8 @@ use Rattle.svc_values.specs.declared.entry.Write.{Write}
 use Rattle.svc_values.specs.declared.tables.PlainRow.{PlainRow}
 use Rattle.svc_values.specs.declared.tables.Place.{Place}
 use Rattle.svc_values.specs.declared.tables.Place.TheVariants as place
-use Rattle.svc_values.specs.Tables.{is_at, rows_at, comes_before, put_row, without, put_if_any, with_write, ComesFirst, AreTables}
+use Rattle.svc_values.specs.meaning.Tables.{is_at, rows_at, comes_before, put_row, without, put_if_any, with_write}
+use Rattle.svc_values.specs.Tables.{ComesFirst, AreTables}
 use Rattle.table_store.specs.Rows.{row_if_any}
 use Rattle.table_store.proofs.Places.{before_trans, at_place_if, in_some_order}
 use Rattle.table_store.proofs.Alike.{filter_pass, filter_skip}

@@ -5,8 +5,8 @@ use Rattle.svc_values.specs.declared.value.Value.{Value}
 use Rattle.svc_values.specs.declared.tables.PlainRow.{PlainRow}
 use Rattle.svc_values.specs.declared.schema.Schema.{Schema}
 use Rattle.svc_values.specs.declared.tables.Place.TheVariants as place
-use Rattle.svc_values.specs.Schemas.{key_of, schema_of}
-use Rattle.svc_values.specs.Tables.{rows_at}
+use Rattle.svc_values.specs.meaning.Schemas.{key_of, schema_of}
+use Rattle.svc_values.specs.meaning.Tables.{rows_at}
 use Rattle.table_store.specs.Rows.{Keyed, Shelves, shelf_of, shelf_rows}
 use Rattle.table_store.specs.declared.shelves.IndexOf.{IndexOf}
 use Rattle.table_store.specs.declared.shelves.TableRows.{TableRows}

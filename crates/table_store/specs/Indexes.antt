@@ -10,7 +10,7 @@ use Rattle.std.specs.BTreeMap.{is_at}
 use Rattle.svc_values.specs.declared.statement.Test.{Test}
 use Rattle.svc_values.specs.declared.statement.Test.TheVariants as test
 use Rattle.svc_values.specs.declared.value.Value.{Value}
-use Rattle.svc_values.specs.Order.{value_cmp}
+use Rattle.svc_values.specs.meaning.Order.{value_cmp}
 use Rattle.table_store.specs.declared.column_index.ColumnIndex.{ColumnIndex}
 use Rattle.table_store.specs.declared.column_index.Pair.{Pair}
 use Rattle.table_store.specs.declared.column_index.Spot.{Spot}

@@ -7,7 +7,7 @@ use Rattle.std.specs.Cmp.Lexicographic.{slice_cmp}
 use Rattle.std.specs.BTreeMap.{is_at}
 use Rattle.std.specs.Map.{keys_of, lookup, values_of}
 use Rattle.svc_values.specs.declared.value.Value.{Value}
-use Rattle.svc_values.specs.Order.{value_cmp}
+use Rattle.svc_values.specs.meaning.Order.{value_cmp}
 use Rattle.svc_values.specs.declared.tables.PlainRow.{PlainRow}
 
 -- the rows of one table, each with its key

@@ -5,8 +5,8 @@ use Rattle.std.specs.BTreeMap.{BTreeMap, is_at}
 use Rattle.std.specs.Map.{lookup}
 use Rattle.svc_values.specs.declared.statement.Test.{Test}
 use Rattle.svc_values.specs.declared.value.Value.{Value}
-use Rattle.svc_values.specs.Order.{value_cmp}
-use Rattle.svc_values.specs.Tests.{value_meets}
+use Rattle.svc_values.specs.meaning.Order.{value_cmp}
+use Rattle.svc_values.specs.meaning.Tests.{value_meets}
 use Rattle.table_store.specs.Rows.{Keyed}
 
 -- all of these, where they are at most 32

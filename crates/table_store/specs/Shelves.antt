@@ -4,7 +4,7 @@ use Rattle.std.specs.Map.{update_all}
 use Rattle.std.specs.Ordering.{nat_cmp, eq_by_cmp, is_eq}
 use Rattle.std.specs.Cmp.Lexicographic.{slice_cmp}
 use Rattle.svc_values.specs.declared.value.Value.{Value}
-use Rattle.svc_values.specs.Order.{value_cmp}
+use Rattle.svc_values.specs.meaning.Order.{value_cmp}
 use Rattle.table_store.specs.Rows.{Keyed, Shelves, row_kept}
 
 -- the same table and key

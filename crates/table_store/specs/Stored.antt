@@ -4,7 +4,8 @@ use Rattle.svc_values.specs.declared.schema.Schema.{Schema}
 use Rattle.svc_values.specs.declared.entry.Write.{Write}
 use Rattle.svc_values.specs.declared.tables.PlainRow.{PlainRow}
 use Rattle.svc_values.specs.declared.tables.Place.TheVariants as place
-use Rattle.svc_values.specs.Tables.{rows_at, with_writes, AreTables}
+use Rattle.svc_values.specs.meaning.Tables.{rows_at, with_writes}
+use Rattle.svc_values.specs.Tables.{AreTables}
 use Rattle.svc_values.specs.Fitting.{tables_fit}
 use Rattle.table_store.specs.Rows.{Shelves, IsShelved, all_rows}
 

@@ -2,7 +2,7 @@
 ghost use Rattle.std.specs.Prelude.{◌≡◌, ◌&&◌, true, false, [], IfOk, IsTrue, OnOk, if◌then◌else◌};
 ghost use Rattle.std.specs.Option.{option_copied};
 ghost use Rattle.std.specs.Ordering.{is_eq};
-ghost use Rattle.svc_values.specs.Order.{value_cmp};
+ghost use Rattle.svc_values.specs.meaning.Order.{value_cmp};
 ghost use Rattle.svc_values.specs.declared.value.Value.{Value as ValueSeen};
 ghost use Rattle.table_store.specs.Indexes.{ends as ends_def, has_pair, is_value, pair, value_in as value_in_def};
 

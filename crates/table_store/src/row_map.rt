@@ -3,8 +3,8 @@ ghost use Rattle.std.specs.Prelude.{◌≡◌, ◌<◌, ◌^◌, None, OnOk, OnE
 ghost use Rattle.std.specs.Map.{update_all, values_of};
 ghost use Rattle.std.specs.Option.{option_copied};
 ghost use Rattle.std.specs.Ordering.{eq_by_cmp, is_eq};
-ghost use Rattle.svc_values.specs.Order.{value_cmp};
-ghost use Rattle.svc_values.specs.Schemas.{key_of as key_of_def};
+ghost use Rattle.svc_values.specs.meaning.Order.{value_cmp};
+ghost use Rattle.svc_values.specs.meaning.Schemas.{key_of as key_of_def};
 ghost use Rattle.svc_values.specs.declared.value.Value.{Value as ValueSeen};
 ghost use Rattle.table_store.specs.Given.{keyed};
 ghost use Rattle.table_store.specs.Rows.{keyed_of, KeysRise};

@@ -3,8 +3,8 @@ ghost use Rattle.std.specs.Prelude.{◌≡◌, None, OnOk, OnErr, IfOk, [], map,
 ghost use Rattle.std.specs.Map.{update_all, values_of};
 ghost use Rattle.std.specs.Option.{option_copied, option_map};
 ghost use Rattle.std.specs.Ordering.{eq_by_cmp, is_eq};
-ghost use Rattle.svc_values.specs.Order.{value_cmp};
-ghost use Rattle.svc_values.specs.Tests.{selected as selected_def};
+ghost use Rattle.svc_values.specs.meaning.Order.{value_cmp};
+ghost use Rattle.svc_values.specs.meaning.Tests.{selected as selected_def};
 ghost use Rattle.svc_values.specs.declared.value.Value.{Value as ValueSeen};
 ghost use Rattle.table_store.specs.Given.{keyed};
 ghost use Rattle.table_store.specs.Indexes.{AreIndexesOf, IsIndexOf, with_row};

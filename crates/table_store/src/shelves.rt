@@ -1,7 +1,7 @@
 //! The maps of all tables.
 ghost use Rattle.std.specs.Prelude.{◌≡◌, OnOk, OnErr, IfOk, None, Some, map};
 ghost use Rattle.std.specs.List.{list_all};
-ghost use Rattle.svc_values.specs.Tables.{in_order};
+ghost use Rattle.svc_values.specs.meaning.Tables.{in_order};
 ghost use Rattle.table_store.specs.Given.{is_index_of, keyed, named, plain, shelf_named};
 ghost use Rattle.table_store.specs.Rows.{IsShelved, all_rows, shelf_of, shelf_rows};
 ghost use Rattle.table_store.specs.Shelves.{Changes, ChangesAll};

@@ -2,12 +2,13 @@
 ghost use Rattle.std.specs.Prelude.{◌≡◌, IsTrue, None, OnOk, OnErr, IfOk, map};
 ghost use Rattle.std.specs.List.{list_all};
 ghost use Rattle.std.specs.Option.{option_copied, option_map};
-ghost use Rattle.svc_values.specs.Same.{same_value};
+ghost use Rattle.svc_values.specs.meaning.Same.{same_value};
 ghost use Rattle.svc_values.specs.declared.tables.Place.TheVariants as place;
-ghost use Rattle.svc_values.specs.Tables.{rows_at, with_write, with_writes, in_order};
-ghost use Rattle.svc_values.specs.Schemas.{schema_of as schema_of_def, key_of as key_of_def};
-ghost use Rattle.svc_values.specs.Tests.{selected as selected_def};
-ghost use Rattle.svc_values.specs.Fitting.{is_row_of, has_fit, tables_fit, write_fits, writes_fit};
+ghost use Rattle.svc_values.specs.meaning.Tables.{rows_at, with_write, with_writes, in_order};
+ghost use Rattle.svc_values.specs.meaning.Schemas.{schema_of as schema_of_def, key_of as key_of_def};
+ghost use Rattle.svc_values.specs.meaning.Tests.{selected as selected_def};
+ghost use Rattle.svc_values.specs.meaning.Fitting.{is_row_of, has_fit, write_fits, writes_fit};
+ghost use Rattle.svc_values.specs.Fitting.{tables_fit};
 ghost use Rattle.table_store.specs.Rows.{rows_if_any, row_if_any};
 ghost use Rattle.table_store.specs.Given.{plain, named, named_in, is_index_of, keyed_rows};
 ghost use Rattle.table_store.specs.Selection.{apart_from, at_most_32, meeting};

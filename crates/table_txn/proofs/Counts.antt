@@ -8,10 +8,10 @@ use Rattle.svc_values.specs.declared.entry.Write.{Write}
 use Rattle.svc_values.specs.declared.answer.Answer.TheVariants as answer
 use Rattle.svc_values.specs.declared.tables.PlainRow.{PlainRow}
 use Rattle.svc_values.specs.declared.tables.Place.TheVariants as place
-use Rattle.svc_values.specs.Tables.{rows_at, with_writes}
+use Rattle.svc_values.specs.meaning.Tables.{rows_at, with_writes}
 use Rattle.stmt_meaning.specs.declared.plan.TableWork.TheVariants as table_work
-use Rattle.stmt_meaning.specs.Effects.{table_answer}
-use Rattle.stmt_meaning.specs.Meaning.{seen_at}
+use Rattle.stmt_meaning.specs.meaning.Effects.{table_answer}
+use Rattle.stmt_meaning.specs.meaning.Meaning.{seen_at}
 use Rattle.table_store.specs.Rows.{Keyed, rows_if_any}
 use Rattle.table_txn.specs.Found.{keyed_or_none}
 use Rattle.table_txn.specs.Own.{last_at}

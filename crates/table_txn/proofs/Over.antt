@@ -7,9 +7,9 @@ use Rattle.svc_values.specs.declared.value.Value.{Value}
 use Rattle.svc_values.specs.declared.entry.Write.{Write}
 use Rattle.svc_values.specs.declared.tables.PlainRow.{PlainRow}
 use Rattle.svc_values.specs.declared.tables.Place.TheVariants as place
-use Rattle.svc_values.specs.Tables.{is_at, rows_at, with_write, with_writes}
-use Rattle.stmt_meaning.specs.Effects.{first_of}
-use Rattle.stmt_meaning.specs.Meaning.{seen_at}
+use Rattle.svc_values.specs.meaning.Tables.{is_at, rows_at, with_write, with_writes}
+use Rattle.stmt_meaning.specs.meaning.Effects.{first_of}
+use Rattle.stmt_meaning.specs.meaning.Meaning.{seen_at}
 use Rattle.table_store.specs.Rows.{row_if_any}
 use Rattle.table_store.specs.Shelves.{is_place}
 use Rattle.table_store.proofs.Offered.{at_place, own_place, filter_with_write, with_writes-last}

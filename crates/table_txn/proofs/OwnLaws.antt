@@ -8,7 +8,7 @@ use Rattle.std.specs.Ordering.{nat_cmp, is_eq}
 use Rattle.std.specs.Cmp.Lexicographic.{slice_cmp}
 use Rattle.svc_values.specs.declared.value.Value.{Value}
 use Rattle.svc_values.specs.declared.entry.Write.{Write}
-use Rattle.svc_values.specs.Order.{value_cmp}
+use Rattle.svc_values.specs.meaning.Order.{value_cmp}
 use Rattle.table_store.specs.Shelves.{is_place}
 use Rattle.table_store.proofs.Offered.{same_if_equal, keys_equal, equal_if_same, keys_equal_if}
 use Rattle.table_txn.specs.Own.{Latest, or_else, last_from, last_at, place_kept, AreLatest, AreBeforeFrom, AreBefore, AreOwn, HasPlace, HasSamePlaces}

@@ -7,9 +7,11 @@ use Rattle.std.proofs.lemmas.List.{map-append}
 use Rattle.std.proofs.lemmas.List.Elements.{filter-append, All-from_recursion, recursion_from_All, Contains-get_or}
 use Rattle.svc_values.specs.declared.tables.PlainRow.{PlainRow}
 use Rattle.svc_values.specs.declared.tables.Place.{Place}
-use Rattle.svc_values.specs.Tables.{rows_at}
-use Rattle.svc_values.specs.Same.{same_place, same_rows}
-use Rattle.stmt_meaning.specs.Reads.{Read, read_at, reads_at, IsConflict}
+use Rattle.svc_values.specs.meaning.Tables.{rows_at}
+use Rattle.svc_values.specs.meaning.Same.{same_rows}
+use Rattle.svc_values.specs.Same.{same_place}
+use Rattle.stmt_meaning.specs.meaning.Reads.{Read, read_at, reads_at}
+use Rattle.stmt_meaning.specs.Reads.{IsConflict}
 use Rattle.table_txn.specs.Readings.{Reading, found_at, reading_of, IsReadingOf, AreReadings, read_more, HasRead, HasReadIfAny, AreApart, first_changed}
 use Rattle.table_txn.proofs.Same.{same_place_decides, same_rows_decide}
 

@@ -13,15 +13,16 @@ use Rattle.svc_values.specs.declared.answer.Answer.{Answer}
 use Rattle.svc_values.specs.declared.entry.Write.{Write}
 use Rattle.svc_values.specs.declared.tables.PlainRow.{PlainRow}
 use Rattle.svc_values.specs.declared.tables.Place.{Place}
-use Rattle.svc_values.specs.Fitting.{tables_fit, write_fits, writes_fit}
-use Rattle.svc_values.specs.SettingsList.{NamedValues}
-use Rattle.svc_values.specs.Tables.{with_write, with_writes}
+use Rattle.svc_values.specs.meaning.Fitting.{write_fits, writes_fit}
+use Rattle.svc_values.specs.Fitting.{tables_fit}
+use Rattle.svc_values.specs.meaning.SettingsList.{NamedValues}
+use Rattle.svc_values.specs.meaning.Tables.{with_write, with_writes}
 use Rattle.svc_values.proofs.Offered.{with_writes-append}
 use Rattle.stmt_meaning.specs.declared.fault.TxnFault.{TxnFault}
 use Rattle.stmt_meaning.specs.Drawing.{Drew, DrewAll, Ends}
 use Rattle.stmt_meaning.specs.InnerRunning.{one_left, all_left}
-use Rattle.stmt_meaning.specs.Meaning.{AllDone, Meant, statements_done, worked}
-use Rattle.stmt_meaning.specs.Reads.{Read, read_at, reads_at}
+use Rattle.stmt_meaning.specs.meaning.Meaning.{AllDone, Meant, statements_done, worked}
+use Rattle.stmt_meaning.specs.meaning.Reads.{Read, read_at, reads_at}
 use Rattle.stmt_meaning.proofs.Offered.{RanSoFar, ends_as, left_is, mean-fits, ran_all, ran_drew, ran_ended, ran_none, ran_on, ran_refusal}
 use Rattle.table_store.specs.Stored.{Stored, AreKept}
 use Rattle.table_store.proofs.Offered.{fits_one, fits_if_any, all_with_write}

@@ -11,7 +11,8 @@ use Rattle.std.proofs.lemmas.Cmp.{nat_list_cmp_total, tied_itself}
 use Rattle.std.proofs.lemmas.Map.Lookups.{exact_bytes}
 use Rattle.svc_values.specs.declared.value.Value.{Value}
 use Rattle.svc_values.specs.contracts.value.ValueOrd.TheImpl.{cmp-value}
-use Rattle.svc_values.specs.Same.{same_value, same_place, same_row, same_rows}
+use Rattle.svc_values.specs.meaning.Same.{same_value, same_row, same_rows}
+use Rattle.svc_values.specs.Same.{same_place}
 use Rattle.svc_values.specs.SameLaws.{bytes_decide, same_value_decides}
 use Rattle.svc_values.proofs.Offered.{value_cmp_total, exact_values, cmp_is}
 use Rattle.svc_values.specs.declared.tables.PlainRow.{PlainRow}

@@ -15,18 +15,19 @@ use Rattle.std.proofs.lemmas.Bool.{cases_Bool}
 use Rattle.std.proofs.lemmas.List.{map-append}
 use Rattle.svc_values.specs.declared.value.Value.{Value}
 use Rattle.svc_values.specs.declared.entry.Write.{Write}
-use Rattle.svc_values.specs.Order.{value_cmp}
+use Rattle.svc_values.specs.meaning.Order.{value_cmp}
 use Rattle.svc_values.specs.contracts.value.ValueOrd.TheImpl.{cmp-value}
 use Rattle.svc_values.proofs.Offered.{cmp_is}
-use Rattle.svc_values.specs.Same.{same_value}
+use Rattle.svc_values.specs.meaning.Same.{same_value}
 use Rattle.svc_values.specs.SameLaws.{bytes_decide}
 use Rattle.stmt_meaning.specs.declared.plan.TableWork.{TableWork}
 use Rattle.stmt_meaning.specs.declared.scan.Scan.{Scan}
 use Rattle.svc_values.specs.declared.tables.PlainRow.{PlainRow}
 use Rattle.svc_values.specs.declared.tables.Place.TheVariants as place
-use Rattle.svc_values.specs.Tables.{is_at, rows_at, with_writes, AreTables}
-use Rattle.stmt_meaning.specs.Effects.{table_answer}
-use Rattle.stmt_meaning.specs.Meaning.{seen_at}
+use Rattle.svc_values.specs.meaning.Tables.{is_at, rows_at, with_writes}
+use Rattle.svc_values.specs.Tables.{AreTables}
+use Rattle.stmt_meaning.specs.meaning.Effects.{table_answer}
+use Rattle.stmt_meaning.specs.meaning.Meaning.{seen_at}
 use Rattle.stmt_meaning.specs.InnerScans.{scanned, next_scan, last_answer}
 use Rattle.svc_values.proofs.Offered.{AreTables-filter, AreTables-with_writes}
 use Rattle.stmt_meaning.proofs.Offered.{scanned-append, last_answer-scanned}

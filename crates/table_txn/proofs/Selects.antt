@@ -16,14 +16,15 @@ use Rattle.svc_values.specs.declared.statement.Test.{Test}
 use Rattle.svc_values.specs.declared.value.Value.{Value}
 use Rattle.svc_values.specs.declared.tables.PlainRow.{PlainRow}
 use Rattle.svc_values.specs.declared.tables.Place.TheVariants as place
-use Rattle.svc_values.specs.Order.{value_cmp}
-use Rattle.svc_values.specs.Same.{same_value}
+use Rattle.svc_values.specs.meaning.Order.{value_cmp}
+use Rattle.svc_values.specs.meaning.Same.{same_value}
 use Rattle.svc_values.specs.SameLaws.{bytes_decide, same_value_decides}
-use Rattle.svc_values.specs.Tables.{is_at, rows_at, with_writes, AreTables}
-use Rattle.svc_values.specs.Tests.{selected, value_meets}
+use Rattle.svc_values.specs.meaning.Tables.{is_at, rows_at, with_writes}
+use Rattle.svc_values.specs.Tables.{AreTables}
+use Rattle.svc_values.specs.meaning.Tests.{selected, value_meets}
 use Rattle.svc_values.proofs.Offered.{AreTables-filter, AreTables-with_writes}
-use Rattle.stmt_meaning.specs.Effects.{limited, first_of}
-use Rattle.stmt_meaning.specs.Meaning.{seen_at}
+use Rattle.stmt_meaning.specs.meaning.Effects.{limited, first_of}
+use Rattle.stmt_meaning.specs.meaning.Meaning.{seen_at}
 use Rattle.table_store.specs.Given.{keyed_rows}
 use Rattle.table_store.specs.Rows.{Keyed, KeysRise, keyed_of, row_if_any}
 use Rattle.table_store.specs.Selection.{apart_from, at_most_32, is_among, meeting}

@@ -8,16 +8,16 @@ use Rattle.svc_values.specs.declared.answer.Answer.{Answer}
 use Rattle.svc_values.specs.declared.answer.Answer.TheVariants as answer
 use Rattle.svc_values.specs.declared.answer.StatementFault.{StatementFault}
 use Rattle.svc_values.specs.declared.tables.PlainRow.{PlainRow}
-use Rattle.svc_values.specs.SettingsList.{NamedValues}
-use Rattle.svc_values.specs.Tables.{with_writes}
+use Rattle.svc_values.specs.meaning.SettingsList.{NamedValues}
+use Rattle.svc_values.specs.meaning.Tables.{with_writes}
 use Rattle.stmt_meaning.specs.declared.plan.Plan.{Plan}
 use Rattle.stmt_meaning.specs.Drawing.{Drew}
 use Rattle.stmt_meaning.specs.InnerReading.{ReadsAll}
 use Rattle.stmt_meaning.specs.InnerRunning.{one_of}
-use Rattle.stmt_meaning.specs.Effects.{effect}
-use Rattle.stmt_meaning.specs.Meaning.{OneDone, seen_at}
-use Rattle.stmt_meaning.specs.Operands.{Reading}
-use Rattle.stmt_meaning.specs.Plans.{place_of, plan_of}
+use Rattle.stmt_meaning.specs.meaning.Effects.{effect}
+use Rattle.stmt_meaning.specs.meaning.Meaning.{OneDone, seen_at}
+use Rattle.stmt_meaning.specs.meaning.Operands.{Reading}
+use Rattle.stmt_meaning.specs.meaning.Plans.{place_of, plan_of}
 use Rattle.stmt_meaning.proofs.Offered.{ran_plan, ran_refused}
 use Rattle.table_store.specs.Stored.{Stored}
 use Rattle.table_txn.specs.Readings.{AreReadings, HasReadIfAny}

@@ -5,10 +5,11 @@ use Rattle.std.proofs.lemmas.Bool.{cases_Bool}
 use Rattle.svc_values.specs.declared.answer.Answer.{Answer}
 use Rattle.svc_values.specs.declared.tables.PlainRow.{PlainRow}
 use Rattle.svc_values.specs.declared.tables.Place.{Place}
-use Rattle.svc_values.specs.Tables.{rows_at}
-use Rattle.svc_values.specs.Same.{same_place, same_rows}
+use Rattle.svc_values.specs.meaning.Tables.{rows_at}
+use Rattle.svc_values.specs.meaning.Same.{same_rows}
+use Rattle.svc_values.specs.Same.{same_place}
 use Rattle.stmt_meaning.specs.declared.plan.Plan.{Plan}
-use Rattle.stmt_meaning.specs.Plans.{place_of}
+use Rattle.stmt_meaning.specs.meaning.Plans.{place_of}
 use Rattle.table_store.specs.Stored.{Stored}
 use Rattle.table_txn.specs.declared.readings.ReadPlace.{ReadPlace}
 use Rattle.table_txn.specs.Readings.{Reading, reading_of, read_more, HasRead, HasReadIfAny, AreUnchanged, StayUnchanged}

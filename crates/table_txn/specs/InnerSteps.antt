@@ -3,16 +3,16 @@ use Rattle.std.specs.Prelude.{◌≡◌, ℕ, Bool, List, [], ◌∷◌, ◌++�
 use Rattle.svc_values.specs.declared.draw.Draw.{Draw}
 use Rattle.svc_values.specs.declared.statement.Statement.{Statement}
 use Rattle.svc_values.specs.declared.answer.Answer.{Answer}
-use Rattle.svc_values.specs.SettingsList.{NamedValues}
-use Rattle.svc_values.specs.Tables.{with_writes}
+use Rattle.svc_values.specs.meaning.SettingsList.{NamedValues}
+use Rattle.svc_values.specs.meaning.Tables.{with_writes}
 use Rattle.stmt_meaning.specs.declared.plan.Plan.{Plan}
 use Rattle.stmt_meaning.specs.declared.effect.Effect.{Effect}
 use Rattle.stmt_meaning.specs.Drawing.{Drew}
-use Rattle.stmt_meaning.specs.Effects.{effect}
+use Rattle.stmt_meaning.specs.meaning.Effects.{effect}
 use Rattle.stmt_meaning.specs.InnerRunning.{RanOne}
-use Rattle.stmt_meaning.specs.Meaning.{OneDone, seen_at, is_refusal}
-use Rattle.stmt_meaning.specs.Plans.{place_of}
-use Rattle.stmt_meaning.specs.Reads.{Read, reads_at}
+use Rattle.stmt_meaning.specs.meaning.Meaning.{OneDone, seen_at, is_refusal}
+use Rattle.stmt_meaning.specs.meaning.Plans.{place_of}
+use Rattle.stmt_meaning.specs.meaning.Reads.{Read, reads_at}
 use Rattle.table_store.specs.Stored.{Stored}
 use Rattle.table_txn.specs.Readings.{AreReadings, HasReadIfAny}
 use Rattle.table_txn.specs.Transactions.{Transaction, shape_of}

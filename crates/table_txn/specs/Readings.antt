@@ -2,9 +2,10 @@
 use Rattle.std.specs.Prelude.{◌≡◌, ◌↔◌, Bool, false, not, ◌||◌, List, [], ◌∷◌, Option, Some, None, IfSome, map, filter, find, All, if◌then◌else◌}
 use Rattle.svc_values.specs.declared.tables.PlainRow.{PlainRow}
 use Rattle.svc_values.specs.declared.tables.Place.{Place}
-use Rattle.svc_values.specs.Tables.{rows_at}
-use Rattle.svc_values.specs.Same.{same_place, same_rows}
-use Rattle.stmt_meaning.specs.Reads.{Read}
+use Rattle.svc_values.specs.meaning.Tables.{rows_at}
+use Rattle.svc_values.specs.meaning.Same.{same_rows}
+use Rattle.svc_values.specs.Same.{same_place}
+use Rattle.stmt_meaning.specs.meaning.Reads.{Read}
 
 -- what the first read of a place found, and whether a later one found something else
 pub record Reading : Type 0 where

@@ -7,14 +7,14 @@ use Rattle.svc_values.specs.declared.call.Call.TheVariants as call
 use Rattle.svc_values.specs.declared.answer.Answer.{Answer}
 use Rattle.svc_values.specs.declared.entry.Piece.{Piece}
 use Rattle.svc_values.specs.declared.entry.Write.{Write}
-use Rattle.svc_values.specs.Tables.{with_writes}
-use Rattle.stmt_meaning.specs.Meaning.{Meant, mean}
+use Rattle.svc_values.specs.meaning.Tables.{with_writes}
+use Rattle.stmt_meaning.specs.meaning.Meaning.{Meant, mean}
 use Rattle.table_store.specs.Stored.{Stored}
 use Rattle.stmt_meaning.specs.Drawing.{Drew, Ends}
-use Rattle.stmt_meaning.specs.Reads.{Read, reads_at}
+use Rattle.stmt_meaning.specs.meaning.Reads.{Read, reads_at}
 use Rattle.table_txn.specs.Readings.{Reading, AreReadings}
 use Rattle.stmt_meaning.specs.declared.fault.TxnFault.{TxnFault}
-use Rattle.svc_values.specs.SettingsList.{NamedValues}
+use Rattle.svc_values.specs.meaning.SettingsList.{NamedValues}
 
 -- its calls so far with their answers and draws, its writes in order, and its readings
 pub record Transaction : Type 0 where

@@ -1,10 +1,11 @@
 //! What a plan answers and writes, as the transaction sees the tables.
 ghost use Rattle.std.specs.Prelude.{◌≡◌, IfOk, Some};
 ghost use Rattle.std.specs.Option.{option_copied};
-ghost use Rattle.stmt_meaning.specs.Effects.{effect as effect_def, first_of};
-ghost use Rattle.stmt_meaning.specs.Meaning.{seen_at};
-ghost use Rattle.stmt_meaning.specs.Plans.{place_of};
-ghost use Rattle.svc_values.specs.Tables.{with_writes, AreTables};
+ghost use Rattle.stmt_meaning.specs.meaning.Effects.{effect as effect_def, first_of};
+ghost use Rattle.stmt_meaning.specs.meaning.Meaning.{seen_at};
+ghost use Rattle.stmt_meaning.specs.meaning.Plans.{place_of};
+ghost use Rattle.svc_values.specs.meaning.Tables.{with_writes};
+ghost use Rattle.svc_values.specs.Tables.{AreTables};
 
 use crate::own::OwnWrites;
 use crate::scanning::scan_table;

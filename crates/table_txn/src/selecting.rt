@@ -3,10 +3,11 @@ ghost use Rattle.std.specs.Prelude.{◌≡◌, ◌<◌, ◌≤◌, IfOk, IfSome,
 ghost use Rattle.std.specs.Option.{option_copied, option_map};
 ghost use Rattle.svc_values.specs.declared.value.Value.{Value as Key};
 ghost use Rattle.svc_values.specs.declared.tables.Place.TheVariants as place;
-ghost use Rattle.stmt_meaning.specs.Effects.{limited};
-ghost use Rattle.stmt_meaning.specs.Meaning.{seen_at};
-ghost use Rattle.svc_values.specs.Tables.{with_writes, AreTables};
-ghost use Rattle.svc_values.specs.Tests.{selected};
+ghost use Rattle.stmt_meaning.specs.meaning.Effects.{limited};
+ghost use Rattle.stmt_meaning.specs.meaning.Meaning.{seen_at};
+ghost use Rattle.svc_values.specs.meaning.Tables.{with_writes};
+ghost use Rattle.svc_values.specs.Tables.{AreTables};
+ghost use Rattle.svc_values.specs.meaning.Tests.{selected};
 ghost use Rattle.table_store.specs.Rows.{keyed_of, KeysRise};
 ghost use Rattle.table_txn.specs.Own.{place_in, last_at};
 ghost use Rattle.table_txn.specs.Selecting.{select_answer, with_own};

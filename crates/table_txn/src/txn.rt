@@ -1,13 +1,15 @@
 //! Transactions.
 ghost use Rattle.std.specs.Prelude.{◌≡◌, ◌≤◌, ◌++◌, ◌∷◌, [], List, IsTrue, OnOk, OnErr, IfOk, IfErr, length, take};
 ghost use Rattle.std.specs.Option.{option_copied};
-ghost use Rattle.svc_values.specs.Fitting.{writes_fit};
-ghost use Rattle.svc_values.specs.Tables.{AreTables, with_writes};
-ghost use Rattle.stmt_meaning.specs.Meaning.{OneDone};
-ghost use Rattle.stmt_meaning.specs.Plans.{place_of};
+ghost use Rattle.svc_values.specs.meaning.Fitting.{writes_fit};
+ghost use Rattle.svc_values.specs.meaning.Tables.{with_writes};
+ghost use Rattle.svc_values.specs.Tables.{AreTables};
+ghost use Rattle.stmt_meaning.specs.meaning.Meaning.{OneDone};
+ghost use Rattle.stmt_meaning.specs.meaning.Plans.{place_of};
 ghost use Rattle.stmt_meaning.specs.Drawing.{DrewAll, Ends};
 ghost use Rattle.stmt_meaning.specs.InnerRunning.{one_left};
-ghost use Rattle.stmt_meaning.specs.Reads.{Read, IsConflict};
+ghost use Rattle.stmt_meaning.specs.meaning.Reads.{Read};
+ghost use Rattle.stmt_meaning.specs.Reads.{IsConflict};
 ghost use Rattle.table_txn.specs.Readings.{AreReadings, AreUnchanged, StayUnchanged, HasReadIfAny};
 ghost use Rattle.table_txn.specs.Transactions.{empty, shape_of, HasRun, HasEnded};
 ghost use Rattle.table_txn.specs.InnerSteps.{HasDone, HasNext, HasWorked, HasWritten};

@@ -19,12 +19,12 @@ use Rattle.outage_schedule.specs.declared.request.Outcome.{Outcome}
 use Rattle.client_model.specs.declared.act.Shown.{Shown}
 use Rattle.client_model.specs.declared.input.Input.{Input}
 use Rattle.client_model.specs.declared.input.Input.TheVariants.{Start, Waiting, Lent, Opened, TryFailed, Took, Gone}
-use Rattle.client_model.specs.Account.{Account, account_of, after_step, begins, before_sends}
-use Rattle.client_model.specs.Account as telling
-use Rattle.client_model.specs.Conversation.{Done}
-use Rattle.client_model.specs.Terms.{Terms}
-use Rattle.client_model.specs.Tried.{Trying, trying_of, tries_on, sent_under}
-use Rattle.run_clauses.specs.Reports.{shown_call, told_outcome, reached, report_of, failure_of}
+use Rattle.client_model.specs.meaning.Account.{Account, account_of, after_step, begins, before_sends}
+use Rattle.client_model.specs.meaning.Account as telling
+use Rattle.client_model.specs.meaning.Conversation.{Done}
+use Rattle.client_model.specs.meaning.Terms.{Terms}
+use Rattle.client_model.specs.meaning.Tried.{Trying, trying_of, tries_on, sent_under}
+use Rattle.run_clauses.specs.meaning.Reports.{shown_call, told_outcome, reached, report_of, failure_of}
 use Rattle.transcript_core.specs.Attempts as attempts
 use Rattle.transcript_core.specs.Attempts.{AreAttempts}
 use Rattle.transcript_core.specs.Drafts.{Draft, one_more, told_of, hears, shows, asked_in, sends, notes, drafted, IsOf, IsDraft}

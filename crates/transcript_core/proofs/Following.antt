@@ -8,7 +8,7 @@ use Rattle.std.proofs.lemmas.List.{drop_all}
 use Rattle.std.proofs.lemmas.List.Sums.{fold_push}
 use Rattle.outage_schedule.specs.declared.document.Request.{Request}
 use Rattle.outage_schedule.specs.declared.request.RequestReport.{RequestReport}
-use Rattle.run_clauses.specs.Copies.{is_repeated, with_copy, further_copies, copies_of, are_all_copies, is_over, next_place, next_of}
+use Rattle.run_clauses.specs.meaning.Copies.{is_repeated, with_copy, further_copies, copies_of, are_all_copies, is_over, next_place, next_of}
 use Rattle.transcript_core.specs.declared.next_request.NextRequest.{NextRequest}
 use Rattle.transcript_core.specs.Following.{at_place, place_behind, follows, IsNext}
 

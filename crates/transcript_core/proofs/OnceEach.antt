@@ -7,8 +7,8 @@ use Rattle.std.proofs.lemmas.Bool.Decides.{nat_tests}
 use Rattle.std.proofs.lemmas.List.{append-nil}
 use Rattle.std.proofs.lemmas.List.Elements.{filter-append}
 use Rattle.svc_values.specs.declared.entry.Ltxid.{Ltxid}
-use Rattle.svc_values.specs.Identifiers.{same_ltxid}
-use Rattle.client_model.specs.Tried.{Sending, is_try, each_once, tried_in, tried_upto}
+use Rattle.svc_values.specs.meaning.Identifiers.{same_ltxid}
+use Rattle.client_model.specs.meaning.Tried.{Sending, is_try, each_once, tried_in, tried_upto}
 use Rattle.transcript_core.specs.Attempts.{put_once}
 
 -- EACH ONCE ---------------------------------------------------------------------------------------

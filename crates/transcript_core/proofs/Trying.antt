@@ -9,13 +9,13 @@ use Rattle.svc_values.specs.declared.frame.Up.{Up}
 use Rattle.svc_values.specs.declared.frame.Up.TheVariants as up
 use Rattle.svc_values.specs.declared.frame.Down.{Down}
 use Rattle.svc_values.specs.declared.frame.Down.TheVariants as down
-use Rattle.svc_values.specs.Calls.{has_commit}
-use Rattle.svc_values.specs.Endings.{ends_transaction}
+use Rattle.svc_values.specs.meaning.Calls.{has_commit}
+use Rattle.svc_values.specs.meaning.Endings.{ends_transaction}
 use Rattle.client_model.specs.declared.input.Input.{Input}
 use Rattle.client_model.specs.declared.input.Input.TheVariants.{Start, Waiting, Lent, Opened, TryFailed, Took, Gone}
 use Rattle.client_model.specs.declared.act.Shown.{Shown}
-use Rattle.client_model.specs.Conversation.{Done}
-use Rattle.client_model.specs.Tried.{Sending, Trying, is_try, told_ltxid, with_answer, replied, over_after, sent_under, tries_on, trying_of, tried_in, tried_upto, tried_of}
+use Rattle.client_model.specs.meaning.Conversation.{Done}
+use Rattle.client_model.specs.meaning.Tried.{Sending, Trying, is_try, told_ltxid, with_answer, replied, over_after, sent_under, tries_on, trying_of, tried_in, tried_upto, tried_of}
 use Rattle.transcript_core.specs.declared.attempts.Attempt.{Attempt}
 use Rattle.transcript_core.specs.Attempts.{Attempts, none_yet, put_once, put_in, settled_with, settled, answered, told_by, next_transaction, ended_by, hears, sends, lists_of, attempt_of, AreAttempts}
 use Rattle.transcript_core.specs.Attempts as kept

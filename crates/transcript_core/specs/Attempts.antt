@@ -8,13 +8,13 @@ use Rattle.svc_values.specs.declared.entry.Ltxid.{Ltxid}
 use Rattle.svc_values.specs.declared.frame.Up.{Up}
 use Rattle.svc_values.specs.declared.frame.Up.TheVariants as up
 use Rattle.svc_values.specs.declared.frame.Down.TheVariants as down
-use Rattle.svc_values.specs.Calls.{has_commit}
-use Rattle.svc_values.specs.Endings.{ends_committed, ends_transaction}
-use Rattle.svc_values.specs.Identifiers.{same_ltxid}
+use Rattle.svc_values.specs.meaning.Calls.{has_commit}
+use Rattle.svc_values.specs.meaning.Endings.{ends_committed, ends_transaction}
+use Rattle.svc_values.specs.meaning.Identifiers.{same_ltxid}
 use Rattle.client_model.specs.declared.input.Input.{Input}
 use Rattle.client_model.specs.declared.input.Input.TheVariants.{Took}
 use Rattle.client_model.specs.declared.act.Shown.{Shown}
-use Rattle.client_model.specs.Tried.{Sending, Trying, is_try, told_ltxid, tried_in, tried_upto}
+use Rattle.client_model.specs.meaning.Tried.{Sending, Trying, is_try, told_ltxid, tried_in, tried_upto}
 use Rattle.transcript_core.specs.declared.attempts.Attempt.{Attempt}
 
 -- What is kept: for each transaction that is over, and for the one now, the identifiers tried by all calls but the last one that

@@ -15,11 +15,11 @@ use Rattle.client_model.specs.declared.act.Hold.{Hold}
 use Rattle.client_model.specs.declared.act.Shown.{Shown}
 use Rattle.client_model.specs.declared.input.Input.{Input}
 use Rattle.client_model.specs.declared.input.Input.TheVariants.{Took}
-use Rattle.client_model.specs.Account.{Account, account_of}
-use Rattle.client_model.specs.Conversation.{Done}
-use Rattle.client_model.specs.Terms.{Terms}
-use Rattle.client_model.specs.Tried.{trying_of}
-use Rattle.run_clauses.specs.Reports.{failure_of, failed_in, shown_call, told_outcome, reached}
+use Rattle.client_model.specs.meaning.Account.{Account, account_of}
+use Rattle.client_model.specs.meaning.Conversation.{Done}
+use Rattle.client_model.specs.meaning.Terms.{Terms}
+use Rattle.client_model.specs.meaning.Tried.{trying_of}
+use Rattle.run_clauses.specs.meaning.Reports.{failure_of, failed_in, shown_call, told_outcome, reached}
 use Rattle.transcript_core.specs.Attempts.{Attempts, AreAttempts, none_yet, settled, lists_of}
 use Rattle.transcript_core.specs.Attempts as attempts
 

@@ -3,7 +3,7 @@ use Rattle.std.specs.Prelude.{◌≡◌, ℕ, ◌+◌, ◌-◌, nat_lt, List, le
 use Rattle.std.specs.Option.{option_map_or}
 use Rattle.outage_schedule.specs.declared.document.Request.{Request}
 use Rattle.outage_schedule.specs.declared.request.RequestReport.{RequestReport}
-use Rattle.run_clauses.specs.Copies.{is_repeated}
+use Rattle.run_clauses.specs.meaning.Copies.{is_repeated}
 use Rattle.transcript_core.specs.declared.next_request.NextRequest.{NextRequest}
 
 -- the first copy of the request at a place, with the further ones that it allows

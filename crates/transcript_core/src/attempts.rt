@@ -1,9 +1,9 @@
 //! Under which identifiers a request tried to commit.
 ghost use Rattle.std.specs.Prelude.{◌≡◌, IfOk, OnOk, option_map, if◌then◌else◌};
 ghost use Rattle.std.specs.List.{list_any};
-ghost use Rattle.svc_values.specs.Endings.{ends_transaction as ends_transaction_def};
-ghost use Rattle.svc_values.specs.Identifiers.{same_ltxid};
-ghost use Rattle.client_model.specs.Tried.{told_ltxid as told_ltxid_def};
+ghost use Rattle.svc_values.specs.meaning.Endings.{ends_transaction as ends_transaction_def};
+ghost use Rattle.svc_values.specs.meaning.Identifiers.{same_ltxid};
+ghost use Rattle.client_model.specs.meaning.Tried.{told_ltxid as told_ltxid_def};
 ghost use Rattle.transcript_core.specs.Attempts.{none_yet, put_once as put_once_def, put_in, settled, answered as answered_def, answered_by as answered_by_def, next_transaction, submitted, hears, sends, lists_of};
 
 use client_model::{Input, Shown};

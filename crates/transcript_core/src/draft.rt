@@ -1,9 +1,9 @@
 //! The report of a request in the making.
 ghost use Rattle.std.specs.Prelude.{◌≡◌, ℕ, List, [], ◌∷◌, ◌++◌, length, fold, option_and_then, IfOk, OnOk};
-ghost use Rattle.client_model.specs.Conversation.{Done};
-ghost use Rattle.client_model.specs.Terms.{Terms};
+ghost use Rattle.client_model.specs.meaning.Conversation.{Done};
+ghost use Rattle.client_model.specs.meaning.Terms.{Terms};
 ghost use Rattle.outage_schedule.specs.declared.document.Request.{Request};
-ghost use Rattle.run_clauses.specs.Reports.{failure_of as failure_of_def, reached as reached_def, report_of};
+ghost use Rattle.run_clauses.specs.meaning.Reports.{failure_of as failure_of_def, reached as reached_def, report_of};
 ghost use Rattle.transcript_core.specs.Drafts.{told_of as told_of_def, one_more, hears, shows, asked_by as asked_by_def, sends, noted, drafted, IsDraft, done_so};
 
 use crate::attempts::Attempts;

@@ -1,6 +1,6 @@
 //! Errors as they are reported.
 ghost use Rattle.std.specs.Prelude.{◌≡◌};
-ghost use Rattle.run_clauses.specs.Reports.{reason_of as reason_of_def, failure_of as failure_of_def};
+ghost use Rattle.run_clauses.specs.meaning.Reports.{reason_of as reason_of_def, failure_of as failure_of_def};
 
 use client_model::Failed;
 use outage_schedule::{Failure, Reason};

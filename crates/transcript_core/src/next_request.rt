@@ -3,7 +3,7 @@ ghost use Rattle.std.specs.Prelude.{◌≡◌, List, [], ◌∷◌, ◌++◌, No
 ghost use Rattle.std.specs.List.{last_or};
 ghost use Rattle.std.specs.Option.{option_copied};
 ghost use Rattle.outage_schedule.specs.declared.request.RequestReport.{RequestReport as Reported};
-ghost use Rattle.run_clauses.specs.Copies.{may_be_repeated as may_be_repeated_def, is_last_uncommitted as is_last_uncommitted_def, is_repeated as is_repeated_def, next_of};
+ghost use Rattle.run_clauses.specs.meaning.Copies.{may_be_repeated as may_be_repeated_def, is_last_uncommitted as is_last_uncommitted_def, is_repeated as is_repeated_def, next_of};
 ghost use Rattle.transcript_core.specs.Following.{IsNext, at_place, follows};
 
 use outage_schedule::{Failure, Outcome, Request, RequestReport};

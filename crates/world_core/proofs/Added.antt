@@ -14,20 +14,21 @@ use Rattle.svc_values.specs.declared.frame.Up.TheVariants as up
 use Rattle.svc_values.specs.declared.frame.Down.{Down}
 use Rattle.svc_values.specs.declared.frame.Down.TheVariants as down
 use Rattle.svc_values.specs.declared.value.Value.{Value}
-use Rattle.svc_values.specs.Endings.{ends_committed}
-use Rattle.ltxid_book.specs.Journal.{is_blocked}
+use Rattle.svc_values.specs.meaning.Endings.{ends_committed}
+use Rattle.ltxid_book.specs.meaning.Journal.{is_blocked}
 use Rattle.ltxid_book.specs.declared.verdict.Verdict.{Verdict}
 use Rattle.ltxid_book.specs.declared.verdict.Verdict.TheVariants as verdict
 use Rattle.outage_schedule.specs.declared.item.Item.TheVariants as item
 use Rattle.outage_schedule.specs.declared.note.AskResult.{AskResult}
 use Rattle.outage_schedule.specs.declared.note.AskResult.TheVariants as told
-use Rattle.server_model.specs.Outcomes.{telling_of, down_of}
+use Rattle.server_model.specs.meaning.Outcomes.{telling_of}
+use Rattle.server_model.specs.Outcomes.{down_of}
 use Rattle.server_model.specs.Runs.{Happened}
 use Rattle.server_model.specs.Seen.{Store}
 use Rattle.server_model.specs.ServiceCalls.{Gains, AddsLine, StoresTold}
-use Rattle.world_model.specs.Crashing.{is_alert, is_new_block}
-use Rattle.world_model.specs.Machines.{Server}
-use Rattle.world_model.specs.Serving.{identifier, outcome_frame}
+use Rattle.world_model.specs.meaning.Crashing.{is_alert, is_new_block}
+use Rattle.world_model.specs.meaning.Machines.{Server}
+use Rattle.world_model.specs.meaning.Serving.{identifier, outcome_frame}
 use Rattle.world_core.specs.Answering.{served_item, result_of}
 use Rattle.world_core.specs.Stopping.{AreKnown}
 use Rattle.world_core.proofs.InOrder.{Answers, Connects, Begins, Replies, Blocks, Tells, Ends, Closes, commits_in}

@@ -9,10 +9,10 @@ use Rattle.std.proofs.lemmas.List.{append-nil}
 use Rattle.std.proofs.lemmas.Map.Lookups.{exact_unsigned}
 use Rattle.std.proofs.lemmas.Map.Views.{tells_apart}
 use Rattle.client_model.specs.declared.input.Input.{Input}
-use Rattle.world_model.specs.Crashing.{fallen_link}
-use Rattle.world_model.specs.Cutting.{cut_link, reaped_link}
-use Rattle.world_model.specs.Frames.{Sent, Reply}
-use Rattle.world_model.specs.Links.{Link, new_link, link_at, with_link, ends, is_close, sends, takes, open_from}
+use Rattle.world_model.specs.meaning.Crashing.{fallen_link}
+use Rattle.world_model.specs.meaning.Cutting.{cut_link, reaped_link}
+use Rattle.world_model.specs.meaning.Frames.{Sent, Reply}
+use Rattle.world_model.specs.meaning.Links.{Link, new_link, link_at, with_link, ends, is_close, sends, takes, open_from}
 use Rattle.world_core.specs.Linked.{HasFallen, HaveFallen, HasLiving}
 use Rattle.world_core.proofs.Linking.{ends_closed, ends_same}
 use Rattle.world_core.proofs.Places.{slice_added, slice_changed}

@@ -9,28 +9,30 @@ use Rattle.svc_values.specs.declared.frame.Up.{Up}
 use Rattle.svc_values.specs.declared.frame.Up.TheVariants as up
 use Rattle.svc_values.specs.declared.frame.Down.{Down}
 use Rattle.svc_values.specs.declared.frame.Down.TheVariants as down
-use Rattle.svc_values.specs.Identifiers.{same_session, session_of}
+use Rattle.svc_values.specs.meaning.Identifiers.{same_session, session_of}
 use Rattle.svc_values.specs.Laws.{AreExact}
-use Rattle.ltxid_book.specs.Journal.{Committed, committed_of, commits_of, next_ltxid}
-use Rattle.ltxid_book.specs.Outcomes.{verdict_of}
-use Rattle.server_model.specs.Base.{Base, IsSound}
+use Rattle.ltxid_book.specs.meaning.Journal.{Committed, committed_of, commits_of, next_ltxid}
+use Rattle.ltxid_book.specs.meaning.Outcomes.{verdict_of}
+use Rattle.server_model.specs.meaning.Base.{Base}
+use Rattle.server_model.specs.Base.{IsSound}
 use Rattle.server_model.specs.Core.{all_entries}
 use Rattle.server_model.specs.Items.{item_of}
 use Rattle.server_model.specs.Laws.{identifier_in, stops_last}
-use Rattle.server_model.specs.Outcomes.{Says, telling_of, down_of}
+use Rattle.server_model.specs.meaning.Outcomes.{Says, telling_of}
+use Rattle.server_model.specs.Outcomes.{down_of}
 use Rattle.server_model.specs.Runs.{Happened, Served, Runs}
 use Rattle.server_model.specs.Seen.{Store, Seen, IsHistory, book_in}
 use Rattle.server_model.specs.ServiceCalls.{TellsByTable}
 use Rattle.server_model.specs.Sessions.{Life}
 use Rattle.server_model.specs.ToldRight.{is_ended, is_refused, is_silent, must_refuse, tells, told_holds, happened_holds, lives_after, told_from}
-use Rattle.server_model.specs.Walk.{Walk, walk_of, deed_of, entered, after}
+use Rattle.server_model.specs.meaning.Walk.{Walk, walk_of, deed_of, entered, after}
 use Rattle.server_model.proofs.Offered.{runs_keep_base, runs_told, tells_next}
 use Rattle.world_model.specs.records.Basic.{living_now}
 use Rattle.world_model.specs.Coupled.{living_of, entries_in, life_by, life_of, HasLived, IsLater, Coupled}
-use Rattle.world_model.specs.Links.{Link}
-use Rattle.world_model.specs.Machines.{Server, next_session}
+use Rattle.world_model.specs.meaning.Links.{Link}
+use Rattle.world_model.specs.meaning.Machines.{Server, next_session}
 use Rattle.world_model.specs.records.Number.{known_so_far}
-use Rattle.world_model.specs.Serving.{Front, front_at, identifier}
+use Rattle.world_model.specs.meaning.Serving.{Front, front_at, identifier}
 use Rattle.world_model.specs.Traced.{Traced}
 use Rattle.world_core.specs.Answering.{result_of}
 use Rattle.world_core.proofs.InOrder.{ServedWith, Answers, Connects, Begins, Replies, Blocks, Tells, Ends, Closes, commits_in}

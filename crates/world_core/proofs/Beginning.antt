@@ -4,17 +4,17 @@ use Rattle.std.specs.Prelude.{slice_get, is_some, option_map}
 use Rattle.std.specs.List.{AllByRecursion}
 use Rattle.std.specs.Option.{option_or}
 use Rattle.svc_values.specs.declared.frame.Up.{Up}
-use Rattle.request_bounds.specs.Rules.{Rules}
+use Rattle.request_bounds.specs.meaning.Rules.{Rules}
 use Rattle.outage_schedule.specs.declared.document.Request.{Request}
 use Rattle.client_model.specs.declared.act.Hold.{Hold}
 use Rattle.client_model.specs.declared.input.Input.TheVariants.{Start}
-use Rattle.client_model.specs.Terms.{Terms, Talk, requested}
+use Rattle.client_model.specs.meaning.Terms.{Terms, Talk, requested}
 use Rattle.driver_core.specs.Driving.{Driving, terms_of, ArePast}
-use Rattle.run_clauses.specs.Copies.{next_of}
+use Rattle.run_clauses.specs.meaning.Copies.{next_of}
 use Rattle.transcript_core.specs.Drafts.{IsDraft}
 use Rattle.transcript_core.specs.Following.{IsNext}
-use Rattle.world_model.specs.Clients.{Doing, Client, reports_of, script_at, heard, begun, doing_of, after_hold}
-use Rattle.world_model.specs.Settings.{Setting}
+use Rattle.world_model.specs.meaning.Clients.{Doing, Client, reports_of, script_at, heard, begun, doing_of, after_hold}
+use Rattle.world_model.specs.meaning.Settings.{Setting}
 use Rattle.world_core.specs.declared.client.Course.{Course}
 use Rattle.world_core.specs.Coursing.{Held, IsNow, IsBeside, IsClient, Hears, Begins}
 

@@ -9,22 +9,23 @@ use Rattle.svc_values.specs.declared.entry.SessionId.{SessionId}
 use Rattle.svc_values.specs.declared.frame.Up.{Up}
 use Rattle.svc_values.specs.declared.frame.Up.TheVariants as up
 use Rattle.svc_values.specs.declared.frame.Down.{Down}
-use Rattle.svc_values.specs.Identifiers.{same_ltxid}
+use Rattle.svc_values.specs.meaning.Identifiers.{same_ltxid}
 use Rattle.svc_values.specs.Laws.{AreExact}
-use Rattle.ltxid_book.specs.Journal.{is_blocked}
+use Rattle.ltxid_book.specs.meaning.Journal.{is_blocked}
 use Rattle.ltxid_book.specs.declared.verdict.Verdict.{Verdict}
 use Rattle.ltxid_book.specs.declared.verdict.Verdict.TheVariants as verdict
 use Rattle.outage_schedule.specs.declared.note.AskResult.{AskResult}
 use Rattle.outage_schedule.specs.declared.note.AskResult.TheVariants as told
-use Rattle.server_model.specs.Outcomes.{Says, Stopped, telling_of, down_of}
+use Rattle.server_model.specs.meaning.Outcomes.{Says, Stopped, telling_of}
+use Rattle.server_model.specs.Outcomes.{down_of}
 use Rattle.server_model.specs.Runs.{Happened, Served}
 use Rattle.server_model.specs.Seen.{Store, Seen}
 use Rattle.server_model.specs.ServiceCalls.{AsksFor, WasAsked, Gains, AddsBlock, BlocksAsTold, may_store}
 use Rattle.world_model.specs.Coupled.{Coupled}
-use Rattle.world_model.specs.Crashing.{with_doubt}
-use Rattle.world_model.specs.Machines.{Server}
-use Rattle.world_model.specs.Outside.{after_asked}
-use Rattle.world_model.specs.Serving.{outcome_frame, server_after}
+use Rattle.world_model.specs.meaning.Crashing.{with_doubt}
+use Rattle.world_model.specs.meaning.Machines.{Server}
+use Rattle.world_model.specs.meaning.Outside.{after_asked}
+use Rattle.world_model.specs.meaning.Serving.{outcome_frame, server_after}
 use Rattle.world_model.specs.Traced.{Traced}
 use Rattle.world_core.specs.Answering.{served_item, crashed_item, result_of}
 use Rattle.world_core.specs.Stopping.{AreKnown}

@@ -4,7 +4,7 @@ use Rattle.std.specs.Prelude.{sum_by, nat_le, if◌then◌else◌}
 use Rattle.std.proofs.lemmas.Grind.{flat_map-append}
 use Rattle.std.proofs.lemmas.List.{append-nil, take_min}
 use Rattle.std.proofs.lemmas.List.Concat.{length-flat_map}
-use Rattle.canon_bytes.specs.TextBytes.{spell_bytes}
+use Rattle.canon_bytes.specs.meaning.TextBytes.{spell_bytes}
 use Rattle.frame_wire.specs.declared.feed.FrameFault.{FrameFault}
 use Rattle.frame_wire.specs.declared.feed.FrameFault.TheVariants.{NoMemory, BadFrame}
 use Rattle.frame_wire.specs.Stream.{Pending, nothing_pending, with_bytes, with_first, first_payload, whole_front, StandsFirst, IsNext}

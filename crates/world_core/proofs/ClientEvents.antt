@@ -5,7 +5,7 @@ use Rattle.std.proofs.lemmas.List.{append-nil}
 use Rattle.std.proofs.lemmas.Option.{slice_get_past}
 use Rattle.std.specs.Prelude.{◌⊎◌, slice_get, if◌then◌else◌}
 use Rattle.svc_values.specs.declared.entry.SessionId.{SessionId}
-use Rattle.request_bounds.specs.Rules.{Rules}
+use Rattle.request_bounds.specs.meaning.Rules.{Rules}
 use Rattle.outage_schedule.specs.declared.document.Request.{Request}
 use Rattle.outage_schedule.specs.declared.event.Event.TheVariants as event
 use Rattle.outage_schedule.specs.declared.note.GoNote.{GoNote}
@@ -13,15 +13,15 @@ use Rattle.outage_schedule.specs.declared.note.Note.TheVariants as note
 use Rattle.server_model.specs.Seen.{Store, Seen, IsHistory}
 use Rattle.server_model.specs.ServiceCalls.{Connected, if_connected}
 use Rattle.service_calls.specs.Kept.{Goes as Carries}
-use Rattle.world_model.specs.Clients.{Client}
+use Rattle.world_model.specs.meaning.Clients.{Client}
 use Rattle.world_model.specs.Coupled.{living_of, HasStored, life_of, HasLived, Coupled}
-use Rattle.world_model.specs.Going.{follow_go}
+use Rattle.world_model.specs.meaning.Going.{follow_go}
 use Rattle.world_model.specs.OrderlyLaws.{OrderlyIsKept}
-use Rattle.world_model.specs.Links.{Link, new_link, link_at}
-use Rattle.world_model.specs.Machines.{Machine}
+use Rattle.world_model.specs.meaning.Links.{Link, new_link, link_at}
+use Rattle.world_model.specs.meaning.Machines.{Machine}
 use Rattle.world_model.specs.OneEvent.{OneEvent}
 use Rattle.world_model.specs.Traced.{Traced}
-use Rattle.world_model.specs.Walking.{follow}
+use Rattle.world_model.specs.meaning.Walking.{follow}
 use Rattle.world_core.specs.declared.traffic.Traffic.{Traffic}
 use Rattle.world_core.specs.Beside.{opened_in, StandsFor, SomeBeside, StepMade, MakesStep}
 use Rattle.world_core.specs.Coursing.{Held, IsClient}

@@ -12,18 +12,18 @@ use Rattle.svc_values.specs.declared.frame.Up.{Up}
 use Rattle.svc_values.specs.declared.frame.Up.TheVariants as up
 use Rattle.svc_values.specs.declared.frame.Down.{Down}
 use Rattle.svc_values.specs.declared.frame.Down.TheVariants as down
-use Rattle.svc_values.specs.Endings.{ends_committed}
-use Rattle.svc_values.specs.Identifiers.{same_session, session_of}
+use Rattle.svc_values.specs.meaning.Endings.{ends_committed}
+use Rattle.svc_values.specs.meaning.Identifiers.{same_session, session_of}
 use Rattle.svc_values.specs.Laws.{AreExact}
 use Rattle.server_model.specs.Laws.{CommitsAs}
-use Rattle.server_model.specs.Outcomes.{telling_of}
+use Rattle.server_model.specs.meaning.Outcomes.{telling_of}
 use Rattle.server_model.specs.Runs.{Happened, Served}
 use Rattle.server_model.specs.Seen.{Seen}
 use Rattle.server_model.specs.ServiceCalls.{CameFrom, IsOf}
 use Rattle.world_model.specs.records.Basic.{is_made}
 use Rattle.world_model.specs.Coupled.{HasStored, entries_in, Coupled}
-use Rattle.world_model.specs.Links.{Link, link_at}
-use Rattle.world_model.specs.Machines.{next_session}
+use Rattle.world_model.specs.meaning.Links.{Link, link_at}
+use Rattle.world_model.specs.meaning.Machines.{next_session}
 use Rattle.world_model.specs.records.Number.{is_known, is_of_run, known_so_far}
 use Rattle.world_model.specs.Traced.{Traced}
 use Rattle.world_core.proofs.InOrder.{ServedWith, commits_in}

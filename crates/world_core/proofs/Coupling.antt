@@ -17,13 +17,13 @@ use Rattle.server_model.specs.Sessions.{Life}
 use Rattle.server_model.specs.ServiceCalls.{CameFrom, WasAsked}
 use Rattle.world_model.specs.CrashCount.{CountsCrash}
 use Rattle.world_model.specs.Forgets.{Forgets}
-use Rattle.world_model.specs.Links.{Link, link_at, with_link}
-use Rattle.world_model.specs.Machines.{Machine}
+use Rattle.world_model.specs.meaning.Links.{Link, link_at, with_link}
+use Rattle.world_model.specs.meaning.Machines.{Machine}
 use Rattle.world_model.specs.Traced.{Traced}
-use Rattle.world_model.specs.Noting.{only_if, same_reached}
-use Rattle.world_model.specs.Cutting.{reached_of, cut_link, after_cut, cuts, open_at, follow_cut}
-use Rattle.world_model.specs.Outside.{ticked}
-use Rattle.world_model.specs.Walking.{follow}
+use Rattle.world_model.specs.meaning.Noting.{only_if, same_reached}
+use Rattle.world_model.specs.meaning.Cutting.{reached_of, cut_link, after_cut, cuts, open_at, follow_cut}
+use Rattle.world_model.specs.meaning.Outside.{ticked}
+use Rattle.world_model.specs.meaning.Walking.{follow}
 use Rattle.world_model.specs.ServiceDid.{ServiceDid}
 use Rattle.world_model.specs.Coupled.{living_of, HasStored, life_of, HasLived, IsLater, SameServer, Coupled}
 use Rattle.world_model.specs.OrderlyLaws.{OrderlyIsKept}

@@ -1,22 +1,23 @@
 -- A client that goes on stands for the machine's.
 use Rattle.std.proofs.Common.{◌≡◌, ℕ, Bool, false, List, [], ◌∷◌, ◌++◌, Option, Some, None, refl, sym, ap, ap₂, subst, ◌∙◌}
 use Rattle.std.proofs.lemmas.List.{map-append}
-use Rattle.request_bounds.specs.Rules.{Rules}
+use Rattle.request_bounds.specs.meaning.Rules.{Rules}
 use Rattle.outage_schedule.specs.declared.document.Request.{Request}
 use Rattle.outage_schedule.specs.declared.request.RequestReport.{RequestReport}
 use Rattle.client_model.specs.declared.act.Act.{Act}
 use Rattle.client_model.specs.declared.act.Hold.{Hold}
 use Rattle.client_model.specs.declared.act.Hold.TheVariants.{Keep, GiveBack, Drop}
 use Rattle.client_model.specs.declared.input.Input.{Input}
-use Rattle.client_model.specs.Conversation.{Done, talk_at, is_gone_next}
-use Rattle.client_model.specs.Talk.{talk_step}
-use Rattle.client_model.specs.Terms.{Terms, Talk, Idle}
+use Rattle.client_model.specs.meaning.Conversation.{Done, talk_at}
+use Rattle.client_model.specs.Conversation.{is_gone_next}
+use Rattle.client_model.specs.meaning.Talk.{talk_step}
+use Rattle.client_model.specs.meaning.Terms.{Terms, Talk, Idle}
 use Rattle.driver_core.specs.Driving.{Driving, terms_of, ArePast}
 use Rattle.transcript_core.specs.Drafts.{Draft, IsDraft, done_so}
 use Rattle.transcript_core.specs.Following.{IsNext}
-use Rattle.world_model.specs.Clients.{Doing, Step, Past, Client, reports_of, resting, past_of, script_at, step_at, heard, after_hold}
-use Rattle.run_clauses.specs.Reports.{report_of}
-use Rattle.world_model.specs.Settings.{Setting}
+use Rattle.world_model.specs.meaning.Clients.{Doing, Step, Past, Client, reports_of, resting, past_of, script_at, step_at, heard, after_hold}
+use Rattle.run_clauses.specs.meaning.Reports.{report_of}
+use Rattle.world_model.specs.meaning.Settings.{Setting}
 use Rattle.world_core.specs.Coursing.{Held, terms_in, done_of, IsNow, IsCourse, IsBeside, IsClient, IsSettled, Closes, Hears}
 use Rattle.world_core.specs.declared.client.Course.{Course}
 use Rattle.world_core.proofs.Resting.{is_kept, step_rests, over_not_gone}

@@ -5,25 +5,26 @@ use Rattle.std.proofs.lemmas.List.{append-nil}
 use Rattle.outage_schedule.specs.declared.event.Event.TheVariants as event
 use Rattle.outage_schedule.specs.declared.note.Note.TheVariants as note
 use Rattle.outage_schedule.specs.declared.item.Served.{Served}
-use Rattle.pool_core.specs.Slots.{after_gone}
+use Rattle.pool_core.specs.meaning.Slots.{after_gone}
 use Rattle.svc_values.specs.declared.entry.Entry.{Entry}
 use Rattle.svc_values.specs.declared.entry.SessionId.{SessionId}
 use Rattle.server_model.specs.Laws.{stops_last}
 use Rattle.server_model.specs.Runs.{Happened}
 use Rattle.server_model.specs.Seen.{Store, ServiceState, Seen, IsHistory}
-use Rattle.server_model.specs.ServiceCalls.{is_failover, Gains, Crashed}
+use Rattle.server_model.specs.meaning.ServiceCalls.{is_failover}
+use Rattle.server_model.specs.ServiceCalls.{Gains, Crashed}
 use Rattle.service_calls.specs.Kept.{Goes}
 use Rattle.world_model.specs.Coupled.{living_of, HasStored, life_by, life_of, IsLater, SameServer, Coupled}
-use Rattle.world_model.specs.Crashing.{fallen_link, fallen_server, falls, crashes, follow_crash}
-use Rattle.world_model.specs.Links.{Link, link_at, open_from}
-use Rattle.world_model.specs.Machines.{Server, Machine}
-use Rattle.world_model.specs.Noting.{only_if}
+use Rattle.world_model.specs.meaning.Crashing.{fallen_link, fallen_server, falls, crashes, follow_crash}
+use Rattle.world_model.specs.meaning.Links.{Link, link_at, open_from}
+use Rattle.world_model.specs.meaning.Machines.{Server, Machine}
+use Rattle.world_model.specs.meaning.Noting.{only_if}
 use Rattle.world_model.specs.OrderlyLaws.{OrderlyIsKept}
 use Rattle.world_model.specs.OneEvent.{OneEvent}
 use Rattle.world_model.specs.ServiceDid.{front_served}
-use Rattle.world_model.specs.Serving.{front_at}
+use Rattle.world_model.specs.meaning.Serving.{front_at}
 use Rattle.world_model.specs.Traced.{Traced}
-use Rattle.world_model.specs.Walking.{follow}
+use Rattle.world_model.specs.meaning.Walking.{follow}
 use Rattle.world_core.specs.declared.traffic.Traffic.{Traffic}
 use Rattle.world_core.specs.Underway.{IsUnderway}
 use Rattle.world_core.specs.Making.{Makes, IsSomewhere}

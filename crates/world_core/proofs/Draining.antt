@@ -4,15 +4,15 @@ use Rattle.std.specs.Prelude.{◌||◌, slice_get, is_none}
 use Rattle.outage_schedule.specs.declared.event.Event.TheVariants as event
 use Rattle.outage_schedule.specs.declared.note.Note.TheVariants as note
 use Rattle.server_model.specs.Seen.{Seen}
-use Rattle.world_model.specs.Noting.{only_if}
-use Rattle.world_model.specs.Walking.{follow}
+use Rattle.world_model.specs.meaning.Noting.{only_if}
+use Rattle.world_model.specs.meaning.Walking.{follow}
 use Rattle.svc_values.specs.declared.frame.Up.{Up}
 use Rattle.svc_values.specs.declared.frame.Up.TheVariants as up
-use Rattle.pool_core.specs.Slots.{Slots, is_among, after_drain}
-use Rattle.world_model.specs.Links.{Link, link_at, changed, sends}
+use Rattle.pool_core.specs.meaning.Slots.{Slots, is_among, after_drain}
+use Rattle.world_model.specs.meaning.Links.{Link, link_at, changed, sends}
 use Rattle.world_model.specs.OrderlyLaws.{OrderlyIsKept}
-use Rattle.world_model.specs.Machines.{Machine}
-use Rattle.world_model.specs.Outside.{closed_by_drain, drained, follow_drain}
+use Rattle.world_model.specs.meaning.Machines.{Machine}
+use Rattle.world_model.specs.meaning.Outside.{closed_by_drain, drained, follow_drain}
 use Rattle.world_model.proofs.Offered.{AreOpenOnce, idle_open_once}
 use Rattle.world_core.specs.declared.connection.Connection.{Connection}
 use Rattle.world_core.specs.declared.connections.Connections.{Connections}

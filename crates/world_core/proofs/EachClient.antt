@@ -3,15 +3,15 @@ use Rattle.std.proofs.Common.{◌≡◌, ℕ, zero, suc, ◌+◌, ◌-◌, ◌<�
 use Rattle.std.proofs.lemmas.List.{length-append, length-map}
 use Rattle.std.proofs.lemmas.Option.{slice_get_past, slice_get_read, slice_get_within}
 use Rattle.std.specs.Prelude.{◌⊎◌, slice_get, slice_set}
-use Rattle.request_bounds.specs.Rules.{Rules}
-use Rattle.client_model.specs.Terms.{Terms}
+use Rattle.request_bounds.specs.meaning.Rules.{Rules}
+use Rattle.client_model.specs.meaning.Terms.{Terms}
 use Rattle.driver_core.specs.Driving.{StaysPast}
 use Rattle.outage_schedule.specs.declared.document.Client.{Client as Script}
 use Rattle.outage_schedule.specs.declared.document.Request.{Request}
 use Rattle.outage_schedule.specs.declared.note.Note.{Note}
 use Rattle.server_model.specs.Seen.{Seen}
-use Rattle.world_model.specs.Clients.{Client, client_at, script_at, resting}
-use Rattle.world_model.specs.Settings.{Setting, setting_of}
+use Rattle.world_model.specs.meaning.Clients.{Client, client_at, script_at, resting}
+use Rattle.world_model.specs.meaning.Settings.{Setting, setting_of}
 use Rattle.world_model.specs.Traced.{Traced}
 use Rattle.world_model.proofs.Offered.{Rest, others_rest}
 use Rattle.world_core.specs.declared.traffic.Traffic.{Traffic}

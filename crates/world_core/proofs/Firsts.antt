@@ -12,9 +12,9 @@ use Rattle.std.proofs.lemmas.Cmp.{ranked}
 use Rattle.std.proofs.lemmas.Map.Lookups.{exact_unsigned}
 use Rattle.std.proofs.lemmas.Map.Views.{tells_apart}
 use Rattle.std.proofs.Math.Path.{fun_ext}
-use Rattle.world_model.specs.Finishing.{first_behind}
-use Rattle.world_model.specs.Links.{Link, link_at, is_orphan}
-use Rattle.world_model.specs.Serving.{first_of, front_of}
+use Rattle.world_model.specs.meaning.Finishing.{first_behind}
+use Rattle.world_model.specs.meaning.Links.{Link, link_at, is_orphan}
+use Rattle.world_model.specs.meaning.Serving.{first_of, front_of}
 use Rattle.world_model.proofs.Offered.{IsFirst, first_there, none_there}
 use Rattle.world_core.specs.declared.connection.Connection.{Connection}
 use Rattle.world_core.specs.declared.connections.Connections.{Connections}

@@ -6,7 +6,7 @@ use Rattle.std.proofs.lemmas.Bool.Decides.{nat_tests}
 use Rattle.std.proofs.lemmas.List.{map-append}
 use Rattle.outage_schedule.specs.declared.note.Note.{Note}
 use Rattle.outage_schedule.specs.declared.note.Note.TheVariants as notes
-use Rattle.run_clauses.specs.Horizons.{Ended, Openings, end_at, after_note, wanted_horizon}
+use Rattle.run_clauses.specs.meaning.Horizons.{Ended, Openings, end_at, after_note, wanted_horizon}
 use Rattle.world_model.proofs.Offered.{horizon_of, share, horizon_more, horizon_both}
 use Rattle.world_core.specs.declared.openings.Ended.{Ended as EndedAt}
 use Rattle.world_core.specs.Forgetting.{Held, ended_at, ended_now, settled, passed_first, FirstFits, MayTick, ticked, ends, ends_unless, waiting, ended_of, horizon_by, Wait, Tracks}

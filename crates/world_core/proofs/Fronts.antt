@@ -1,9 +1,9 @@
 -- The frame that stands first on a connection whose session lives.
 use Rattle.std.proofs.Common.{◌≡◌, ℕ, Bool, true, false, List, [], ◌∷◌, Option, Some, None, refl, sym, ap, ◌∙◌, subst}
 use Rattle.std.specs.Prelude.{option_and_then, if◌then◌else◌}
-use Rattle.world_model.specs.Frames.{Sent}
-use Rattle.world_model.specs.Links.{Link, link_at}
-use Rattle.world_model.specs.Serving.{Front, first_of, front_of, front_at}
+use Rattle.world_model.specs.meaning.Frames.{Sent}
+use Rattle.world_model.specs.meaning.Links.{Link, link_at}
+use Rattle.world_model.specs.meaning.Serving.{Front, first_of, front_of, front_at}
 
 first_link : (link : Link) (up : List Sent) (front : Front) → first_of link up ≡ Some front → front.link ≡ link
 first_link link [] front e = absurd (let nothing : ⊥ = cc in nothing)

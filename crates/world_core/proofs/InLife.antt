@@ -6,11 +6,11 @@ use Rattle.svc_values.specs.declared.call.Call.TheVariants as call
 use Rattle.svc_values.specs.declared.frame.Up.{Up}
 use Rattle.svc_values.specs.declared.frame.Up.TheVariants as up
 use Rattle.svc_values.specs.Laws.{AreExact}
-use Rattle.svc_values.specs.Same.{same_bool, same_call, same_draws}
+use Rattle.svc_values.specs.meaning.Same.{same_bool, same_call, same_draws}
 use Rattle.server_model.specs.Sessions.{Life, New as Unmade, Idle, Begun as InRequest, Ended}
 use Rattle.server_model.specs.ToldRight.{life_behind, is_marked_alter, must_refuse}
 use Rattle.world_model.specs.Coupled.{life_of}
-use Rattle.world_model.specs.Frames.{Owner, Sent, Handled}
+use Rattle.world_model.specs.meaning.Frames.{Owner, Sent, Handled}
 use Rattle.world_model.specs.Sames.{same_owners, same_up, same_sent, is_front}
 use Rattle.world_model.specs.records.Wire.{Stage, New, Greeted, Told, Repeated, Begun, Rested, Shut, Wrong, stage_if, is_alter, next_stage, is_right}
 use Rattle.world_core.proofs.Storing.{both}

@@ -10,12 +10,12 @@ use Rattle.svc_values.specs.declared.frame.Up.{Up}
 use Rattle.svc_values.specs.declared.frame.Up.TheVariants as up
 use Rattle.svc_values.specs.declared.frame.Down.{Down}
 use Rattle.svc_values.specs.declared.frame.Down.TheVariants as down
-use Rattle.svc_values.specs.Endings.{ends_committed}
+use Rattle.svc_values.specs.meaning.Endings.{ends_committed}
 use Rattle.outage_schedule.specs.declared.note.AskResult.{AskResult}
-use Rattle.server_model.specs.Outcomes.{telling_of}
+use Rattle.server_model.specs.meaning.Outcomes.{telling_of}
 use Rattle.server_model.specs.Seen.{Store, Seen, IsHistory}
 use Rattle.server_model.specs.ServiceCalls.{ServedOne}
-use Rattle.world_model.specs.Serving.{Front, identifier, outcome_frame}
+use Rattle.world_model.specs.meaning.Serving.{Front, identifier, outcome_frame}
 use Rattle.world_model.specs.Traced.{Traced}
 
 -- What a session that has answered so many commits answers to a frame: an identifier that comes with it has the number of them

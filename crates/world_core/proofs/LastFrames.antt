@@ -8,26 +8,27 @@ use Rattle.svc_values.specs.declared.entry.SessionId.{SessionId}
 use Rattle.svc_values.specs.declared.frame.Up.{Up}
 use Rattle.svc_values.specs.declared.frame.Up.TheVariants as up
 use Rattle.svc_values.specs.declared.frame.Down.{Down}
-use Rattle.svc_values.specs.Calls.{sequences_in}
-use Rattle.svc_values.specs.Identifiers.{same_session}
+use Rattle.svc_values.specs.meaning.Calls.{sequences_in}
+use Rattle.svc_values.specs.meaning.Identifiers.{same_session}
 use Rattle.svc_values.specs.Laws.{AreExact}
-use Rattle.svc_values.specs.Same.{same_bool, same_call}
+use Rattle.svc_values.specs.meaning.Same.{same_bool, same_call}
 use Rattle.outage_schedule.specs.declared.note.AskResult.{AskResult}
 use Rattle.outage_schedule.specs.declared.note.AskResult.TheVariants as told
 use Rattle.outage_schedule.specs.declared.item.Served.{Served}
 use Rattle.server_model.specs.Laws.{stops_last}
-use Rattle.server_model.specs.Outcomes.{Telling, Stopped, telling_of}
+use Rattle.server_model.specs.meaning.Outcomes.{Telling, Stopped, telling_of}
 use Rattle.server_model.specs.Runs.{Happened, Served as ServedFrame}
 use Rattle.server_model.specs.Seen.{Store, Seen, IsHistory}
 use Rattle.server_model.specs.ServiceCalls.{Gains, ServedOne, SessionOf, may_store, with_stop}
 use Rattle.world_model.specs.records.Basic.{living_now}
 use Rattle.world_model.specs.Coupled.{living_of, life_by, SameServer, Coupled}
-use Rattle.world_model.specs.Crashing.{is_crashed_item, is_stopped, is_over, is_alert, is_new_block, has_stored, with_doubt, after_stopped, serves_last}
+use Rattle.world_model.specs.meaning.Crashing.{is_crashed_item, is_stopped, is_over, is_alert, is_new_block, has_stored, with_doubt, after_stopped, serves_last}
 use Rattle.world_model.specs.records.Hold.{is_connect}
-use Rattle.world_model.specs.Links.{Link}
-use Rattle.world_model.specs.Machines.{Server, Machine}
-use Rattle.world_model.specs.ServiceDid.{front_served, item_telling}
-use Rattle.world_model.specs.Serving.{Front, front_at, outcome_frame, is_item_of, is_served_by, is_commit, commits_after, after_served, server_after}
+use Rattle.world_model.specs.meaning.Links.{Link}
+use Rattle.world_model.specs.meaning.Machines.{Server, Machine}
+use Rattle.world_model.specs.meaning.ServiceDid.{item_telling}
+use Rattle.world_model.specs.ServiceDid.{front_served}
+use Rattle.world_model.specs.meaning.Serving.{Front, front_at, outcome_frame, is_item_of, is_served_by, is_commit, commits_after, after_served, server_after}
 use Rattle.world_model.specs.ToldByStore.{AreByStore}
 use Rattle.world_model.specs.Traced.{Traced}
 use Rattle.world_core.specs.Answering.{session_served, served_item, crashed_item}

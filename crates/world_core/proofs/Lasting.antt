@@ -4,15 +4,15 @@ use Rattle.svc_values.specs.declared.frame.Up.{Up}
 use Rattle.svc_values.specs.declared.frame.Down.{Down}
 use Rattle.svc_values.specs.Laws.{AreExact}
 use Rattle.outage_schedule.specs.declared.item.Served.{Served}
-use Rattle.server_model.specs.Outcomes.{Stopped, telling_of}
+use Rattle.server_model.specs.meaning.Outcomes.{Stopped, telling_of}
 use Rattle.server_model.specs.Seen.{Store, Seen, IsHistory}
 use Rattle.server_model.specs.ServiceCalls.{ServedOne, with_stop}
 use Rattle.service_calls.specs.Kept.{Goes}
-use Rattle.world_model.specs.Crashing.{with_doubt, after_stopped}
+use Rattle.world_model.specs.meaning.Crashing.{with_doubt, after_stopped}
 use Rattle.world_model.specs.Coupled.{Coupled}
-use Rattle.world_model.specs.Links.{Link, link_at, with_link}
-use Rattle.world_model.specs.Machines.{Machine}
-use Rattle.world_model.specs.Serving.{Front, front_at, after_front, handled, after_served, server_after, pool_after}
+use Rattle.world_model.specs.meaning.Links.{Link, link_at, with_link}
+use Rattle.world_model.specs.meaning.Machines.{Machine}
+use Rattle.world_model.specs.meaning.Serving.{Front, front_at, after_front, handled, after_served, server_after, pool_after}
 use Rattle.world_model.specs.Traced.{Traced}
 use Rattle.world_core.specs.declared.traffic.Traffic.{Traffic}
 use Rattle.world_core.specs.Answering.{served_item, crashed_item}

@@ -10,17 +10,19 @@ use Rattle.svc_values.specs.declared.entry.Ltxid.{Ltxid}
 use Rattle.svc_values.specs.declared.frame.Up.{Up}
 use Rattle.svc_values.specs.declared.frame.Down.{Down}
 use Rattle.svc_values.specs.declared.frame.Down.TheVariants as down
-use Rattle.canon_bytes.specs.UpBytes.{spell_up, FitsUp, IsMadeUp}
-use Rattle.canon_bytes.specs.DownBytes.{spell_down, FitsDown, IsMadeDown}
+use Rattle.canon_bytes.specs.meaning.UpBytes.{spell_up}
+use Rattle.canon_bytes.specs.UpBytes.{FitsUp, IsMadeUp}
+use Rattle.canon_bytes.specs.meaning.DownBytes.{spell_down}
+use Rattle.canon_bytes.specs.DownBytes.{FitsDown, IsMadeDown}
 use Rattle.frame_wire.specs.Stream.{Pending, nothing_pending, with_bytes, with_first, whole_front as front_in, first_payload, IsNext}
 use Rattle.frame_wire.specs.Steps.{stream, AreFrames, frame_size, IsWholeFront}
 use Rattle.client_model.specs.declared.input.Input.TheVariants.{Took}
 use Rattle.outage_schedule.specs.declared.note.Reached.{Reached}
-use Rattle.world_model.specs.Frames.{Sent, Reply, up_size, down_size, whole_front}
-use Rattle.world_model.specs.Links.{Link, new_link, ends, is_close, sends, told_by}
-use Rattle.world_model.specs.Serving.{Front, first_of, front_of}
-use Rattle.world_model.specs.Cutting.{reached_of, cut_link}
-use Rattle.world_model.specs.Crashing.{fallen_link}
+use Rattle.world_model.specs.meaning.Frames.{Sent, Reply, up_size, down_size, whole_front}
+use Rattle.world_model.specs.meaning.Links.{Link, new_link, ends, is_close, sends, told_by}
+use Rattle.world_model.specs.meaning.Serving.{Front, first_of, front_of}
+use Rattle.world_model.specs.meaning.Cutting.{reached_of, cut_link}
+use Rattle.world_model.specs.meaning.Crashing.{fallen_link}
 use Rattle.world_core.specs.declared.connection.Connection.{Connection}
 use Rattle.world_core.specs.Carrying.{Carries}
 use Rattle.world_core.specs.Linked.{up_frames, down_frames, told_by_frame, may_be_served, IsLink, GivesFront, GivesReply}

@@ -6,15 +6,15 @@ use Rattle.std.proofs.lemmas.List.Sums.{fold-append}
 use Rattle.svc_values.specs.declared.entry.Ltxid.{Ltxid}
 use Rattle.svc_values.specs.declared.entry.SessionId.{SessionId}
 use Rattle.svc_values.specs.declared.frame.Up.{Up}
-use Rattle.svc_values.specs.Identifiers.{same_session}
+use Rattle.svc_values.specs.meaning.Identifiers.{same_session}
 use Rattle.svc_values.specs.Laws.{AreExact}
-use Rattle.server_model.specs.Outcomes.{Telling}
+use Rattle.server_model.specs.meaning.Outcomes.{Telling}
 use Rattle.server_model.specs.Runs.{Happened, Served, Asked}
 use Rattle.server_model.specs.ServiceCalls.{IsOf}
 use Rattle.server_model.specs.Sessions.{Life, New}
 use Rattle.server_model.specs.ToldRight.{life_in, with_life, life_after, life_behind, lives_after}
 use Rattle.world_model.specs.Coupled.{life_by, life_of, HasLived}
-use Rattle.world_model.specs.Frames.{Handled}
+use Rattle.world_model.specs.meaning.Frames.{Handled}
 use Rattle.world_core.proofs.Storing.{sessions_differ}
 
 abbrev lives_by : List Happened → List (SessionId × Life)

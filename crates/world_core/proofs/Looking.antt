@@ -3,24 +3,24 @@ use Rattle.std.proofs.Common.{◌≡◌, ℕ, ◌+◌, ◌≤◌, Bool, true, fa
 use Rattle.std.specs.Prelude.{is_none, option_map, option_and_then, if◌then◌else◌}
 use Rattle.std.specs.Option.{option_or}
 use Rattle.svc_values.specs.declared.frame.Down.{Down}
-use Rattle.pool_core.specs.Slots.{is_among}
-use Rattle.request_bounds.specs.Rules.{Rules}
+use Rattle.pool_core.specs.meaning.Slots.{is_among}
+use Rattle.request_bounds.specs.meaning.Rules.{Rules}
 use Rattle.outage_schedule.specs.declared.document.Request.{Request}
 use Rattle.outage_schedule.specs.declared.note.GoNote.{GoNote}
 use Rattle.outage_schedule.specs.declared.note.GoNote.TheVariants as go
 use Rattle.client_model.specs.declared.input.Input.TheVariants.{Took}
 use Rattle.client_model.specs.declared.input.Wants.{Wants}
 use Rattle.client_model.specs.declared.input.Wants.TheVariants as wants
-use Rattle.client_model.specs.Talk.{wants_of}
-use Rattle.client_model.specs.Terms.{Terms}
+use Rattle.client_model.specs.meaning.Talk.{wants_of}
+use Rattle.client_model.specs.meaning.Terms.{Terms}
 use Rattle.driver_core.specs.Driving.{HasLtxids}
-use Rattle.world_model.specs.Acting.{act_at, frames_of, steps}
-use Rattle.world_model.specs.Clients.{Doing, Client, begun, doing_at}
-use Rattle.world_model.specs.Frames.{Reply}
-use Rattle.world_model.specs.Going.{noted, lost_at_once, finds_none, looks, looks_at, goes_by}
-use Rattle.world_model.specs.Links.{Link, link_at, with_link, takes}
-use Rattle.world_model.specs.Machines.{Machine}
-use Rattle.world_model.specs.Settings.{Setting}
+use Rattle.world_model.specs.meaning.Acting.{act_at, frames_of, steps}
+use Rattle.world_model.specs.meaning.Clients.{Doing, Client, begun, doing_at}
+use Rattle.world_model.specs.meaning.Frames.{Reply}
+use Rattle.world_model.specs.meaning.Going.{noted, lost_at_once, finds_none, looks, looks_at, goes_by}
+use Rattle.world_model.specs.meaning.Links.{Link, link_at, with_link, takes}
+use Rattle.world_model.specs.meaning.Machines.{Machine}
+use Rattle.world_model.specs.meaning.Settings.{Setting}
 use Rattle.world_model.specs.Traced.{Traced}
 use Rattle.world_model.proofs.Offered.{Awaits, awaits_frame}
 use Rattle.world_core.specs.declared.traffic.Traffic.{Traffic}

@@ -8,10 +8,10 @@ use Rattle.outage_schedule.specs.declared.note.Note.TheVariants as note
 use Rattle.server_model.specs.Seen.{Seen, IsHistory}
 use Rattle.server_model.specs.ServiceCalls.{Opened}
 use Rattle.service_calls.specs.Kept.{Goes}
-use Rattle.world_model.specs.Machines.{Server, Machine}
+use Rattle.world_model.specs.meaning.Machines.{Server, Machine}
 use Rattle.world_model.specs.Traced.{Traced}
-use Rattle.world_model.specs.Opening.{may_open, opened}
-use Rattle.world_model.specs.Walking.{follow}
+use Rattle.world_model.specs.meaning.Opening.{may_open, opened}
+use Rattle.world_model.specs.meaning.Walking.{follow}
 use Rattle.world_model.specs.Coupled.{living_of, life_by, life_of, IsLater, SameServer, Coupled}
 use Rattle.world_model.specs.OrderlyLaws.{OrderlyIsKept}
 use Rattle.world_model.specs.OneEvent.{OneEvent}

@@ -7,21 +7,21 @@ use Rattle.std.proofs.lemmas.Bool.{eqb-true}
 use Rattle.svc_values.specs.declared.entry.SessionId.{SessionId}
 use Rattle.svc_values.specs.declared.frame.Up.{Up}
 use Rattle.svc_values.specs.declared.frame.Up.TheVariants as up
-use Rattle.svc_values.specs.Identifiers.{same_session, session_of}
-use Rattle.svc_values.specs.Same.{same_bool}
+use Rattle.svc_values.specs.meaning.Identifiers.{same_session, session_of}
+use Rattle.svc_values.specs.meaning.Same.{same_bool}
 use Rattle.svc_values.specs.declared.frame.Down.{Down}
 use Rattle.svc_values.specs.Laws.{AreExact}
 use Rattle.server_model.specs.Seen.{Seen, IsHistory}
 use Rattle.server_model.specs.ToldRight.{must_refuse}
 use Rattle.world_model.specs.records.Basic.{is_down, is_named, first_is_connect, living_now, sessions_differ, are_made}
 use Rattle.world_model.specs.Coupled.{life_by, life_of, Coupled}
-use Rattle.world_model.specs.Frames.{Owner, Sent, Handled}
+use Rattle.world_model.specs.meaning.Frames.{Owner, Sent, Handled}
 use Rattle.world_model.specs.records.Hold.{is_connect}
 use Rattle.world_model.specs.Orderly.{Orderly}
-use Rattle.world_model.specs.Links.{Link, link_at}
+use Rattle.world_model.specs.meaning.Links.{Link, link_at}
 use Rattle.world_model.specs.Parts.{implies}
 use Rattle.world_model.specs.Sames.{same_owners, same_up, same_sent, is_front}
-use Rattle.world_model.specs.Serving.{Front, front_at}
+use Rattle.world_model.specs.meaning.Serving.{Front, front_at}
 use Rattle.world_model.specs.Traced.{Traced}
 use Rattle.world_model.specs.records.Wire.{up_of, nothing_cut, is_sent_front, Stage, New, Wrong, next_stage, stage_of, is_right}
 use Rattle.world_model.proofs.Offered.{connect_first}

@@ -11,13 +11,13 @@ use Rattle.svc_values.specs.declared.entry.Ltxid.{Ltxid}
 use Rattle.svc_values.specs.declared.entry.SessionId.{SessionId}
 use Rattle.svc_values.specs.declared.frame.Up.TheVariants as up
 use Rattle.svc_values.specs.declared.frame.Down.TheVariants as down
-use Rattle.svc_values.specs.Identifiers.{ltxid_of}
+use Rattle.svc_values.specs.meaning.Identifiers.{ltxid_of}
 use Rattle.svc_values.specs.Laws.{AreExact}
 use Rattle.outage_schedule.specs.declared.event.Event.TheVariants as event
 use Rattle.outage_schedule.specs.declared.note.Note.TheVariants as note
 use Rattle.outage_schedule.specs.declared.note.OutsideNote.{OutsideNote}
 use Rattle.server_model.specs.Laws.{stops_last}
-use Rattle.server_model.specs.Outcomes.{Silent, Says}
+use Rattle.server_model.specs.meaning.Outcomes.{Silent, Says}
 use Rattle.server_model.specs.Runs.{Happened, Served}
 use Rattle.server_model.specs.Sessions.{New}
 use Rattle.server_model.specs.Seen.{Store, Seen, IsHistory}
@@ -28,12 +28,12 @@ use Rattle.world_model.specs.OrderlyLaws.{OrderlyIsKept}
 use Rattle.world_model.specs.OneEvent.{OneEvent, drawn_outside}
 use Rattle.world_model.specs.records.Basic.{are_made}
 use Rattle.world_model.specs.Coupled.{living_of, HasStored, life_by, life_of, HasLived, IsLater, entries_in, SameServer, Coupled}
-use Rattle.world_model.specs.Links.{Link, link_at}
-use Rattle.world_model.specs.Machines.{Server, Machine, next_session}
-use Rattle.world_model.specs.Serving.{identifier}
+use Rattle.world_model.specs.meaning.Links.{Link, link_at}
+use Rattle.world_model.specs.meaning.Machines.{Server, Machine, next_session}
+use Rattle.world_model.specs.meaning.Serving.{identifier}
 use Rattle.world_model.specs.ToldByStore.{AreByStore}
 use Rattle.world_model.specs.Traced.{Traced}
-use Rattle.world_model.specs.Walking.{follow}
+use Rattle.world_model.specs.meaning.Walking.{follow}
 use Rattle.world_core.specs.declared.traffic.Traffic.{Traffic}
 use Rattle.world_core.specs.Underway.{IsUnderway}
 use Rattle.world_core.specs.Making.{Makes}

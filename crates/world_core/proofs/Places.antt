@@ -3,7 +3,7 @@ use Rattle.std.proofs.Common.{◌≡◌, inl, inr, ℕ, zero, suc, ◌+◌, ◌=
 use Rattle.std.proofs.lemmas.Bool.Decides.{eqb_tells}
 use Rattle.std.specs.Prelude.{◌⊎◌, slice_get, slice_set}
 use Rattle.world_core.specs.declared.connection.Connection.{Connection}
-use Rattle.world_model.specs.Links.{new_link}
+use Rattle.world_model.specs.meaning.Links.{new_link}
 use Rattle.world_core.specs.Linked.{connection_at, MaySend, IsLink, IsOpenAt}
 
 pub slice_same : {A : Type 0} (all : List A) (index : ℕ) (old new : A) → slice_get all index ≡ Some old → slice_get (slice_set all index new) index ≡ Some new

@@ -5,22 +5,22 @@ use Rattle.std.specs.Option.{option_map_or}
 use Rattle.svc_values.specs.Identifiers.{IsLtxid}
 use Rattle.svc_values.specs.declared.entry.Ltxid.{Ltxid}
 use Rattle.svc_values.specs.declared.frame.Up.{Up}
-use Rattle.pool_core.specs.Slots.{Slots, is_among}
-use Rattle.request_bounds.specs.Rules.{Rules}
+use Rattle.pool_core.specs.meaning.Slots.{Slots, is_among}
+use Rattle.request_bounds.specs.meaning.Rules.{Rules}
 use Rattle.outage_schedule.specs.declared.document.Request.{Request}
 use Rattle.client_model.specs.declared.act.Hold.{Hold}
 use Rattle.client_model.specs.declared.act.Hold.TheVariants.{Keep, GiveBack, Drop}
 use Rattle.client_model.specs.declared.input.Input.{Input}
 use Rattle.client_model.specs.declared.input.Wants.{Wants}
 use Rattle.client_model.specs.Conversation.{may_come, is_gone_next}
-use Rattle.client_model.specs.Talk.{talk_step, wants_of}
-use Rattle.client_model.specs.Terms.{Terms, Talk}
+use Rattle.client_model.specs.meaning.Talk.{talk_step, wants_of}
+use Rattle.client_model.specs.meaning.Terms.{Terms, Talk}
 use Rattle.driver_core.specs.Driving.{ArePast}
-use Rattle.world_model.specs.Acting.{act_at, steps}
-use Rattle.world_model.specs.Clients.{Doing, Client, client_at, with_client, heard, after_hold, after_step}
-use Rattle.world_model.specs.Links.{Link, link_at}
-use Rattle.world_model.specs.Machines.{Machine}
-use Rattle.world_model.specs.Settings.{Setting}
+use Rattle.world_model.specs.meaning.Acting.{act_at, steps}
+use Rattle.world_model.specs.meaning.Clients.{Doing, Client, client_at, with_client, heard, after_hold, after_step}
+use Rattle.world_model.specs.meaning.Links.{Link, link_at}
+use Rattle.world_model.specs.meaning.Machines.{Machine}
+use Rattle.world_model.specs.meaning.Settings.{Setting}
 use Rattle.world_core.specs.declared.client.Course.{Course}
 use Rattle.world_core.specs.declared.connection.Connection.{Connection}
 use Rattle.world_core.specs.declared.traffic.Traffic.{Traffic}

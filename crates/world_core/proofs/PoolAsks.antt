@@ -4,19 +4,19 @@ use Rattle.std.specs.Prelude.{option_and_then}
 use Rattle.svc_values.specs.declared.entry.Ltxid.{Ltxid}
 use Rattle.pool_core.specs.declared.answers.Take.{Take}
 use Rattle.pool_core.specs.declared.answers.Take.TheVariants as take
-use Rattle.pool_core.specs.Slots.{take_answer, after_take}
-use Rattle.request_bounds.specs.Rules.{Rules}
+use Rattle.pool_core.specs.meaning.Slots.{take_answer, after_take}
+use Rattle.request_bounds.specs.meaning.Rules.{Rules}
 use Rattle.outage_schedule.specs.declared.document.Request.{Request}
 use Rattle.outage_schedule.specs.declared.note.GoNote.{GoNote}
 use Rattle.outage_schedule.specs.declared.note.GoNote.TheVariants as go
 use Rattle.client_model.specs.declared.input.Input.TheVariants.{Waiting}
 use Rattle.client_model.specs.declared.input.Wants.TheVariants as wants
-use Rattle.world_model.specs.Acting.{steps}
-use Rattle.world_model.specs.Clients.{Doing, Client}
-use Rattle.world_model.specs.Going.{noted, tries_while, lends, takes_slot, goes_by}
-use Rattle.world_model.specs.Links.{Link}
-use Rattle.world_model.specs.Machines.{Machine}
-use Rattle.world_model.specs.Settings.{Setting}
+use Rattle.world_model.specs.meaning.Acting.{steps}
+use Rattle.world_model.specs.meaning.Clients.{Doing, Client}
+use Rattle.world_model.specs.meaning.Going.{noted, tries_while, lends, takes_slot, goes_by}
+use Rattle.world_model.specs.meaning.Links.{Link}
+use Rattle.world_model.specs.meaning.Machines.{Machine}
+use Rattle.world_model.specs.meaning.Settings.{Setting}
 use Rattle.world_model.specs.Traced.{Traced}
 use Rattle.world_model.proofs.Offered.{IsLent, is_lent, open_lent}
 use Rattle.world_core.specs.declared.traffic.Traffic.{Traffic}

@@ -12,15 +12,16 @@ use Rattle.outage_schedule.specs.declared.note.Note.TheVariants as note
 use Rattle.outage_schedule.specs.declared.note.AskResult.{AskResult}
 use Rattle.outage_schedule.specs.declared.note.AskResult.TheVariants as result
 use Rattle.server_model.specs.Laws.{stops_last}
-use Rattle.server_model.specs.Outcomes.{Telling, Says, down_of}
+use Rattle.server_model.specs.meaning.Outcomes.{Telling, Says}
+use Rattle.server_model.specs.Outcomes.{down_of}
 use Rattle.server_model.specs.Runs.{Asked}
 use Rattle.server_model.specs.Seen.{Seen, IsHistory}
 use Rattle.server_model.specs.ServiceCalls.{WasAsked, AskedOne}
 use Rattle.service_calls.specs.Kept.{Goes}
-use Rattle.world_model.specs.Machines.{Server, Machine}
-use Rattle.world_model.specs.Outside.{after_asked}
+use Rattle.world_model.specs.meaning.Machines.{Server, Machine}
+use Rattle.world_model.specs.meaning.Outside.{after_asked}
 use Rattle.world_model.specs.Traced.{Traced}
-use Rattle.world_model.specs.Walking.{follow}
+use Rattle.world_model.specs.meaning.Walking.{follow}
 use Rattle.world_model.specs.Coupled.{living_of, life_by, life_of, IsLater, SameServer, Coupled}
 use Rattle.world_model.specs.OrderlyLaws.{OrderlyIsKept}
 use Rattle.world_model.specs.OneEvent.{OneEvent}

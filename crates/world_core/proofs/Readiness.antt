@@ -2,7 +2,7 @@
 use Rattle.std.proofs.Common.{◌≡◌, ◌<◌, ◌≤◌, ◌+◌, subst, ℕ, true, false, Option, Some, None, refl, sym, ◌∙◌, arith}
 use Rattle.std.specs.Prelude.{◌*◌, ◌^◌}
 use Rattle.svc_values.specs.declared.entry.Ltxid.{Ltxid}
-use Rattle.server_model.specs.Outcomes.{Stopped}
+use Rattle.server_model.specs.meaning.Outcomes.{Stopped}
 use Rattle.server_model.specs.Seen.{ServiceState, Store, Seen, Keeps, KeepsStore}
 use Rattle.server_model.specs.ServiceCalls.{ServedOne, KeepsOpening, StopsOnly, StoppedOpening, StoppedOutside, StoppedAsk}
 use Rattle.svc_values.specs.declared.frame.Up.{Up}

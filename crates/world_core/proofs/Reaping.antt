@@ -4,18 +4,18 @@ use Rattle.std.proofs.lemmas.Bool.Decides.{eqb_tells}
 use Rattle.std.specs.Prelude.{◌⊎◌, if◌then◌else◌}
 use Rattle.std.specs.Option.{option_map_or}
 use Rattle.std.proofs.lemmas.List.{append-nil}
-use Rattle.svc_values.specs.Same.{same_bool}
+use Rattle.svc_values.specs.meaning.Same.{same_bool}
 use Rattle.outage_schedule.specs.declared.event.Event.TheVariants as event
 use Rattle.outage_schedule.specs.declared.note.Note.TheVariants as note
 use Rattle.server_model.specs.Seen.{Store, Seen, IsHistory, Keeps, KeepsStore}
 use Rattle.server_model.specs.ServiceCalls.{Reaped}
 use Rattle.service_calls.specs.Kept.{Goes}
-use Rattle.world_model.specs.Links.{Link, link_at, with_link, changed, is_orphan}
-use Rattle.world_model.specs.Machines.{Server, Machine}
+use Rattle.world_model.specs.meaning.Links.{Link, link_at, with_link, changed, is_orphan}
+use Rattle.world_model.specs.meaning.Machines.{Server, Machine}
 use Rattle.world_model.specs.Traced.{Traced}
-use Rattle.world_model.specs.Noting.{only_if}
-use Rattle.world_model.specs.Cutting.{has_orphan, reaped_link, follow_reap}
-use Rattle.world_model.specs.Walking.{follow}
+use Rattle.world_model.specs.meaning.Noting.{only_if}
+use Rattle.world_model.specs.meaning.Cutting.{has_orphan, reaped_link, follow_reap}
+use Rattle.world_model.specs.meaning.Walking.{follow}
 use Rattle.world_model.specs.Coupled.{living_of, HasStored, life_by, life_of, HasLived, IsLater, SameServer, Coupled}
 use Rattle.world_model.specs.OrderlyLaws.{OrderlyIsKept}
 use Rattle.world_model.specs.OneEvent.{OneEvent}

@@ -4,8 +4,8 @@ use Rattle.std.specs.Prelude.{◌||◌, is_none, if◌then◌else◌}
 use Rattle.svc_values.specs.declared.entry.Entry.{Entry}
 use Rattle.svc_values.specs.declared.entry.SessionId.{SessionId}
 use Rattle.world_model.specs.Coupled.{living_of, HasStored, entries_in}
-use Rattle.world_model.specs.Links.{Link}
-use Rattle.world_model.specs.Machines.{Server}
+use Rattle.world_model.specs.meaning.Links.{Link}
+use Rattle.world_model.specs.meaning.Machines.{Server}
 use Rattle.world_core.proofs.Written.{Which}
 
 pub named_by : (server : Server) (known : Option SessionId) (session : SessionId) (sessions : ℕ) → Which server known session sessions → is_none known ≡ false → known ≡ Some session

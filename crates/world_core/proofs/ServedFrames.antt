@@ -6,7 +6,7 @@ use Rattle.svc_values.specs.declared.frame.Up.{Up}
 use Rattle.svc_values.specs.declared.frame.Down.{Down}
 use Rattle.svc_values.specs.Laws.{AreExact}
 use Rattle.std.specs.List.{AllByRecursion}
-use Rattle.svc_values.specs.Calls.{sequences_in}
+use Rattle.svc_values.specs.meaning.Calls.{sequences_in}
 use Rattle.canon_bytes.specs.UpBytes.{IsMadeUp}
 use Rattle.world_core.specs.Linked.{up_frames}
 use Rattle.world_core.proofs.Standing.{link_stands}
@@ -14,17 +14,17 @@ use Rattle.outage_schedule.specs.declared.event.Event.TheVariants as event
 use Rattle.outage_schedule.specs.declared.note.Note.TheVariants as note
 use Rattle.outage_schedule.specs.declared.item.Item.{Item}
 use Rattle.outage_schedule.specs.declared.item.Served.{Served}
-use Rattle.pool_core.specs.Slots.{after_gone}
-use Rattle.server_model.specs.Outcomes.{telling_of}
+use Rattle.pool_core.specs.meaning.Slots.{after_gone}
+use Rattle.server_model.specs.meaning.Outcomes.{telling_of}
 use Rattle.server_model.specs.Runs.{Served as ServedFrame}
 use Rattle.server_model.specs.Seen.{Store, ServiceState, Seen, IsHistory, Lives}
 use Rattle.server_model.specs.ServiceCalls.{Adds, HoldsBehind, ServedOne, is_up_after}
 use Rattle.service_calls.specs.Kept.{Goes}
-use Rattle.world_model.specs.Frames.{Sent}
-use Rattle.world_model.specs.Links.{Link, link_at, with_link, changed, ends}
-use Rattle.world_model.specs.Machines.{Machine}
-use Rattle.world_model.specs.Noting.{name_of}
-use Rattle.world_model.specs.Serving.{Front, first_of, front_at, is_blocked, after_front, pool_after}
+use Rattle.world_model.specs.meaning.Frames.{Sent}
+use Rattle.world_model.specs.meaning.Links.{Link, link_at, with_link, changed, ends}
+use Rattle.world_model.specs.meaning.Machines.{Machine}
+use Rattle.world_model.specs.meaning.Noting.{name_of}
+use Rattle.world_model.specs.meaning.Serving.{Front, first_of, front_at, is_blocked, after_front, pool_after}
 use Rattle.world_model.specs.Traced.{Traced}
 use Rattle.world_model.specs.Coupled.{living_of, Coupled}
 use Rattle.world_model.specs.OrderlyLaws.{OrderlyIsKept}

@@ -14,19 +14,19 @@ use Rattle.outage_schedule.specs.declared.note.Note.TheVariants as note
 use Rattle.outage_schedule.specs.declared.item.Item.{Item}
 use Rattle.outage_schedule.specs.declared.item.Served.{Served}
 use Rattle.server_model.specs.Laws.{stops_last}
-use Rattle.server_model.specs.Outcomes.{Telling, telling_of}
+use Rattle.server_model.specs.meaning.Outcomes.{Telling, telling_of}
 use Rattle.server_model.specs.Runs.{Happened, Served as ServedFrame}
 use Rattle.server_model.specs.Sessions.{Life}
 use Rattle.server_model.specs.ToldRight.{life_after, life_behind}
 use Rattle.server_model.specs.Seen.{Connections, Seen, IsHistory, with_connection, without_connection}
 use Rattle.server_model.specs.ServiceCalls.{IsOf, SessionOf}
-use Rattle.world_model.specs.Links.{Link, link_at, with_link, changed, ends}
-use Rattle.world_model.specs.Machines.{Server, Machine, next_session}
-use Rattle.world_model.specs.Noting.{only_if, name_of, same_name}
-use Rattle.world_model.specs.Serving.{Front, front_at, is_item_of, is_served_by, serves, follow_serve, is_last, is_blocked, is_commit, commits_after, after_front, handled, reply_of, after_served, server_after, pool_after}
+use Rattle.world_model.specs.meaning.Links.{Link, link_at, with_link, changed, ends}
+use Rattle.world_model.specs.meaning.Machines.{Server, Machine, next_session}
+use Rattle.world_model.specs.meaning.Noting.{only_if, name_of, same_name}
+use Rattle.world_model.specs.meaning.Serving.{Front, front_at, is_item_of, is_served_by, serves, follow_serve, is_last, is_blocked, is_commit, commits_after, after_front, handled, reply_of, after_served, server_after, pool_after}
 use Rattle.world_model.specs.records.Basic.{sessions_differ, are_made}
 use Rattle.world_model.specs.Traced.{Traced}
-use Rattle.world_model.specs.Walking.{follow}
+use Rattle.world_model.specs.meaning.Walking.{follow}
 use Rattle.world_model.specs.ServiceDid.{front_served}
 use Rattle.world_model.specs.Coupled.{living_of, HasStored, entries_in, life_by, life_of, HasLived, IsLater, SameServer, Coupled}
 use Rattle.world_model.specs.OrderlyLaws.{OrderlyIsKept}

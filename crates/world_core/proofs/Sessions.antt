@@ -5,14 +5,14 @@ use Rattle.svc_values.specs.declared.entry.SessionId.{SessionId}
 use Rattle.svc_values.specs.declared.frame.Up.{Up}
 use Rattle.svc_values.specs.declared.frame.Down.{Down}
 use Rattle.server_model.specs.Laws.{stops_last}
-use Rattle.server_model.specs.Outcomes.{telling_of}
+use Rattle.server_model.specs.meaning.Outcomes.{telling_of}
 use Rattle.server_model.specs.Runs.{Served as ServedFrame}
 use Rattle.server_model.specs.Seen.{Seen}
 use Rattle.server_model.specs.ServiceCalls.{SessionOf}
 use Rattle.world_model.specs.records.Basic.{living_now}
 use Rattle.world_model.specs.Coupled.{living_of, SameServer, Coupled}
-use Rattle.world_model.specs.Machines.{Server}
-use Rattle.world_model.specs.Serving.{Front, front_at}
+use Rattle.world_model.specs.meaning.Machines.{Server}
+use Rattle.world_model.specs.meaning.Serving.{Front, front_at}
 use Rattle.world_model.specs.Traced.{Traced}
 use Rattle.world_core.proofs.Fronts.{front_there}
 use Rattle.world_core.proofs.Storing.{living_is_now}

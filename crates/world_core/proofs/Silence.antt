@@ -5,15 +5,15 @@ use Rattle.svc_values.specs.declared.call.Call.{Call}
 use Rattle.svc_values.specs.declared.entry.Ltxid.{Ltxid}
 use Rattle.svc_values.specs.declared.frame.Up.{Up}
 use Rattle.svc_values.specs.declared.frame.Down.{Down}
-use Rattle.pool_core.specs.Slots.{Slots, give_back_answer}
+use Rattle.pool_core.specs.meaning.Slots.{Slots, give_back_answer}
 use Rattle.client_model.specs.declared.act.Act.{Act}
 use Rattle.client_model.specs.declared.act.Failed.TheVariants.{Retries, PoolWait}
 use Rattle.client_model.specs.declared.act.Hold.{Hold}
 use Rattle.client_model.specs.declared.act.Hold.TheVariants.{Keep, Drop}
 use Rattle.client_model.specs.declared.input.Wants.TheVariants as wants
-use Rattle.client_model.specs.Talk.{stands, quiet, fails, with_tried, lost_of, begin_of, loses, on_waiting, on_try_failed, on_hello, sends_or_ends, next_call, takes, wants_in}
-use Rattle.client_model.specs.Terms.{Terms, Talk, Phase, Idle, Unbegun, Queued, Seeking, Greeting, Asked, Running, Replaying, unsubmitted}
-use Rattle.world_model.specs.Acting.{closing}
+use Rattle.client_model.specs.meaning.Talk.{stands, quiet, fails, with_tried, lost_of, begin_of, loses, on_waiting, on_try_failed, on_hello, sends_or_ends, next_call, takes, wants_in}
+use Rattle.client_model.specs.meaning.Terms.{Terms, Talk, Phase, Idle, Unbegun, Queued, Seeking, Greeting, Asked, Running, Replaying, unsubmitted}
+use Rattle.world_model.specs.meaning.Acting.{closing}
 use Rattle.world_model.proofs.Offered.{awaits_after}
 use Rattle.world_core.specs.declared.connection.Connection.{Connection}
 use Rattle.world_core.specs.Linked.{MaySend}

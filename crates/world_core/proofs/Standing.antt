@@ -9,12 +9,12 @@ use Rattle.svc_values.specs.declared.frame.Up.{Up}
 use Rattle.svc_values.specs.declared.frame.Down.{Down}
 use Rattle.client_model.specs.declared.input.Input.TheVariants.{Took}
 use Rattle.outage_schedule.specs.declared.note.Reached.{Reached}
-use Rattle.world_model.specs.Frames.{Sent, Reply}
-use Rattle.world_model.specs.Links.{Link, new_link, link_at, with_link, changed, takes, is_orphan}
-use Rattle.world_model.specs.Noting.{only_if}
-use Rattle.world_model.specs.Serving.{Front, front_of, front_at}
-use Rattle.world_model.specs.Crashing.{fallen_link}
-use Rattle.world_model.specs.Cutting.{reached_of, cut_link, open_at, has_orphan, reaped_link}
+use Rattle.world_model.specs.meaning.Frames.{Sent, Reply}
+use Rattle.world_model.specs.meaning.Links.{Link, new_link, link_at, with_link, changed, takes, is_orphan}
+use Rattle.world_model.specs.meaning.Noting.{only_if}
+use Rattle.world_model.specs.meaning.Serving.{Front, front_of, front_at}
+use Rattle.world_model.specs.meaning.Crashing.{fallen_link}
+use Rattle.world_model.specs.meaning.Cutting.{reached_of, cut_link, open_at, has_orphan, reaped_link}
 use Rattle.world_core.specs.declared.connection.Connection.{Connection}
 use Rattle.world_core.specs.declared.connections.Connections.{Connections}
 use Rattle.world_core.specs.Linked.{up_frames, IsLink, HaveFallen, HasLiving, AreLinks, Stand, connection_at, MaySend, GivesFront, GivesFrontAt, GivesReply, GivesReplyAt, CutsAt}

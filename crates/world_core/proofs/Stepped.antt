@@ -2,20 +2,20 @@
 use Rattle.std.proofs.Common.{◌≡◌, ℕ, Bool, List, [], ◌∷◌, ◌++◌, Option, Some, None, Result, Ok, Err, OnOk, IfOk, length, map, refl, sym, ap, ap₂, subst, ◌∙◌}
 use Rattle.std.specs.Prelude.{unwrap_or}
 use Rattle.svc_values.specs.declared.frame.Up.{Up}
-use Rattle.pool_core.specs.Slots.{Slots, give_back_answer}
-use Rattle.request_bounds.specs.Rules.{Rules}
+use Rattle.pool_core.specs.meaning.Slots.{Slots, give_back_answer}
+use Rattle.request_bounds.specs.meaning.Rules.{Rules}
 use Rattle.client_model.specs.declared.act.Act.{Act}
 use Rattle.client_model.specs.declared.act.Hold.{Hold}
 use Rattle.client_model.specs.declared.input.Input.{Input}
 use Rattle.client_model.specs.Conversation.{is_gone_next}
-use Rattle.client_model.specs.Released.{released}
-use Rattle.client_model.specs.Terms.{Terms, Talk}
-use Rattle.world_model.specs.Acting.{closing, frames_of, act_at, connection_of, call_in, sent_by, owner_at}
-use Rattle.world_model.specs.Clients.{Doing, Client, heard, after_hold}
-use Rattle.world_model.specs.Frames.{Owner, Sent}
-use Rattle.world_model.specs.Links.{changed, sends}
-use Rattle.world_model.specs.Machines.{Machine}
-use Rattle.world_model.specs.Settings.{Setting}
+use Rattle.client_model.specs.meaning.Released.{released}
+use Rattle.client_model.specs.meaning.Terms.{Terms, Talk}
+use Rattle.world_model.specs.meaning.Acting.{closing, frames_of, act_at, connection_of, call_in, sent_by, owner_at}
+use Rattle.world_model.specs.meaning.Clients.{Doing, Client, heard, after_hold}
+use Rattle.world_model.specs.meaning.Frames.{Owner, Sent}
+use Rattle.world_model.specs.meaning.Links.{changed, sends}
+use Rattle.world_model.specs.meaning.Machines.{Machine}
+use Rattle.world_model.specs.meaning.Settings.{Setting}
 use Rattle.world_core.specs.declared.client.Course.{Course}
 use Rattle.world_core.specs.declared.traffic.Traffic.{Traffic}
 use Rattle.world_core.specs.Coursing.{Held, IsNow, IsClient, Hears}

@@ -7,9 +7,9 @@ use Rattle.svc_values.specs.declared.frame.Up.{Up}
 use Rattle.svc_values.specs.declared.frame.Down.{Down}
 use Rattle.svc_values.specs.declared.frame.Down.TheVariants as down
 use Rattle.pool_core.specs.declared.answers.Back.{Back}
-use Rattle.pool_core.specs.Slots.{Slots, after_opened}
+use Rattle.pool_core.specs.meaning.Slots.{Slots, after_opened}
 use Rattle.canon_bytes.specs.DownBytes.{IsMadeDown}
-use Rattle.request_bounds.specs.Rules.{Rules}
+use Rattle.request_bounds.specs.meaning.Rules.{Rules}
 use Rattle.outage_schedule.specs.declared.document.Request.{Request}
 use Rattle.outage_schedule.specs.declared.note.GoNote.TheVariants as go
 use Rattle.client_model.specs.declared.input.Input.{Input}
@@ -18,13 +18,13 @@ use Rattle.client_model.specs.declared.input.Wants.{Wants}
 use Rattle.client_model.specs.declared.input.Wants.TheVariants as wants
 use Rattle.client_model.specs.Conversation.{may_come, is_wanted}
 use Rattle.driver_core.specs.Driving.{HasLtxids}
-use Rattle.world_model.specs.Acting.{closing, loses, steps, act_at, frames_of, connection_of}
-use Rattle.world_model.specs.Clients.{Doing, Client}
-use Rattle.world_model.specs.Frames.{Reply}
-use Rattle.world_model.specs.Going.{tries_while, noted, lends, finds_none}
-use Rattle.world_model.specs.Links.{Link, new_link, link_at}
-use Rattle.world_model.specs.Machines.{Machine}
-use Rattle.world_model.specs.Settings.{Setting}
+use Rattle.world_model.specs.meaning.Acting.{closing, loses, steps, act_at, frames_of, connection_of}
+use Rattle.world_model.specs.meaning.Clients.{Doing, Client}
+use Rattle.world_model.specs.meaning.Frames.{Reply}
+use Rattle.world_model.specs.meaning.Going.{tries_while, noted, lends, finds_none}
+use Rattle.world_model.specs.meaning.Links.{Link, new_link, link_at}
+use Rattle.world_model.specs.meaning.Machines.{Machine}
+use Rattle.world_model.specs.meaning.Settings.{Setting}
 use Rattle.world_model.proofs.Offered.{dead_sends_none}
 use Rattle.world_core.specs.declared.connection.Connection.{Connection}
 use Rattle.world_core.specs.declared.traffic.Traffic.{Traffic}

@@ -3,7 +3,7 @@ use Rattle.std.proofs.Common.{◌≡◌, ◌≤◌, ◌<◌, ℕ, Bool, true, fa
 use Rattle.std.proofs.lemmas.Bool.{lt-ltb}
 use Rattle.std.specs.Prelude.{◌&&◌, nat_lt}
 use Rattle.server_model.specs.Base.{IsSound}
-use Rattle.server_model.specs.Outcomes.{Silent, Says, Stopped}
+use Rattle.server_model.specs.meaning.Outcomes.{Silent, Says, Stopped}
 use Rattle.server_model.specs.Runs.{Happened, Served, Asked, Power, On}
 use Rattle.server_model.specs.Laws.{is_behind, stops_last, AreStoppedBefore}
 use Rattle.server_model.specs.Seen.{Seen, IsHistory, HasPower}

@@ -11,16 +11,16 @@ use Rattle.svc_values.specs.declared.entry.Entry.{Entry}
 use Rattle.svc_values.specs.declared.entry.SessionId.{SessionId}
 use Rattle.svc_values.specs.declared.frame.Up.TheVariants as up
 use Rattle.svc_values.specs.declared.frame.Down.TheVariants as down
-use Rattle.svc_values.specs.Identifiers.{same_session, session_of}
+use Rattle.svc_values.specs.meaning.Identifiers.{same_session, session_of}
 use Rattle.svc_values.specs.Laws.{AreExact}
 use Rattle.server_model.specs.Laws.{CommitsAs}
-use Rattle.server_model.specs.Outcomes.{Silent, Says, Stopped}
+use Rattle.server_model.specs.meaning.Outcomes.{Silent, Says, Stopped}
 use Rattle.server_model.specs.Runs.{Happened, Served, Asked}
 use Rattle.server_model.specs.ServiceCalls.{CameFrom, IsOf}
 use Rattle.world_model.specs.records.Basic.{sessions_of, is_made, are_made, living_now, sessions_differ as sessions_differ_in}
 use Rattle.world_model.specs.Coupled.{entries_in, living_of}
-use Rattle.world_model.specs.Links.{Link, link_at}
-use Rattle.world_model.specs.Machines.{next_session}
+use Rattle.world_model.specs.meaning.Links.{Link, link_at}
+use Rattle.world_model.specs.meaning.Machines.{next_session}
 use Rattle.world_model.specs.Parts.{implies}
 use Rattle.world_model.specs.Sames.{all_with, each_pair}
 use Rattle.world_model.specs.Traced.{Traced}

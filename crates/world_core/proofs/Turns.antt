@@ -2,7 +2,7 @@
 use Rattle.std.proofs.Common.{◌≡◌, ℕ, Bool, true, false, List, Option, Some, None, refl, ap, subst, ◌∙◌}
 use Rattle.std.specs.Prelude.{is_some, option_and_then}
 use Rattle.svc_values.specs.declared.frame.Down.{Down}
-use Rattle.request_bounds.specs.Rules.{Rules}
+use Rattle.request_bounds.specs.meaning.Rules.{Rules}
 use Rattle.outage_schedule.specs.declared.document.Request.{Request}
 use Rattle.client_model.specs.declared.act.Hold.{Hold}
 use Rattle.client_model.specs.declared.act.Hold.TheVariants.{Keep, GiveBack, Drop}
@@ -10,11 +10,11 @@ use Rattle.client_model.specs.declared.input.Input.{Input}
 use Rattle.client_model.specs.declared.input.Input.TheVariants.{Took}
 use Rattle.client_model.specs.declared.input.Wants.TheVariants as wants
 use Rattle.client_model.specs.Conversation.{is_gone_next}
-use Rattle.world_model.specs.Acting.{act_at, steps, loses}
-use Rattle.world_model.specs.Clients.{Doing, Client, client_at, doing_at, heard, after_hold}
-use Rattle.world_model.specs.Going.{lost_at_once}
-use Rattle.world_model.specs.Machines.{Machine}
-use Rattle.world_model.specs.Settings.{Setting}
+use Rattle.world_model.specs.meaning.Acting.{act_at, steps, loses}
+use Rattle.world_model.specs.meaning.Clients.{Doing, Client, client_at, doing_at, heard, after_hold}
+use Rattle.world_model.specs.meaning.Going.{lost_at_once}
+use Rattle.world_model.specs.meaning.Machines.{Machine}
+use Rattle.world_model.specs.meaning.Settings.{Setting}
 use Rattle.world_model.proofs.Offered.{awaits_after}
 use Rattle.world_core.specs.declared.client.Course.{Course}
 use Rattle.world_core.specs.declared.traffic.Traffic.{Traffic}

@@ -2,19 +2,19 @@
 use Rattle.std.proofs.Common.{◌≡◌, ◌≤◌, ℕ, zero, suc, ◌+◌, ◌<◌, Bool, true, false, List, [], ◌∷◌, Option, Some, None, length, length-set, get_or, drop, map, fold, refl, sym, ap, ◌∙◌, subst, eq-eqb, arith}
 use Rattle.std.specs.Prelude.{is_some, if◌then◌else◌}
 use Rattle.std.specs.Option.{option_map_or}
-use Rattle.svc_values.specs.Same.{same_bool}
+use Rattle.svc_values.specs.meaning.Same.{same_bool}
 use Rattle.svc_values.specs.declared.frame.Up.{Up}
 use Rattle.client_model.specs.declared.input.Input.TheVariants.{Took}
-use Rattle.world_model.specs.Serving.{Front}
+use Rattle.world_model.specs.meaning.Serving.{Front}
 use Rattle.svc_values.specs.declared.frame.Down.{Down}
-use Rattle.pool_core.specs.Slots.{Slots, after_gone}
+use Rattle.pool_core.specs.meaning.Slots.{Slots, after_gone}
 use Rattle.outage_schedule.specs.declared.note.Reached.{Reached}
-use Rattle.world_model.specs.Frames.{Reply}
-use Rattle.world_model.specs.Links.{Link, link_at, with_link, changed, takes, open_from}
-use Rattle.world_model.specs.Machines.{Machine}
-use Rattle.world_model.specs.Noting.{same_reached}
-use Rattle.world_model.specs.Cutting.{reached_of, cut_link, after_cut, open_at, follow_cut, has_orphan, reaped_link, follow_reap}
-use Rattle.world_model.specs.Crashing.{fallen_link}
+use Rattle.world_model.specs.meaning.Frames.{Reply}
+use Rattle.world_model.specs.meaning.Links.{Link, link_at, with_link, changed, takes, open_from}
+use Rattle.world_model.specs.meaning.Machines.{Machine}
+use Rattle.world_model.specs.meaning.Noting.{same_reached}
+use Rattle.world_model.specs.meaning.Cutting.{reached_of, cut_link, after_cut, open_at, follow_cut, has_orphan, reaped_link, follow_reap}
+use Rattle.world_model.specs.meaning.Crashing.{fallen_link}
 use Rattle.world_core.specs.declared.connection.Connection.{Connection}
 use Rattle.world_core.specs.declared.connections.Connections.{Connections}
 use Rattle.world_core.specs.declared.traffic.Traffic.{Traffic}

@@ -7,22 +7,22 @@ use Rattle.std.proofs.lemmas.Bool.{and_parts, eqb-true}
 use Rattle.svc_values.specs.declared.entry.Ltxid.{Ltxid}
 use Rattle.pool_core.specs.declared.answers.Take.{Take}
 use Rattle.pool_core.specs.declared.answers.Take.TheVariants as take
-use Rattle.pool_core.specs.Slots.{take_answer, after_take, after_opened}
+use Rattle.pool_core.specs.meaning.Slots.{take_answer, after_take, after_opened}
 use Rattle.client_model.specs.declared.input.Input.{Input}
 use Rattle.client_model.specs.declared.input.Input.TheVariants.{Waiting, Lent, Opened, TryFailed, Took, Gone}
 use Rattle.client_model.specs.declared.input.Wants.{Wants}
 use Rattle.client_model.specs.declared.input.Wants.TheVariants as wants
-use Rattle.client_model.specs.Talk.{wants_of}
+use Rattle.client_model.specs.meaning.Talk.{wants_of}
 use Rattle.outage_schedule.specs.declared.note.GoNote.{GoNote}
 use Rattle.outage_schedule.specs.declared.note.GoNote.TheVariants as go
-use Rattle.world_model.specs.Acting.{act_at, call_in, connection_of, frames_of, loses, owner_at, sent_by, steps}
-use Rattle.world_model.specs.Clients.{Client, Doing, client_at, doing_at, doing_of, heard}
-use Rattle.world_model.specs.Frames.{Reply, Sent}
-use Rattle.world_model.specs.Going.{finds_none, follow_go, goes, goes_by, lends, looks, looks_at, lost_at_once, noted, takes_reply, takes_slot, tries_while, unless_open}
-use Rattle.world_model.specs.Links.{Link, new_link, link_at, with_link, changed, ends, sends, takes, is_close}
-use Rattle.world_model.specs.Machines.{Machine}
-use Rattle.world_model.specs.Noting.{only_if, same_did}
-use Rattle.world_model.specs.Settings.{Setting}
+use Rattle.world_model.specs.meaning.Acting.{act_at, call_in, connection_of, frames_of, loses, owner_at, sent_by, steps}
+use Rattle.world_model.specs.meaning.Clients.{Client, Doing, client_at, doing_at, doing_of, heard}
+use Rattle.world_model.specs.meaning.Frames.{Reply, Sent}
+use Rattle.world_model.specs.meaning.Going.{finds_none, follow_go, goes, goes_by, lends, looks, looks_at, lost_at_once, noted, takes_reply, takes_slot, tries_while, unless_open}
+use Rattle.world_model.specs.meaning.Links.{Link, new_link, link_at, with_link, changed, ends, sends, takes, is_close}
+use Rattle.world_model.specs.meaning.Machines.{Machine}
+use Rattle.world_model.specs.meaning.Noting.{only_if, same_did}
+use Rattle.world_model.specs.meaning.Settings.{Setting}
 use Rattle.world_core.specs.Beside.{opened_in}
 use Rattle.world_core.proofs.Coupling.{view, views, view_with}
 

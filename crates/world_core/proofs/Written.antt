@@ -9,25 +9,25 @@ use Rattle.svc_values.specs.declared.entry.SessionId.{SessionId}
 use Rattle.svc_values.specs.declared.frame.Up.{Up}
 use Rattle.svc_values.specs.declared.frame.Up.TheVariants as up
 use Rattle.svc_values.specs.declared.frame.Down.{Down}
-use Rattle.svc_values.specs.Identifiers.{same_session}
+use Rattle.svc_values.specs.meaning.Identifiers.{same_session}
 use Rattle.svc_values.specs.Laws.{AreExact}
-use Rattle.svc_values.specs.Same.{same_bool, same_value, same_call}
-use Rattle.svc_values.specs.SettingsList.{same_settings}
+use Rattle.svc_values.specs.meaning.Same.{same_bool, same_value, same_call}
+use Rattle.svc_values.specs.meaning.SettingsList.{same_settings}
 use Rattle.outage_schedule.specs.declared.item.Item.{Item}
 use Rattle.outage_schedule.specs.declared.item.Item.TheVariants as item
 use Rattle.outage_schedule.specs.declared.note.AskResult.{AskResult}
 use Rattle.outage_schedule.specs.declared.note.AskResult.TheVariants as told
-use Rattle.server_model.specs.Outcomes.{telling_of}
+use Rattle.server_model.specs.meaning.Outcomes.{telling_of}
 use Rattle.server_model.specs.Sessions.{Life}
 use Rattle.server_model.specs.ToldRight.{life_after, life_behind}
 use Rattle.server_model.specs.Seen.{Connections, with_connection, without_connection}
 use Rattle.server_model.specs.ServiceCalls.{living_after, is_up_after}
 use Rattle.world_model.specs.records.Hold.{is_connect}
-use Rattle.world_model.specs.Links.{Link}
-use Rattle.world_model.specs.Machines.{Server, next_session}
-use Rattle.world_model.specs.Noting.{name_of, same_name}
-use Rattle.world_model.specs.ServiceDid.{item_telling}
-use Rattle.world_model.specs.Serving.{is_item_of, is_served_by, reply_of, is_commit, is_last, server_after}
+use Rattle.world_model.specs.meaning.Links.{Link}
+use Rattle.world_model.specs.meaning.Machines.{Server, next_session}
+use Rattle.world_model.specs.meaning.Noting.{name_of, same_name}
+use Rattle.world_model.specs.meaning.ServiceDid.{item_telling}
+use Rattle.world_model.specs.meaning.Serving.{is_item_of, is_served_by, reply_of, is_commit, is_last, server_after}
 use Rattle.world_core.specs.Answering.{session_served, served_item}
 use Rattle.world_core.proofs.InOrder.{Answers, Connects, Begins, Replies, Blocks, Tells, Ends, Closes, commits_in}
 

@@ -5,7 +5,7 @@ use Rattle.svc_values.specs.Calls.{IsMade}
 use Rattle.svc_values.specs.Identifiers.{IsLtxid}
 use Rattle.outage_schedule.specs.declared.event.Event.{Event}
 use Rattle.outage_schedule.specs.declared.event.Event.TheVariants as event
-use Rattle.server_model.specs.ServiceCalls.{is_failover}
+use Rattle.server_model.specs.meaning.ServiceCalls.{is_failover}
 
 -- one of a document with so many clients, over one store
 abbrev pub IsAllowed : ℕ → Event → Type 0

@@ -1,8 +1,8 @@
 -- All clients of a run, each beside the machine's of its number.
 use Rattle.std.specs.Prelude.{◌≡◌, ℕ, suc, false, List, [], length, map, slice_get, Some, None}
 use Rattle.std.specs.List.{AllByRecursion}
-use Rattle.client_model.specs.Terms.{Terms}
-use Rattle.request_bounds.specs.Rules.{Rules}
+use Rattle.client_model.specs.meaning.Terms.{Terms}
+use Rattle.request_bounds.specs.meaning.Rules.{Rules}
 use Rattle.outage_schedule.specs.declared.document.Client.{Client as Script}
 use Rattle.outage_schedule.specs.declared.document.Document.{Document}
 use Rattle.outage_schedule.specs.declared.document.Request.{Request}
@@ -11,12 +11,12 @@ use Rattle.outage_schedule.specs.declared.event.Event.TheVariants as event
 use Rattle.outage_schedule.specs.declared.item.Served.{Served}
 use Rattle.outage_schedule.specs.declared.note.Note.{Note}
 use Rattle.server_model.specs.Seen.{Seen}
-use Rattle.world_model.specs.Clients.{Client, client_at, script_at}
+use Rattle.world_model.specs.meaning.Clients.{Client, client_at, script_at}
 use Rattle.world_model.specs.Forgets.{Forgets}
 use Rattle.world_model.specs.Matching.{is_go}
 use Rattle.world_model.specs.OneEvent.{OneEvent}
 use Rattle.world_model.specs.Reached.{traced_start}
-use Rattle.world_model.specs.Settings.{terms_of}
+use Rattle.world_model.specs.meaning.Settings.{terms_of}
 use Rattle.world_model.specs.Traced.{Traced}
 use Rattle.world_core.specs.declared.traffic.Traffic.{Traffic}
 use Rattle.world_core.specs.Coursing.{Held, IsFit}

@@ -8,7 +8,7 @@ use Rattle.svc_values.specs.declared.frame.Up.TheVariants as up
 use Rattle.svc_values.specs.declared.frame.Down.{Down}
 use Rattle.svc_values.specs.declared.frame.Down.TheVariants as down
 use Rattle.svc_values.specs.declared.frame.Ahead.TheVariants as ahead
-use Rattle.svc_values.specs.Identifiers.{session_of}
+use Rattle.svc_values.specs.meaning.Identifiers.{session_of}
 use Rattle.ltxid_book.specs.declared.verdict.Verdict.{Verdict}
 use Rattle.ltxid_book.specs.declared.verdict.Verdict.TheVariants as verdict
 use Rattle.outage_schedule.specs.declared.note.AskResult.{AskResult}

@@ -3,22 +3,23 @@ use Rattle.std.specs.Prelude.{◌≡◌, ◌≤◌, ℕ, Bool, true, false, List
 use Rattle.std.specs.List.{AllByRecursion}
 use Rattle.svc_values.specs.Calls.{IsMade}
 use Rattle.svc_values.specs.declared.frame.Up.{Up}
-use Rattle.request_bounds.specs.Rules.{Rules}
+use Rattle.request_bounds.specs.meaning.Rules.{Rules}
 use Rattle.outage_schedule.specs.declared.document.Request.{Request}
 use Rattle.outage_schedule.specs.declared.request.RequestReport.{RequestReport}
 use Rattle.client_model.specs.declared.act.Hold.{Hold}
 use Rattle.client_model.specs.declared.act.Hold.TheVariants.{Keep}
 use Rattle.client_model.specs.declared.input.Input.{Input}
-use Rattle.client_model.specs.Conversation.{Done, is_gone_next}
-use Rattle.client_model.specs.Talk.{Step, talk_step}
-use Rattle.client_model.specs.Terms.{Terms, Talk, Idle}
+use Rattle.client_model.specs.meaning.Conversation.{Done}
+use Rattle.client_model.specs.Conversation.{is_gone_next}
+use Rattle.client_model.specs.meaning.Talk.{Step, talk_step}
+use Rattle.client_model.specs.meaning.Terms.{Terms, Talk, Idle}
 use Rattle.driver_core.specs.Driving.{Driving, terms_of, ArePast}
-use Rattle.run_clauses.specs.Copies.{next_of}
+use Rattle.run_clauses.specs.meaning.Copies.{next_of}
 use Rattle.transcript_core.specs.declared.next_request.NextRequest.{NextRequest}
 use Rattle.transcript_core.specs.Drafts.{IsDraft}
 use Rattle.transcript_core.specs.Following.{IsNext}
-use Rattle.world_model.specs.Clients.{Doing, Client, reports_of, script_at, step_at, heard, after_hold}
-use Rattle.world_model.specs.Settings.{Setting}
+use Rattle.world_model.specs.meaning.Clients.{Doing, Client, reports_of, script_at, step_at, heard, after_hold}
+use Rattle.world_model.specs.meaning.Settings.{Setting}
 use Rattle.world_core.specs.declared.client.Course.{Course}
 
 -- A client as it is held: its driver, the request that comes next, the one in course, and the reports of those that are over.

@@ -3,7 +3,7 @@ use Rattle.std.specs.Option.{option_map_or}
 use Rattle.std.specs.Prelude.{◌≡◌, ◌+◌, ◌==◌, ◌≤◌, ◌<◌, ◌^◌, ℕ, max, if◌then◌else◌, Bool, true, false, List, [], ◌∷◌, ◌++◌, length, map, drop, Option, Some, None}
 use Rattle.outage_schedule.specs.declared.note.Note.{Note}
 use Rattle.outage_schedule.specs.declared.note.Note.TheVariants as note
-use Rattle.run_clauses.specs.Horizons.{Ended, Openings, wanted_horizon}
+use Rattle.run_clauses.specs.meaning.Horizons.{Ended, Openings, wanted_horizon}
 use Rattle.world_core.specs.declared.openings.Ended.{Ended as EndedAt}
 
 pub record Held : Type 0 where

@@ -8,15 +8,17 @@ use Rattle.svc_values.specs.declared.entry.Ltxid.{Ltxid}
 use Rattle.svc_values.specs.Identifiers.{IsLtxid}
 use Rattle.svc_values.specs.declared.frame.Up.{Up}
 use Rattle.svc_values.specs.declared.frame.Down.{Down}
-use Rattle.canon_bytes.specs.UpBytes.{spell_up, FitsUp, IsMadeUp}
-use Rattle.canon_bytes.specs.DownBytes.{spell_down, FitsDown, IsMadeDown}
+use Rattle.canon_bytes.specs.meaning.UpBytes.{spell_up}
+use Rattle.canon_bytes.specs.UpBytes.{FitsUp, IsMadeUp}
+use Rattle.canon_bytes.specs.meaning.DownBytes.{spell_down}
+use Rattle.canon_bytes.specs.DownBytes.{FitsDown, IsMadeDown}
 use Rattle.client_model.specs.declared.input.Input.TheVariants.{Took}
 use Rattle.frame_wire.specs.Stream.{first_payload}
-use Rattle.world_model.specs.Frames.{Sent, Reply}
+use Rattle.world_model.specs.meaning.Frames.{Sent, Reply}
 use Rattle.outage_schedule.specs.declared.note.Reached.{Reached}
-use Rattle.world_model.specs.Links.{Link, link_at, with_link, told_by, takes}
-use Rattle.world_model.specs.Serving.{Front}
-use Rattle.world_model.specs.Cutting.{reached_of, cut_link}
+use Rattle.world_model.specs.meaning.Links.{Link, link_at, with_link, told_by, takes}
+use Rattle.world_model.specs.meaning.Serving.{Front}
+use Rattle.world_model.specs.meaning.Cutting.{reached_of, cut_link}
 use Rattle.world_core.specs.declared.connection.Connection.{Connection}
 use Rattle.world_core.specs.declared.connections.Connections.{Connections}
 use Rattle.world_core.specs.Carrying.{Carries}

@@ -2,22 +2,22 @@
 use Rattle.std.specs.Prelude.{◌≡◌, ◌<◌, ◌≤◌, ◌+◌, ℕ, Bool, true, false, IsTrue, List, length, Option, Some, None, unwrap_or}
 use Rattle.std.specs.Option.{option_map_or}
 use Rattle.svc_values.specs.declared.entry.Ltxid.{Ltxid}
-use Rattle.pool_core.specs.Slots.{is_among}
-use Rattle.request_bounds.specs.Rules.{Rules}
+use Rattle.pool_core.specs.meaning.Slots.{is_among}
+use Rattle.request_bounds.specs.meaning.Rules.{Rules}
 use Rattle.outage_schedule.specs.declared.document.Request.{Request}
 use Rattle.client_model.specs.declared.input.Input.{Input}
 use Rattle.client_model.specs.declared.input.Wants.{Wants}
 use Rattle.client_model.specs.declared.input.Wants.TheVariants as wants
 use Rattle.client_model.specs.declared.input.Input.TheVariants.{TryFailed}
 use Rattle.client_model.specs.Conversation.{is_wanted, is_gone_next}
-use Rattle.client_model.specs.Talk.{wants_of}
-use Rattle.client_model.specs.Terms.{Phase, Idle, Unbegun}
-use Rattle.world_model.specs.Acting.{act_at, connection_of, frames_of, steps}
-use Rattle.world_model.specs.Clients.{Doing, Client, client_at, script_at, doing_of, heard, after_hold}
+use Rattle.client_model.specs.meaning.Talk.{wants_of}
+use Rattle.client_model.specs.meaning.Terms.{Phase, Idle, Unbegun}
+use Rattle.world_model.specs.meaning.Acting.{act_at, connection_of, frames_of, steps}
+use Rattle.world_model.specs.meaning.Clients.{Doing, Client, client_at, script_at, doing_of, heard, after_hold}
 use Rattle.world_model.specs.Orderly.{Orderly}
-use Rattle.world_model.specs.Links.{Link, link_at}
-use Rattle.world_model.specs.Machines.{Machine}
-use Rattle.world_model.specs.Settings.{Setting}
+use Rattle.world_model.specs.meaning.Links.{Link, link_at}
+use Rattle.world_model.specs.meaning.Machines.{Machine}
+use Rattle.world_model.specs.meaning.Settings.{Setting}
 use Rattle.world_model.specs.Traced.{Traced}
 use Rattle.world_core.specs.declared.client.Course.{Course}
 use Rattle.world_core.specs.declared.traffic.Traffic.{Traffic}

@@ -2,17 +2,17 @@
 use Rattle.std.specs.Prelude.{◌≡◌, ◌⊎◌, ◌||◌, ◌+◌, ◌<◌, ◌≤◌, ℕ, true, false, List, [], ◌++◌, Some}
 use Rattle.svc_values.specs.declared.entry.Ltxid.{Ltxid}
 use Rattle.svc_values.specs.declared.entry.SessionId.{SessionId}
-use Rattle.ltxid_book.specs.Journal.{is_blocked}
+use Rattle.ltxid_book.specs.meaning.Journal.{is_blocked}
 use Rattle.outage_schedule.specs.declared.item.Served.{Served}
 use Rattle.server_model.specs.Laws.{stops_last}
 use Rattle.server_model.specs.Seen.{Store, ServiceState, Seen}
 use Rattle.server_model.specs.ServiceCalls.{with_stop, Gains, Opened, StoppedOpening}
 use Rattle.world_model.specs.CrashCount.{StoppedAt}
-use Rattle.world_model.specs.Crashing.{serves_last}
-use Rattle.world_model.specs.Machines.{Server, Machine}
+use Rattle.world_model.specs.meaning.Crashing.{serves_last}
+use Rattle.world_model.specs.meaning.Machines.{Server, Machine}
 use Rattle.world_model.specs.ServiceDid.{front_served}
 use Rattle.world_model.specs.Coupled.{life_by}
-use Rattle.world_model.specs.Serving.{front_at}
+use Rattle.world_model.specs.meaning.Serving.{front_at}
 use Rattle.world_model.specs.ToldByStore.{AreByStore}
 use Rattle.world_model.specs.Traced.{Traced}
 use Rattle.world_core.specs.declared.traffic.Traffic.{Traffic}

@@ -1,7 +1,7 @@
 //! What is written down of a frame that was served.
 ghost use Rattle.std.specs.Prelude.{◌≡◌, IfOk};
-ghost use Rattle.world_model.specs.Noting.{name_of};
-ghost use Rattle.world_model.specs.Serving.{is_blocked as is_blocked_def, is_last as is_last_def};
+ghost use Rattle.world_model.specs.meaning.Noting.{name_of};
+ghost use Rattle.world_model.specs.meaning.Serving.{is_blocked as is_blocked_def, is_last as is_last_def};
 ghost use Rattle.world_core.specs.Answering.{session_served as session_served_def, session_named as session_named_def, result_told as result_told_def, call_item as call_item_def, ordinary_item as ordinary_item_def, served_item as served_item_def, result_of as result_of_def, crashed_item as crashed_item_def};
 
 use ltxid_book::Verdict;

@@ -3,12 +3,12 @@ ghost use Rattle.std.specs.Prelude.{◌≡◌, ℕ, Bool, [], ◌∷◌, ◌++�
 ghost use Rattle.std.specs.List.{AllByRecursion};
 ghost use Rattle.canon_bytes.specs.UpBytes.{IsMadeUp};
 ghost use Rattle.client_model.specs.Conversation.{may_come, is_gone_next};
-ghost use Rattle.client_model.specs.Talk.{wants_of, talk_step};
-ghost use Rattle.client_model.specs.Terms.{Terms, Idle, requested};
+ghost use Rattle.client_model.specs.meaning.Talk.{wants_of, talk_step};
+ghost use Rattle.client_model.specs.meaning.Terms.{Terms, Idle, requested};
 ghost use Rattle.driver_core.specs.Driving.{terms_of, ArePast, HasLtxids};
 ghost use Rattle.transcript_core.specs.Drafts.{IsDraft};
-ghost use Rattle.world_model.specs.Clients.{Doing, Client as Standing, is_unfinished as is_unfinished_def, doing_of, resting, past_of, script_at, after_hold};
-ghost use Rattle.world_model.specs.Settings.{Setting};
+ghost use Rattle.world_model.specs.meaning.Clients.{Doing, Client as Standing, is_unfinished as is_unfinished_def, doing_of, resting, past_of, script_at, after_hold};
+ghost use Rattle.world_model.specs.meaning.Settings.{Setting};
 ghost use Rattle.world_core.specs.Stepping.{connection_in};
 ghost use Rattle.world_core.specs.Coursing.{terms_in, step_of, IsFit, done_of, Begins, with_connection, IsCourse, IsBeside, IsClient, IsSettled, Closes, Hears};
 

@@ -3,16 +3,17 @@ ghost use Rattle.std.specs.Prelude.{◌≡◌, ◌⊎◌, List, [], OnOk, IfOk, 
 ghost use Rattle.std.specs.Option.{option_or};
 ghost use Rattle.outage_schedule.specs.declared.item.Served.{Served};
 ghost use Rattle.std.specs.List.{list_any, AllByRecursion};
-ghost use Rattle.canon_bytes.specs.UpBytes.{spell_up, FitsUp, IsMadeUp};
+ghost use Rattle.canon_bytes.specs.meaning.UpBytes.{spell_up};
+ghost use Rattle.canon_bytes.specs.UpBytes.{FitsUp, IsMadeUp};
 ghost use Rattle.canon_bytes.specs.DownBytes.{IsMadeDown};
 ghost use Rattle.frame_wire.specs.Stream.{with_bytes};
 ghost use Rattle.frame_wire.specs.Steps.{stream, AreFrames};
-ghost use Rattle.pool_core.specs.Slots.{after_gone};
-ghost use Rattle.world_model.specs.Frames.{Sent};
-ghost use Rattle.world_model.specs.Links.{Link, new_link, ends, is_close as is_close_def, is_orphan as is_orphan_def, sends};
-ghost use Rattle.world_model.specs.Serving.{Front, is_last as is_last_def, front_of, after_front};
-ghost use Rattle.world_model.specs.Cutting.{reached_of, cut_link, reaped_link};
-ghost use Rattle.world_model.specs.Crashing.{fallen_link};
+ghost use Rattle.pool_core.specs.meaning.Slots.{after_gone};
+ghost use Rattle.world_model.specs.meaning.Frames.{Sent};
+ghost use Rattle.world_model.specs.meaning.Links.{Link, new_link, ends, is_close as is_close_def, is_orphan as is_orphan_def, sends};
+ghost use Rattle.world_model.specs.meaning.Serving.{Front, is_last as is_last_def, front_of, after_front};
+ghost use Rattle.world_model.specs.meaning.Cutting.{reached_of, cut_link, reaped_link};
+ghost use Rattle.world_model.specs.meaning.Crashing.{fallen_link};
 ghost use Rattle.world_core.specs.CutBytes.{KeepsFirst};
 ghost use Rattle.world_core.specs.Linked.{up_frames, told_by_frame, lives_on, may_be_served, IsLink, IsSomeLink, GivesFront, GivesReply};
 

@@ -3,10 +3,10 @@ ghost use Rattle.std.specs.Prelude.{◌≡◌, ◌<◌, ◌^◌, [], IfOk, OnOk,
 ghost use Rattle.server_model.specs.Seen.{Seen};
 ghost use Rattle.server_model.specs.ServiceCalls.{MayForget};
 ghost use Rattle.service_calls.specs.Kept.{HaveOneBase};
-ghost use Rattle.world_model.specs.Finishing.{first_behind};
-ghost use Rattle.world_model.specs.Links.{is_orphan};
-ghost use Rattle.world_model.specs.Machines.{Machine};
-ghost use Rattle.world_model.specs.Serving.{front_of};
+ghost use Rattle.world_model.specs.meaning.Finishing.{first_behind};
+ghost use Rattle.world_model.specs.meaning.Links.{is_orphan};
+ghost use Rattle.world_model.specs.meaning.Machines.{Machine};
+ghost use Rattle.world_model.specs.meaning.Serving.{front_of};
 ghost use Rattle.world_model.specs.Traced.{Traced};
 ghost use Rattle.world_core.specs.Underway.{IsUnderway};
 ghost use Rattle.world_core.specs.CutBytes.{CutsFirst};

@@ -1,7 +1,7 @@
 //! The openings of a run's store, and what each of them forgets.
 ghost use Rattle.std.specs.Prelude.{◌≡◌, ◌≤◌, ◌<◌, ◌^◌, ℕ, drop, max, OnOk};
 ghost use Rattle.std.specs.Option.{option_map_or};
-ghost use Rattle.run_clauses.specs.Horizons.{Openings as Told, first_opening, after_note, wanted_horizon};
+ghost use Rattle.run_clauses.specs.meaning.Horizons.{Openings as Told, first_opening, after_note, wanted_horizon};
 ghost use Rattle.world_core.specs.Forgetting.{Tracks, IsTracked, NotesOpening, FirstFits, MayTick, settled, passed_first, ticked, ends_unless};
 
 use outage_schedule::Note;

@@ -1,6 +1,7 @@
 //! Openings that are stopped.
 ghost use Rattle.std.specs.Prelude.{◌≡◌, ◌+◌, ◌<◌, ◌^◌, false, true, [], OnOk, IfOk};
-ghost use Rattle.server_model.specs.ServiceCalls.{MayForget, is_failover};
+ghost use Rattle.server_model.specs.meaning.ServiceCalls.{is_failover};
+ghost use Rattle.server_model.specs.ServiceCalls.{MayForget};
 ghost use Rattle.service_calls.specs.Kept.{Goes, HaveOneBase};
 ghost use Rattle.world_core.specs.Making.{MakesBelow, IsSomewhere};
 ghost use Rattle.world_core.specs.Stopping.{BegunOpening, IsSeen};

@@ -7,7 +7,7 @@ use Rattle.server_model.specs.Seen.{Seen}
 use Rattle.world_model.specs.Traced.{Traced}
 use Rattle.world_model.specs.Orderly.{Orderly}
 use Rattle.world_model.specs.OneEvent.{OneEvent}
-use Rattle.world_model.specs.Finishing.{Place, AtServer, next_finish}
+use Rattle.world_model.specs.meaning.Finishing.{Place, AtServer, next_finish}
 use Rattle.world_model.specs.Remaining.{remaining}
 
 abbrev pub is_at_server : Place → Bool

@@ -3,8 +3,8 @@ use Rattle.std.specs.Prelude.{◌≡◌, ◌⊎◌, ℕ, true, max, List, fold, 
 use Rattle.outage_schedule.specs.declared.document.Document.{Document}
 use Rattle.outage_schedule.specs.declared.note.Note.{Note}
 use Rattle.outage_schedule.specs.declared.note.Note.TheVariants as note
-use Rattle.run_clauses.specs.Before.{journal_before, was_opened}
-use Rattle.run_clauses.specs.Horizons.{Openings, first_opening, after_note, wanted_horizon}
+use Rattle.run_clauses.specs.meaning.Before.{journal_before, was_opened}
+use Rattle.run_clauses.specs.meaning.Horizons.{Openings, first_opening, after_note, wanted_horizon}
 use Rattle.server_model.specs.Seen.{Store}
 
 -- An opening raises the horizon to the one that is wanted, where that is greater. One that was stopped did so, or left it as it was; every

@@ -11,9 +11,9 @@ use Rattle.outage_schedule.specs.declared.item.Served.{Served}
 use Rattle.server_model.specs.Runs.{Happened}
 use Rattle.server_model.specs.Seen.{Seen}
 use Rattle.server_model.specs.ServiceCalls.{CameFrom, WasAsked}
-use Rattle.world_model.specs.Machines.{next_session}
+use Rattle.world_model.specs.meaning.Machines.{next_session}
 use Rattle.world_model.specs.Traced.{Traced}
-use Rattle.world_model.specs.Walking.{follow}
+use Rattle.world_model.specs.meaning.Walking.{follow}
 use Rattle.world_model.specs.ServiceDid.{ServiceDid}
 use Rattle.world_model.specs.Coupled.{Coupled}
 use Rattle.world_model.specs.CrashCount.{CountsCrash}

@@ -9,15 +9,15 @@ use Rattle.svc_values.specs.declared.entry.Entry.{Entry}
 use Rattle.svc_values.specs.declared.frame.Up.{Up}
 use Rattle.svc_values.specs.declared.frame.Up.TheVariants as up
 use Rattle.svc_values.specs.declared.frame.Down.TheVariants as down
-use Rattle.svc_values.specs.Calls.{has_commit}
-use Rattle.svc_values.specs.Identifiers.{same_ltxid}
+use Rattle.svc_values.specs.meaning.Calls.{has_commit}
+use Rattle.svc_values.specs.meaning.Identifiers.{same_ltxid}
 use Rattle.client_model.specs.declared.input.Input.{Input}
 use Rattle.client_model.specs.declared.input.Input.TheVariants.{Took}
 use Rattle.client_model.specs.declared.act.Shown.{Shown}
-use Rattle.run_clauses.specs.EntryEvents.{entries_of}
-use Rattle.world_model.specs.Frames.{Owner, Sent, Handled}
-use Rattle.world_model.specs.Links.{Link, is_close, told_by}
-use Rattle.world_model.specs.Clients.{Step}
+use Rattle.run_clauses.specs.meaning.EntryEvents.{entries_of}
+use Rattle.world_model.specs.meaning.Frames.{Owner, Sent, Handled}
+use Rattle.world_model.specs.meaning.Links.{Link, is_close, told_by}
+use Rattle.world_model.specs.meaning.Clients.{Step}
 use Rattle.world_model.specs.Words.{brought}
 use Rattle.world_model.specs.Traced.{Traced, Course}
 

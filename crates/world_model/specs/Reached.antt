@@ -5,16 +5,16 @@ use Rattle.outage_schedule.specs.declared.event.Event.{Event}
 use Rattle.outage_schedule.specs.declared.note.Note.{Note}
 use Rattle.outage_schedule.specs.declared.item.Served.{Served}
 use Rattle.commit_log.specs.declared.journal.Journal.{Journal}
-use Rattle.run_clauses.specs.Before.{journal_before}
-use Rattle.run_clauses.specs.ServiceBase.{service_base}
+use Rattle.run_clauses.specs.meaning.Before.{journal_before}
+use Rattle.run_clauses.specs.meaning.ServiceBase.{service_base}
 use Rattle.server_model.specs.Seen.{Seen}
-use Rattle.world_model.specs.Settings.{setting_of}
-use Rattle.world_model.specs.Machines.{start_of}
+use Rattle.world_model.specs.meaning.Settings.{setting_of}
+use Rattle.world_model.specs.meaning.Machines.{start_of}
 use Rattle.world_model.specs.Traced.{Traced}
 use Rattle.world_model.specs.Coupled.{Coupled}
 use Rattle.world_model.specs.Forgets.{Forgets, wanted_behind}
 use Rattle.world_model.specs.OneEvent.{OneEvent}
-use Rattle.world_model.specs.Finishing.{Place, AtServer, next_finish}
+use Rattle.world_model.specs.meaning.Finishing.{Place, AtServer, next_finish}
 
 -- behind the opening before event 1
 abbrev pub traced_start : Document → Traced

@@ -2,15 +2,15 @@
 use Rattle.std.specs.Prelude.{ℕ, ◌+◌, ◌-◌, ◌*◌, ◌&&◌, ◌||◌, Bool, true, false, not, nat_le, List, [], ◌∷◌, length, Option, Some, None, is_some, option_and_then, if◌then◌else◌}
 use Rattle.std.specs.List.{list_any}
 use Rattle.std.specs.Option.{option_map_or}
-use Rattle.client_model.specs.Terms.{Terms}
+use Rattle.client_model.specs.meaning.Terms.{Terms}
 use Rattle.outage_schedule.specs.declared.document.Request.{Request}
-use Rattle.run_clauses.specs.Copies.{Copies, is_over, copies_of}
-use Rattle.world_model.specs.Settings.{Setting}
-use Rattle.world_model.specs.Links.{Link, link_at, is_orphan}
-use Rattle.world_model.specs.Clients.{Doing, Past, Client, reports_of, script_at, is_unfinished}
-use Rattle.world_model.specs.Machines.{Machine}
-use Rattle.world_model.specs.Serving.{front_at}
-use Rattle.world_model.specs.Finishing.{Place, AtClients, AtLinks}
+use Rattle.run_clauses.specs.meaning.Copies.{Copies, is_over, copies_of}
+use Rattle.world_model.specs.meaning.Settings.{Setting}
+use Rattle.world_model.specs.meaning.Links.{Link, link_at, is_orphan}
+use Rattle.world_model.specs.meaning.Clients.{Doing, Past, Client, reports_of, script_at, is_unfinished}
+use Rattle.world_model.specs.meaning.Machines.{Machine}
+use Rattle.world_model.specs.meaning.Serving.{front_at}
+use Rattle.world_model.specs.meaning.Finishing.{Place, AtClients, AtLinks}
 use Rattle.world_model.specs.RoundsLeft.{attempt, awaits_tick, talk_rounds}
 
 -- one, where it is so

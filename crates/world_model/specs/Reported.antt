@@ -2,11 +2,11 @@
 use Rattle.std.specs.Prelude.{◌≡◌, ◌++◌}
 use Rattle.outage_schedule.specs.declared.document.Document.{Document}
 use Rattle.outage_schedule.specs.declared.report.Report.{Report}
-use Rattle.run_clauses.specs.Before.{journal_before}
-use Rattle.run_clauses.specs.ServiceBase.{service_base}
+use Rattle.run_clauses.specs.meaning.Before.{journal_before}
+use Rattle.run_clauses.specs.meaning.ServiceBase.{service_base}
 use Rattle.server_model.specs.Runs.{Server, Runs}
 use Rattle.server_model.specs.Seen.{Seen}
-use Rattle.world_model.specs.Followed.{transcripts_of}
+use Rattle.world_model.specs.meaning.Followed.{transcripts_of}
 use Rattle.world_model.specs.Reached.{IsRun}
 use Rattle.world_model.specs.Traced.{Traced}
 

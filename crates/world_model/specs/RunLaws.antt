@@ -6,7 +6,7 @@ use Rattle.outage_schedule.specs.declared.item.Served.{Served}
 use Rattle.outage_schedule.specs.declared.note.Note.{Note}
 use Rattle.outage_schedule.specs.declared.report.Report.{Report}
 use Rattle.server_model.specs.Seen.{Seen}
-use Rattle.world_model.specs.Followed.{transcripts_of, followed}
+use Rattle.world_model.specs.meaning.Followed.{transcripts_of, followed}
 use Rattle.world_model.specs.Orderly.{Orderly}
 use Rattle.world_model.specs.Reached.{Reached, IsRun}
 use Rattle.world_model.specs.records.Ready.{all_requests_right}

@@ -6,10 +6,10 @@ use Rattle.svc_values.specs.declared.frame.Up.{Up}
 use Rattle.svc_values.specs.declared.frame.Up.TheVariants as up
 use Rattle.svc_values.specs.declared.frame.Down.{Down}
 use Rattle.svc_values.specs.declared.frame.Down.TheVariants as down
-use Rattle.svc_values.specs.SettingsList.{same_settings}
-use Rattle.svc_values.specs.Identifiers.{same_ltxid}
-use Rattle.svc_values.specs.Same.{same_answers, same_bool, same_call, same_draws}
-use Rattle.world_model.specs.Frames.{Owner, Sent, Reply}
+use Rattle.svc_values.specs.meaning.SettingsList.{same_settings}
+use Rattle.svc_values.specs.meaning.Identifiers.{same_ltxid}
+use Rattle.svc_values.specs.meaning.Same.{same_answers, same_bool, same_call, same_draws}
+use Rattle.world_model.specs.meaning.Frames.{Owner, Sent, Reply}
 
 abbrev pub same_owner : Owner → Owner → Bool
 same_owner a b = (a.client == b.client) && (a.place == b.place)

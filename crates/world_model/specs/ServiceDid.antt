@@ -1,28 +1,18 @@
 -- What a service's history has of an event: the frames that were served then and the identifiers that were asked, in order.
+-- Here is what contracts and proofs say of it besides.
 use Rattle.std.specs.Prelude.{◌≡◌, ℕ, List, [], ◌∷◌, ◌++◌, Option, Some, if◌then◌else◌}
-use Rattle.svc_values.specs.declared.entry.SessionId.{SessionId}
 use Rattle.outage_schedule.specs.declared.event.Event.{Event}
 use Rattle.outage_schedule.specs.declared.event.Event.TheVariants as event
 use Rattle.outage_schedule.specs.declared.note.Note.{Note}
 use Rattle.outage_schedule.specs.declared.note.Note.TheVariants as note
-use Rattle.outage_schedule.specs.declared.item.Item.{Item}
-use Rattle.outage_schedule.specs.declared.item.Item.TheVariants as item
 use Rattle.outage_schedule.specs.declared.item.Served.{Served}
-use Rattle.server_model.specs.Outcomes.{Telling, Says, Stopped, telling_of}
+use Rattle.server_model.specs.meaning.Outcomes.{Says}
 use Rattle.server_model.specs.Runs.{Happened, Served as ServedFrame, Asked}
 use Rattle.server_model.specs.ServiceCalls.{RunsAre, begins_outside}
 use Rattle.service_calls.specs.Answers.{runs_of}
-use Rattle.world_model.specs.Machines.{Machine, next_session}
-use Rattle.world_model.specs.Serving.{Front, front_at, reply_of, outcome_frame, commits_after}
-
--- what is told of the frame of this item, by a session that has answered so many commits: nothing at a stop
-abbrev pub item_telling : SessionId → ℕ → Item → Telling
-item_telling session commits (item.CrashedCall marked call) = Stopped
-item_telling session commits (item.CrashedOutcome asked) = Stopped
-item_telling session commits one = telling_of (reply_of session commits one)
-
-abbrev pub front_telling : Front → Served → Telling
-front_telling front served = item_telling served.session (commits_after front.link served.item) served.item
+use Rattle.world_model.specs.meaning.Machines.{Machine, next_session}
+use Rattle.world_model.specs.meaning.Serving.{Front, front_at, outcome_frame}
+use Rattle.world_model.specs.meaning.ServiceDid.{front_telling}
 
 -- the frame that stands first is served, as the first item says
 abbrev pub front_served : ℕ → Option Front → List Served → List Happened

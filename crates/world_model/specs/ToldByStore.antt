@@ -1,7 +1,8 @@
 -- What is told of identifiers is told by the table on what a store says.
 use Rattle.std.specs.Prelude.{◌≡◌, List, [], ◌∷◌}
-use Rattle.ltxid_book.specs.Outcomes.{verdict_of}
-use Rattle.server_model.specs.Outcomes.{Says, down_of}
+use Rattle.ltxid_book.specs.meaning.Outcomes.{verdict_of}
+use Rattle.server_model.specs.meaning.Outcomes.{Says}
+use Rattle.server_model.specs.Outcomes.{down_of}
 use Rattle.server_model.specs.Runs.{Happened, Served as ServedFrame, Asked as WasAsked}
 use Rattle.server_model.specs.Seen.{Store, book_in}
 use Rattle.server_model.specs.ServiceCalls.{TellsByTable}

@@ -6,12 +6,12 @@ use Rattle.svc_values.specs.declared.entry.Entry.{Entry}
 use Rattle.svc_values.specs.declared.entry.SessionId.{SessionId}
 use Rattle.outage_schedule.specs.declared.document.Request.{Request}
 use Rattle.outage_schedule.specs.declared.request.RequestReport.{RequestReport}
-use Rattle.client_model.specs.Terms.{Phase, Idle}
-use Rattle.world_model.specs.Frames.{Owner}
-use Rattle.world_model.specs.Settings.{Setting}
-use Rattle.world_model.specs.Clients.{Step, Doing, Past, Client}
-use Rattle.run_clauses.specs.Reports.{report_of}
-use Rattle.world_model.specs.Machines.{Machine}
+use Rattle.client_model.specs.meaning.Terms.{Phase, Idle}
+use Rattle.world_model.specs.meaning.Frames.{Owner}
+use Rattle.world_model.specs.meaning.Settings.{Setting}
+use Rattle.world_model.specs.meaning.Clients.{Step, Doing, Past, Client}
+use Rattle.run_clauses.specs.meaning.Reports.{report_of}
+use Rattle.world_model.specs.meaning.Machines.{Machine}
 
 -- The machine; J, of which so many are the image's; B, the image's blocks included; the sessions of `outside`, and the values that these drew.
 pub record Traced : Type 0 where

@@ -1,8 +1,8 @@
 -- What a request that lost a connection is to ask for.
 use Rattle.std.specs.Prelude.{ℕ, Option, Some, None, option_map}
 use Rattle.svc_values.specs.declared.entry.Ltxid.{Ltxid}
-use Rattle.client_model.specs.States.{Losing}
-use Rattle.client_model.specs.Terms.{Phase, Seeking, Greeting, Asked}
+use Rattle.client_model.specs.meaning.States.{Losing}
+use Rattle.client_model.specs.meaning.Terms.{Phase, Seeking, Greeting, Asked}
 
 -- the identifier, and the event of its loss
 pub record Wanted : Type 0 where

@@ -1,22 +1,23 @@
 -- Where a run stands before its first event.
 use Rattle.std.proofs.Common.{◌≡◌, refl, sym, ap, subst, ◌∙◌, arith, ℕ, zero, suc, ◌+◌, ◌≤◌, ◌^◌, Bool, true, false, List, [], length, Option, Some, None}
 use Rattle.std.proofs.lemmas.Bool.{or_left}
-use Rattle.request_bounds.specs.Rules.{Rules}
-use Rattle.ltxid_book.specs.Journal.{is_blocked}
+use Rattle.request_bounds.specs.meaning.Rules.{Rules}
+use Rattle.ltxid_book.specs.meaning.Journal.{is_blocked}
 use Rattle.outage_schedule.specs.declared.document.Client.{Client as Script}
 use Rattle.outage_schedule.specs.declared.document.Document.{Document}
-use Rattle.run_clauses.specs.Before.{journal_before, was_opened}
-use Rattle.run_clauses.specs.Horizons.{ended_before}
-use Rattle.run_clauses.specs.ServiceBase.{service_base}
-use Rattle.server_model.specs.Base.{Base, IsSound}
+use Rattle.run_clauses.specs.meaning.Before.{journal_before, was_opened}
+use Rattle.run_clauses.specs.meaning.Horizons.{ended_before}
+use Rattle.run_clauses.specs.meaning.ServiceBase.{service_base}
+use Rattle.server_model.specs.meaning.Base.{Base}
+use Rattle.server_model.specs.Base.{IsSound}
 use Rattle.server_model.specs.Seen.{Store, Seen, IsHistory, IsNew}
 use Rattle.server_model.specs.ServiceCalls.{Opened, StoppedOpening}
 use Rattle.service_calls.specs.Kept.{Goes}
 use Rattle.world_model.specs.Coupled.{Coupled, living_of}
 use Rattle.world_model.specs.Forgets.{first_of}
 use Rattle.world_model.specs.Orderly.{Orderly}
-use Rattle.world_model.specs.Links.{Link, link_at}
-use Rattle.world_model.specs.Machines.{per_record_of, start_of}
+use Rattle.world_model.specs.meaning.Links.{Link, link_at}
+use Rattle.world_model.specs.meaning.Machines.{per_record_of, start_of}
 use Rattle.world_model.specs.Reached.{Reached, Begins, traced_start}
 use Rattle.world_core.specs.declared.traffic.Traffic.{Traffic}
 use Rattle.world_core.specs.Among.{StandEach}

@@ -1,17 +1,17 @@
 -- The finish of a run: event by event, and how it ends.
 use Rattle.std.proofs.Common.{◌≡◌, refl, sym, ap, subst, ◌∙◌, arith, ℕ, ◌+◌, ◌≤◌, ◌<◌, ◌^◌, List, [], ◌∷◌, ◌++◌, length, Some, None}
 use Rattle.std.proofs.lemmas.List.{length-append, length-map}
-use Rattle.request_bounds.specs.Rules.{Rules}
+use Rattle.request_bounds.specs.meaning.Rules.{Rules}
 use Rattle.outage_schedule.specs.declared.document.Client.{Client as Script}
 use Rattle.outage_schedule.specs.declared.document.Document.{Document}
 use Rattle.outage_schedule.specs.declared.document.Request.{Request}
 use Rattle.outage_schedule.specs.declared.event.Event.{Event}
 use Rattle.outage_schedule.specs.declared.item.Served.{Served}
 use Rattle.outage_schedule.specs.declared.note.Note.{Note}
-use Rattle.run_clauses.specs.Horizons.{Openings, wanted_horizon}
+use Rattle.run_clauses.specs.meaning.Horizons.{Openings, wanted_horizon}
 use Rattle.server_model.specs.Seen.{Seen}
 use Rattle.world_model.specs.FinishEnds.{CanFinish, FinishBegins, FinishFalls, FinishGoesOn}
-use Rattle.world_model.specs.Finishing.{Place, AtServer, next_finish}
+use Rattle.world_model.specs.meaning.Finishing.{Place, AtServer, next_finish}
 use Rattle.world_model.specs.Forgets.{Forgets, openings_of, first_of}
 use Rattle.world_model.specs.Reached.{IsFinishing, Finishes as FinishesBy}
 use Rattle.world_model.specs.Remaining.{remaining}

@@ -3,7 +3,7 @@ use Rattle.std.proofs.Common.{◌≡◌, refl, subst, arith, ℕ, ◌+◌, ◌�
 use Rattle.std.specs.Prelude.{nat_lt, Bool, true, false, if◌then◌else◌}
 use Rattle.outage_schedule.specs.declared.note.Note.{Note}
 use Rattle.outage_schedule.specs.declared.note.Note.TheVariants as notes
-use Rattle.run_clauses.specs.Horizons.{Ended, Openings, end_at, after_note, wanted_horizon}
+use Rattle.run_clauses.specs.meaning.Horizons.{Ended, Openings, end_at, after_note, wanted_horizon}
 use Rattle.world_model.specs.Forgets.{openings_of}
 use Rattle.world_model.proofs.Offered.{horizon_of, horizon_more, share}
 use Rattle.world_core.specs.Forgetting.{NotesOpening}

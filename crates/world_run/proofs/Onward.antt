@@ -2,21 +2,21 @@
 use Rattle.std.proofs.Common.{◌≡◌, refl, sym, ap, subst, ◌∙◌, arith, ℕ, ◌+◌, ◌≤◌, ◌<◌, ◌^◌, false, List, [], ◌∷◌, ◌++◌, length, Option, Some, None, Result, Ok, Err}
 use Rattle.std.specs.Prelude.{IfOk, OnOk, option_to_list}
 use Rattle.std.proofs.lemmas.List.{length-append}
-use Rattle.request_bounds.specs.Rules.{Rules}
+use Rattle.request_bounds.specs.meaning.Rules.{Rules}
 use Rattle.outage_schedule.specs.declared.document.Client.{Client as Script}
 use Rattle.outage_schedule.specs.declared.event.Event.{Event}
 use Rattle.outage_schedule.specs.declared.event.Event.TheVariants as events
 use Rattle.outage_schedule.specs.declared.item.Served.{Served}
 use Rattle.outage_schedule.specs.declared.note.Note.{Note}
 use Rattle.outage_schedule.specs.declared.note.Note.TheVariants as notes
-use Rattle.run_clauses.specs.Horizons.{Openings, after_note, wanted_horizon}
+use Rattle.run_clauses.specs.meaning.Horizons.{Openings, after_note, wanted_horizon}
 use Rattle.server_model.specs.Seen.{ServiceState, Seen}
 use Rattle.server_model.specs.ServiceCalls.{MayForget}
 use Rattle.service_calls.specs.Kept.{HaveOneBase}
-use Rattle.world_model.specs.Settings.{Setting}
+use Rattle.world_model.specs.meaning.Settings.{Setting}
 use Rattle.world_model.specs.Matching.{is_go}
 use Rattle.world_model.specs.Traced.{Traced}
-use Rattle.world_model.specs.Walking.{follow}
+use Rattle.world_model.specs.meaning.Walking.{follow}
 use Rattle.world_model.specs.Forgets.{Forgets, openings_of}
 use Rattle.world_model.proofs.Offered.{opens_once, opens_noted, openings_more}
 use Rattle.world_core.specs.declared.traffic.Traffic.{Traffic}

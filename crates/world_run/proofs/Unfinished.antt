@@ -6,14 +6,14 @@ use Rattle.std.proofs.lemmas.Option.{slice_get_past, slice_get_read}
 use Rattle.std.specs.Prelude.{nat_lt, slice_get, get_or, position, is_some, option_map, if◌then◌else◌, ◌||◌}
 use Rattle.std.specs.Option.{option_map_or}
 use Rattle.std.specs.List.{list_any}
-use Rattle.request_bounds.specs.Rules.{Rules}
+use Rattle.request_bounds.specs.meaning.Rules.{Rules}
 use Rattle.outage_schedule.specs.declared.document.Client.{Client as Script}
 use Rattle.outage_schedule.specs.declared.document.Request.{Request}
 use Rattle.outage_schedule.specs.declared.event.Event.TheVariants as event
-use Rattle.world_model.specs.Clients.{Client, script_at, is_unfinished}
-use Rattle.world_model.specs.Finishing.{AtClients, first_behind, serves_or_ticks, goes_or_serves, next_round}
-use Rattle.world_model.specs.Machines.{Machine}
-use Rattle.world_model.specs.Settings.{Setting}
+use Rattle.world_model.specs.meaning.Clients.{Client, script_at, is_unfinished}
+use Rattle.world_model.specs.meaning.Finishing.{AtClients, first_behind, serves_or_ticks, goes_or_serves, next_round}
+use Rattle.world_model.specs.meaning.Machines.{Machine}
+use Rattle.world_model.specs.meaning.Settings.{Setting}
 use Rattle.world_model.specs.Traced.{Traced}
 use Rattle.world_model.proofs.Offered.{counted, position_cons, first_there, none_there}
 use Rattle.world_core.specs.Among.{StandEach, scripts_of}

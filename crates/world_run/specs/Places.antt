@@ -1,13 +1,13 @@
 -- How far the finish of a run has come, and where it ends.
 use Rattle.std.specs.Prelude.{◌≤◌, ◌^◌, ℕ, List}
-use Rattle.request_bounds.specs.Rules.{Rules}
+use Rattle.request_bounds.specs.meaning.Rules.{Rules}
 use Rattle.outage_schedule.specs.declared.document.Client.{Client as Script}
 use Rattle.outage_schedule.specs.declared.document.Document.{Document}
 use Rattle.outage_schedule.specs.declared.event.Event.{Event}
-use Rattle.run_clauses.specs.Horizons.{Openings}
+use Rattle.run_clauses.specs.meaning.Horizons.{Openings}
 use Rattle.server_model.specs.Seen.{Seen}
 use Rattle.world_model.specs.Forgets.{first_of}
-use Rattle.world_model.specs.Finishing.{Place, AtServer, AtOrphans, AtRound, AtClients, AtLinks}
+use Rattle.world_model.specs.meaning.Finishing.{Place, AtServer, AtOrphans, AtRound, AtClients, AtLinks}
 use Rattle.world_model.specs.Reached.{IsFinishing, IsRun}
 use Rattle.world_model.specs.Remaining.{remaining}
 use Rattle.world_model.specs.Traced.{Traced}

@@ -1,14 +1,14 @@
 -- How a run so far stands for where the machine of its document has come to.
 use Rattle.std.specs.Prelude.{◌≡◌, ◌+◌, ◌≤◌, ◌^◌, ℕ, List, [], ◌∷◌, ◌++◌, length, Some}
-use Rattle.request_bounds.specs.Rules.{Rules}
+use Rattle.request_bounds.specs.meaning.Rules.{Rules}
 use Rattle.outage_schedule.specs.declared.document.Client.{Client as Script}
 use Rattle.outage_schedule.specs.declared.event.Event.{Event}
 use Rattle.outage_schedule.specs.declared.item.Served.{Served}
 use Rattle.outage_schedule.specs.declared.note.Note.{Note}
-use Rattle.run_clauses.specs.Horizons.{Ended, Openings, after_note, wanted_horizon}
+use Rattle.run_clauses.specs.meaning.Horizons.{Ended, Openings, after_note, wanted_horizon}
 use Rattle.server_model.specs.Seen.{Seen}
 use Rattle.world_model.specs.Forgets.{Forgets, openings_of}
-use Rattle.world_model.specs.Machines.{Server}
+use Rattle.world_model.specs.meaning.Machines.{Server}
 use Rattle.world_model.specs.OneEvent.{OneEvent}
 use Rattle.world_model.specs.Traced.{Traced}
 use Rattle.world_core.specs.declared.traffic.Traffic.{Traffic}

@@ -1,18 +1,18 @@
 -- What a run begins with, and where it stands before its first event.
 use Rattle.std.specs.Prelude.{◌≡◌, ◌≤◌, ◌^◌, Bool, true, IsTrue, List, []}
-use Rattle.request_bounds.specs.Rules.{Rules}
+use Rattle.request_bounds.specs.meaning.Rules.{Rules}
 use Rattle.outage_schedule.specs.declared.document.Client.{Client as Script}
 use Rattle.outage_schedule.specs.declared.document.Document.{Document}
 use Rattle.outage_schedule.specs.declared.document.ServiceOf.{ServiceOf}
-use Rattle.run_clauses.specs.Before.{journal_before, was_opened}
-use Rattle.run_clauses.specs.ServiceBase.{service_base}
+use Rattle.run_clauses.specs.meaning.Before.{journal_before, was_opened}
+use Rattle.run_clauses.specs.meaning.ServiceBase.{service_base}
 use Rattle.server_model.specs.Base.{IsSound}
 use Rattle.server_model.specs.Seen.{Seen, IsNew}
 use Rattle.world_model.specs.Forgets.{first_of}
-use Rattle.world_model.specs.Machines.{per_record_of}
+use Rattle.world_model.specs.meaning.Machines.{per_record_of}
 use Rattle.world_model.specs.Reached.{Reached, traced_start}
 use Rattle.world_model.specs.records.Ready.{all_requests_right}
-use Rattle.world_model.specs.Settings.{rules_of}
+use Rattle.world_model.specs.meaning.Settings.{rules_of}
 use Rattle.world_run.specs.Running.{Parts, Stands}
 
 -- The document has this service and these scripts. The service may be seen as a new one whose store is what stands before event 1; it is

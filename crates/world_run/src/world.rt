@@ -4,7 +4,7 @@ ghost use Rattle.std.specs.List.{AllByRecursion};
 ghost use Rattle.outage_schedule.specs.declared.document.Document.{Document};
 ghost use Rattle.server_model.specs.Seen.{Seen};
 ghost use Rattle.service_calls.specs.Kept.{HaveOneBase};
-ghost use Rattle.world_model.specs.Settings.{limits_of as limits_def};
+ghost use Rattle.world_model.specs.meaning.Settings.{limits_of as limits_def};
 ghost use Rattle.world_core.specs.Among.{IsFitScript};
 ghost use Rattle.world_run.specs.Starting.{IsOf, IsOfSome, HasRoom, StandsAtStart};
 ghost use Rattle.world_core.specs.Forgetting.{IsTracked, NotesOpening};

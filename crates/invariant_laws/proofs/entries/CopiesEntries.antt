@@ -8,9 +8,9 @@ use Rattle.svc_values.specs.declared.call.Call.{Call}
 use Rattle.svc_values.specs.declared.entry.Entry.{Entry}
 use Rattle.svc_values.specs.declared.entry.Ltxid.{Ltxid}
 use Rattle.outage_schedule.specs.declared.request.RequestReport.{RequestReport}
-use Rattle.run_clauses.specs.Copies.{Copies, may_be_repeated}
-use Rattle.run_clauses.specs.Once.{entries_in, entries_of_copies, ids_of_last, copies_have_one}
-use Rattle.run_clauses.specs.Tried.{holds, ids_tried}
+use Rattle.run_clauses.specs.meaning.Copies.{Copies, may_be_repeated}
+use Rattle.run_clauses.specs.meaning.Once.{entries_in, entries_of_copies, ids_of_last, copies_have_one}
+use Rattle.run_clauses.specs.meaning.Tried.{holds, ids_tried}
 use Rattle.world_model.specs.Parts.{implies}
 use Rattle.world_model.specs.records.Ready.{is_one_transaction, is_rightly_repeated}
 use Rattle.world_model.proofs.Offered.{filter_passes, implied, eq_from}

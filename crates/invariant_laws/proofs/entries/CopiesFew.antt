@@ -10,18 +10,18 @@ use Rattle.svc_values.specs.declared.call.Call.{Call}
 use Rattle.svc_values.specs.declared.call.Call.TheVariants as call
 use Rattle.svc_values.specs.declared.entry.Entry.{Entry}
 use Rattle.svc_values.specs.declared.entry.Ltxid.{Ltxid}
-use Rattle.svc_values.specs.Calls.{has_commit}
-use Rattle.svc_values.specs.Endings.{ends_transaction}
-use Rattle.svc_values.specs.Same.{same_call}
+use Rattle.svc_values.specs.meaning.Calls.{has_commit}
+use Rattle.svc_values.specs.meaning.Endings.{ends_transaction}
+use Rattle.svc_values.specs.meaning.Same.{same_call}
 use Rattle.svc_values.specs.SameLaws.{same_call_decides}
 use Rattle.outage_schedule.specs.declared.failure.Failure.{Failure}
 use Rattle.outage_schedule.specs.declared.failure.Failure.TheVariants as failure
 use Rattle.outage_schedule.specs.declared.request.ShownCall.{ShownCall}
-use Rattle.client_model.specs.Tried.{Trying, trying_of, tried_in}
-use Rattle.run_clauses.specs.Copies.{may_be_repeated}
-use Rattle.run_clauses.specs.Once.{committed_has_one, count_in, dropped_has_none, entries_differ, entries_in, last_ends, may_end, request_ends}
-use Rattle.run_clauses.specs.Transactions.{Txn, txns, with_tried}
-use Rattle.run_clauses.specs.Tried.{holds, ids_tried}
+use Rattle.client_model.specs.meaning.Tried.{Trying, trying_of, tried_in}
+use Rattle.run_clauses.specs.meaning.Copies.{may_be_repeated}
+use Rattle.run_clauses.specs.meaning.Once.{committed_has_one, count_in, dropped_has_none, entries_differ, entries_in, last_ends, may_end, request_ends}
+use Rattle.run_clauses.specs.meaning.Transactions.{Txn, txns, with_tried}
+use Rattle.run_clauses.specs.meaning.Tried.{holds, ids_tried}
 use Rattle.invariant_laws.specs.Once.{all_but_last, ends_so, is_placed, notes_sendings, tells_tried, transaction_at}
 use Rattle.world_model.specs.Parts.{Sending, commit_sendings, sendings_of}
 use Rattle.world_model.specs.records.Ready.{is_inside, is_one_transaction}

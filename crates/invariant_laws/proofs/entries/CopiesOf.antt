@@ -5,7 +5,7 @@ use Rattle.std.specs.List.{list_all}
 use Rattle.std.proofs.lemmas.Bool.{and_parts, and_from}
 use Rattle.outage_schedule.specs.declared.document.Request.{Request}
 use Rattle.outage_schedule.specs.declared.request.RequestReport.{RequestReport}
-use Rattle.run_clauses.specs.Copies.{Copies, may_be_repeated, is_last_uncommitted, is_repeated, with_copy, further_copies, copies_of, is_over, next_of}
+use Rattle.run_clauses.specs.meaning.Copies.{Copies, may_be_repeated, is_last_uncommitted, is_repeated, with_copy, further_copies, copies_of, is_over, next_of}
 use Rattle.world_model.proofs.Offered.{weaker_all, CopiesLeftOneMore as OneMore, IsMine, IsLater, is_left, one_more, counted, position_cons}
 
 -- FURTHER COPIES ----------------------------------------------------------------------------------

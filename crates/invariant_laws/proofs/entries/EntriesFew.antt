@@ -7,20 +7,20 @@ use Rattle.std.proofs.lemmas.Bool.{and_parts, and_from, or_cases, or_left, or_ri
 use Rattle.commit_log.specs.Keeping.{EachKeeps}
 use Rattle.svc_values.specs.declared.entry.Entry.{Entry}
 use Rattle.svc_values.specs.declared.entry.Ltxid.{Ltxid}
-use Rattle.svc_values.specs.Identifiers.{is_of_session, same_ltxid, session_of}
+use Rattle.svc_values.specs.meaning.Identifiers.{is_of_session, same_ltxid, session_of}
 use Rattle.svc_values.specs.SameLaws.{same_ltxid_decides}
 use Rattle.outage_schedule.specs.declared.request.ShownCall.{ShownCall}
-use Rattle.client_model.specs.Tried.{Trying, trying_of, tried_in, tried_upto}
-use Rattle.run_clauses.specs.EntryEvents.{entries_of}
-use Rattle.run_clauses.specs.Once.{entries_differ, entries_in}
-use Rattle.run_clauses.specs.Tried.{holds, ids_tried}
+use Rattle.client_model.specs.meaning.Tried.{Trying, trying_of, tried_in, tried_upto}
+use Rattle.run_clauses.specs.meaning.EntryEvents.{entries_of}
+use Rattle.run_clauses.specs.meaning.Once.{entries_differ, entries_in}
+use Rattle.run_clauses.specs.meaning.Tried.{holds, ids_tried}
 use Rattle.server_model.specs.Laws.{EntryNumbers}
 use Rattle.invariant_laws.specs.KeptLaws.{IsKeptOfAll}
 use Rattle.world_model.specs.records.Number.{entries_numbered, none_blocked, numbered_after}
 use Rattle.invariant_laws.specs.Once.{all_but_last, earlier_settled, is_noted, is_open_or_committed, is_settled, later_settled, note_sendings, notes_sendings, tell_tried, tells_tried, transaction_at, transactions_have_one}
 use Rattle.world_model.specs.Parts.{Sending, commit_sendings, scan_of, sendings_of}
 use Rattle.world_model.specs.Reached.{traced_start}
-use Rattle.world_model.specs.Settings.{setting_of}
+use Rattle.world_model.specs.meaning.Settings.{setting_of}
 use Rattle.world_model.specs.Traced.{Traced, Course, courses_of}
 use Rattle.world_model.specs.Words.{dones_of}
 use Rattle.world_model.proofs.Offered.{weaker_all, entries_law, unblocked_law, resting_none, implied, entries_cons, numbered_parts, eq_from, le_to, not_both, session_self}

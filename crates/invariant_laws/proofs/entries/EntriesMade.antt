@@ -11,11 +11,12 @@ use Rattle.svc_values.specs.declared.entry.Entry.{Entry}
 use Rattle.svc_values.specs.declared.entry.Ltxid.{Ltxid}
 use Rattle.svc_values.specs.declared.entry.Piece.{Piece}
 use Rattle.svc_values.specs.declared.frame.Up.{Up}
-use Rattle.svc_values.specs.Calls.{is_lone_commit}
+use Rattle.svc_values.specs.meaning.Calls.{is_lone_commit}
 use Rattle.svc_values.specs.SameLaws.{same_bool_decides}
-use Rattle.server_model.specs.Base.{Base}
+use Rattle.server_model.specs.meaning.Base.{Base}
 use Rattle.server_model.specs.Core.{Core}
-use Rattle.server_model.specs.Outcomes.{Telling, Outcomes, IsTold, BlockStops, if_blocks}
+use Rattle.server_model.specs.meaning.Outcomes.{Telling}
+use Rattle.server_model.specs.Outcomes.{Outcomes, IsTold, BlockStops, if_blocks}
 use Rattle.server_model.specs.Runs.{Happened, Server, Power, Turns, Moves, Makes, Answers, Halts, Loses, AnswersAsk, HaltsInAsk, Reaps, Falls, Opens, StopsOpening, Runs, Start, Then}
 use Rattle.server_model.specs.Seen.{Seen}
 use Rattle.server_model.specs.Serve.{Commits, InReplay, Blocks, Conflicts, Stores, StopsBefore, StopsAfter, Works, Answers as AnswersCall, Reaches, HaltsInDraw, Calls, IsWork, IsSet, IsAlter, AlterStops, AlterMarked, IsDisable, IsRollback, Serve, Connects, Begins, Ends, Closes, Asks, Runs as Serves, Refuses}

@@ -7,14 +7,14 @@ use Rattle.std.proofs.lemmas.Bool.{and_parts, and_from}
 use Rattle.svc_values.specs.declared.answer.Answer.{Answer}
 use Rattle.svc_values.specs.declared.entry.Ltxid.{Ltxid}
 use Rattle.svc_values.specs.declared.frame.Down.{Down}
-use Rattle.svc_values.specs.Calls.{has_commit}
-use Rattle.svc_values.specs.Endings.{ends_committed}
-use Rattle.svc_values.specs.Identifiers.{same_ltxid, session_of}
+use Rattle.svc_values.specs.meaning.Calls.{has_commit}
+use Rattle.svc_values.specs.meaning.Endings.{ends_committed}
+use Rattle.svc_values.specs.meaning.Identifiers.{same_ltxid, session_of}
 use Rattle.svc_values.specs.SameLaws.{same_ltxid_decides}
-use Rattle.run_clauses.specs.EntryEvents.{entries_of}
-use Rattle.world_model.specs.Frames.{Owner}
+use Rattle.run_clauses.specs.meaning.EntryEvents.{entries_of}
+use Rattle.world_model.specs.meaning.Frames.{Owner}
 use Rattle.world_model.specs.Orderly.{Orderly}
-use Rattle.world_model.specs.Links.{Link, link_at}
+use Rattle.world_model.specs.meaning.Links.{Link, link_at}
 use Rattle.world_model.specs.records.Number.{cond_held, is_near, is_counted, ahead_rightly, last_served_made}
 use Rattle.invariant_laws.specs.Once.{all_sendings, are_apart, have_fates, is_open_or_committed}
 use Rattle.world_model.specs.Parts.{Sending, commit_sendings, held_number, number_of}

@@ -6,10 +6,10 @@ use Rattle.std.specs.Option.{option_map_or}
 use Rattle.std.proofs.lemmas.Bool.{and_parts}
 use Rattle.svc_values.specs.declared.entry.Entry.{Entry}
 use Rattle.svc_values.specs.declared.entry.SessionId.{SessionId}
-use Rattle.svc_values.specs.Identifiers.{session_of}
-use Rattle.svc_values.specs.SettingsList.{same_settings}
+use Rattle.svc_values.specs.meaning.Identifiers.{session_of}
+use Rattle.svc_values.specs.meaning.SettingsList.{same_settings}
 use Rattle.world_model.specs.records.Basic.{sessions_differ, sessions_of}
-use Rattle.world_model.specs.Links.{Link, link_at}
+use Rattle.world_model.specs.meaning.Links.{Link, link_at}
 use Rattle.world_model.specs.Parts.{implies}
 use Rattle.invariant_laws.specs.Same.{are_pieces, is_ran, is_session_of, is_started, link_of, ran_by}
 use Rattle.world_model.specs.Traced.{Traced}

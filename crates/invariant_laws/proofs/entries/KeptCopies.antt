@@ -9,17 +9,17 @@ use Rattle.std.proofs.lemmas.List.Elements.{filter-append}
 use Rattle.commit_log.specs.Keeping.{EachKeeps}
 use Rattle.svc_values.specs.declared.call.Call.{Call}
 use Rattle.svc_values.specs.declared.entry.Entry.{Entry}
-use Rattle.svc_values.specs.Same.{same_calls}
+use Rattle.svc_values.specs.meaning.Same.{same_calls}
 use Rattle.svc_values.specs.SameLaws.{same_calls_decide}
 use Rattle.outage_schedule.specs.declared.document.Client.{Client as Scripted}
 use Rattle.outage_schedule.specs.declared.document.Document.{Document}
 use Rattle.outage_schedule.specs.declared.document.Request.{Request}
 use Rattle.outage_schedule.specs.declared.request.RequestReport.{RequestReport}
-use Rattle.run_clauses.specs.Copies.{Copies, copies_of, may_be_repeated, next_of}
-use Rattle.run_clauses.specs.Once.{copies_have_one, entries_in, request_ends}
-use Rattle.run_clauses.specs.Tried.{ids_tried}
+use Rattle.run_clauses.specs.meaning.Copies.{Copies, copies_of, may_be_repeated, next_of}
+use Rattle.run_clauses.specs.meaning.Once.{copies_have_one, entries_in, request_ends}
+use Rattle.run_clauses.specs.meaning.Tried.{ids_tried}
 use Rattle.server_model.specs.Laws.{EntryNumbers}
-use Rattle.world_model.specs.Clients.{Past, Doing, Client, reports_of, resting, script_at}
+use Rattle.world_model.specs.meaning.Clients.{Past, Doing, Client, reports_of, resting, script_at}
 use Rattle.invariant_laws.specs.KeptLaws.{IsKeptOfAll}
 use Rattle.invariant_laws.specs.Lost.{lost_links}
 use Rattle.world_model.specs.records.Number.{entries_numbered, none_blocked}
@@ -28,7 +28,7 @@ use Rattle.world_model.specs.Parts.{commit_sendings, implies, sendings_of}
 use Rattle.world_model.specs.Reached.{traced_start}
 use Rattle.world_model.specs.records.Ready.{is_one_transaction, is_right_request, is_rightly_repeated}
 use Rattle.world_model.specs.records.Script.{follow_scripts, now_or_next, past_follows, same_request}
-use Rattle.world_model.specs.Settings.{Setting}
+use Rattle.world_model.specs.meaning.Settings.{Setting}
 use Rattle.world_model.specs.Traced.{Traced, Course, course_now, course_over, courses_from, courses_of, courses_of_clients}
 use Rattle.world_model.specs.Words.{held_in}
 use Rattle.world_model.proofs.Offered.{append_all, filter_all, weaker_all, script_all, entries_law, unblocked_law, of_document, rightly_repeated, implied, follows_get, scripts_law, eq_to, le_to, ne_back, ne_to}

@@ -13,30 +13,31 @@ use Rattle.svc_values.specs.declared.frame.Up.{Up}
 use Rattle.svc_values.specs.declared.frame.Up.TheVariants as up
 use Rattle.svc_values.specs.declared.value.Value.{Value}
 use Rattle.outage_schedule.specs.declared.request.ShownCall.{ShownCall}
-use Rattle.pool_core.specs.Slots.{give_back_answer}
+use Rattle.pool_core.specs.meaning.Slots.{give_back_answer}
 use Rattle.client_model.specs.declared.act.Hold.{Hold}
 use Rattle.client_model.specs.declared.act.Hold.TheVariants as hold
 use Rattle.client_model.specs.declared.act.Shown.{Shown}
 use Rattle.client_model.specs.declared.input.Input.{Input}
-use Rattle.client_model.specs.Account.{Account, account_of, unheard, after_step}
-use Rattle.client_model.specs.Conversation.{Done}
-use Rattle.client_model.specs.States.{Living}
-use Rattle.client_model.specs.Talk.{talk_step, takes}
-use Rattle.client_model.specs.Terms.{Terms, Phase, Idle, Unbegun, Queued, Seeking, Greeting, Asked, Running, Replaying}
-use Rattle.client_model.specs.Tried.{Sending as Noted, Trying, trying_of, tries_on, replied, over_after, sent_under, sent_in, told_ltxid}
+use Rattle.client_model.specs.meaning.Account.{Account, account_of, unheard, after_step}
+use Rattle.client_model.specs.meaning.Conversation.{Done}
+use Rattle.client_model.specs.meaning.States.{Living}
+use Rattle.client_model.specs.meaning.Talk.{talk_step, takes}
+use Rattle.client_model.specs.meaning.Terms.{Terms, Phase, Idle, Unbegun, Queued, Seeking, Greeting, Asked, Running, Replaying}
+use Rattle.client_model.specs.meaning.Tried.{Sending as Noted, Trying, trying_of, tries_on, replied, over_after, sent_under, told_ltxid}
+use Rattle.client_model.specs.Tried.{sent_in}
 use Rattle.client_model.proofs.Offered.{Fits, tries_under_held}
-use Rattle.run_clauses.specs.Reports.{shown_call}
-use Rattle.world_model.specs.Acting.{closing}
-use Rattle.world_model.specs.Clients.{Client, Step, Doing, client_at, after_hold}
+use Rattle.run_clauses.specs.meaning.Reports.{shown_call}
+use Rattle.world_model.specs.meaning.Acting.{closing}
+use Rattle.world_model.specs.meaning.Clients.{Client, Step, Doing, client_at, after_hold}
 use Rattle.world_model.specs.records.Conversing.{inputs_of, Talks}
-use Rattle.world_model.specs.Frames.{Owner}
+use Rattle.world_model.specs.meaning.Frames.{Owner}
 use Rattle.world_model.specs.records.Hold.{goes_by, same_held, is_by_held, are_by_held}
 use Rattle.world_model.specs.Orderly.{Orderly}
 use Rattle.invariant_laws.specs.KeptLaws.{StaysTrue}
-use Rattle.world_model.specs.Machines.{Machine}
+use Rattle.world_model.specs.meaning.Machines.{Machine}
 use Rattle.invariant_laws.specs.Once.{agree_on, is_noted, note_sendings, notes_sendings, transaction_at}
 use Rattle.world_model.specs.Parts.{Scan, sent_on, is_unmarked_frame}
-use Rattle.world_model.specs.Settings.{Setting, setting_of}
+use Rattle.world_model.specs.meaning.Settings.{Setting, setting_of}
 use Rattle.world_model.specs.Traced.{Traced, course_now, courses_of_clients}
 use Rattle.world_model.specs.Words.{dones_of}
 use Rattle.world_model.proofs.Offered.{client_set, dead_sends_none, HasStepped, GoesOn, AtOnce, LostToo, HeardOn, OfNone, OfIdle, OfNew, OfReply, OfEnded, AsFirst, LostBehind, all_step, by_its, Followed, follow_happens, at_event, doing_course, by_held_law, resting_none, opening, scan_by, heard_scan, after_sendings, account_now, first_step, first_doing, before_talks, first_talks_on, first_fits, is_running, frame_fits, send_fits, eq_from, eq_to}

@@ -3,7 +3,7 @@ use Rattle.std.proofs.Common.{◌≡◌, refl, Bool, true, false, ◌&&◌, leng
 use Rattle.std.specs.List.{list_all}
 use Rattle.std.proofs.lemmas.Bool.{and_parts}
 use Rattle.commit_log.specs.Keeping.{EachKeeps}
-use Rattle.run_clauses.specs.Once.{request_ends}
+use Rattle.run_clauses.specs.meaning.Once.{request_ends}
 use Rattle.server_model.specs.Laws.{EntryNumbers}
 use Rattle.invariant_laws.specs.KeptLaws.{IsKeptOfAll}
 use Rattle.invariant_laws.specs.Lost.{are_lost, fail_incomplete, is_failed_by, lost_links, lost_rightly}
@@ -12,7 +12,7 @@ use Rattle.invariant_laws.specs.Once.{all_but_last, all_end, all_known, all_plac
 use Rattle.world_model.specs.Parts.{commit_sendings, implies, sendings_of}
 use Rattle.world_model.specs.Reached.{traced_start}
 use Rattle.world_model.specs.Sames.{same_owner}
-use Rattle.world_model.specs.Settings.{setting_of}
+use Rattle.world_model.specs.meaning.Settings.{setting_of}
 use Rattle.world_model.specs.Traced.{Traced, Course, courses_of}
 use Rattle.world_model.specs.Words.{held_in}
 use Rattle.world_model.proofs.Offered.{filter_all, weaker_all, entries_law, unblocked_law, resting_none, implied, scan_by}

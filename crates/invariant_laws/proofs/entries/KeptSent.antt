@@ -9,33 +9,33 @@ use Rattle.std.proofs.lemmas.List.Folds.{list_all-append}
 use Rattle.svc_values.specs.declared.entry.Entry.{Entry}
 use Rattle.svc_values.specs.declared.entry.Ltxid.{Ltxid}
 use Rattle.svc_values.specs.declared.entry.SessionId.{SessionId}
-use Rattle.svc_values.specs.Endings.{ends_committed}
-use Rattle.svc_values.specs.Identifiers.{is_of_session, same_ltxid, session_of}
+use Rattle.svc_values.specs.meaning.Endings.{ends_committed}
+use Rattle.svc_values.specs.meaning.Identifiers.{is_of_session, same_ltxid, session_of}
 use Rattle.svc_values.specs.SameLaws.{same_ltxid_decides}
 use Rattle.outage_schedule.specs.declared.event.Event.{Event}
 use Rattle.outage_schedule.specs.declared.item.Served.{Served}
 use Rattle.outage_schedule.specs.declared.note.Note.{Note}
-use Rattle.run_clauses.specs.EntryEvents.{entries_of}
+use Rattle.run_clauses.specs.meaning.EntryEvents.{entries_of}
 use Rattle.server_model.specs.Laws.{EntryNumbers}
 use Rattle.server_model.specs.Runs.{Happened}
 use Rattle.server_model.specs.Seen.{Seen}
 use Rattle.server_model.specs.ServiceCalls.{CameFrom}
 use Rattle.svc_values.specs.declared.frame.Up.TheVariants as up
-use Rattle.world_model.specs.Acting.{sent_by}
-use Rattle.world_model.specs.Clients.{Client}
+use Rattle.world_model.specs.meaning.Acting.{sent_by}
+use Rattle.world_model.specs.meaning.Clients.{Client}
 use Rattle.world_model.specs.records.Basic.{are_named, sessions_differ}
-use Rattle.world_model.specs.Frames.{Sent}
+use Rattle.world_model.specs.meaning.Frames.{Sent}
 use Rattle.world_model.specs.Orderly.{Orderly}
 use Rattle.invariant_laws.specs.KeptLaws.{IsKeptOfAll}
-use Rattle.world_model.specs.Links.{Link, new_link, link_at}
-use Rattle.world_model.specs.Machines.{Machine}
-use Rattle.world_model.specs.Matching.{Noted, Went}
+use Rattle.world_model.specs.meaning.Links.{Link, new_link, link_at}
+use Rattle.world_model.specs.meaning.Machines.{Machine}
+use Rattle.world_model.specs.meaning.Matching.{Noted, Went}
 use Rattle.world_model.specs.records.Number.{cond_held, numbered_after, is_known, is_ahead, ahead_rightly, are_ahead}
 use Rattle.invariant_laws.specs.Once.{all_sendings, are_apart, entries_sent, has_commit_out, has_sending, have_fates, is_foreign, is_of_link, is_open_or_committed, is_waiting_on, outs_wait}
 use Rattle.world_model.specs.OneEvent.{OneEvent}
 use Rattle.world_model.specs.Parts.{Sending, Numbered, commit_sendings, held_number, implies, is_commit_call, is_out, number_of, out_frame}
 use Rattle.world_model.specs.Reached.{traced_start}
-use Rattle.world_model.specs.Settings.{Setting}
+use Rattle.world_model.specs.meaning.Settings.{Setting}
 use Rattle.world_model.specs.Traced.{Traced, courses_of_clients}
 use Rattle.world_model.proofs.Offered.{at_link, append_all, every_all, weaker_all, sends_alike, number_named, none_in, DidOf, Followed, follow_happens, at_event, held_now, ahead_law, basic_is_kept, numbered_now, Right, extra_few, implied, any_goes, all_below, entries_cons, numbered_parts, did, right_now, eq_to, le_from, le_to, lt_from, same_session_is, not_both, none_is, ComesFrom, IsNew, IsOld, all_turn, some_same}
 use Rattle.invariant_laws.proofs.sendings.CommittedSendings.{commit_out}

@@ -6,17 +6,17 @@ use Rattle.std.specs.Cmp.Lexicographic.{pointwise}
 use Rattle.std.specs.List.{list_all}
 use Rattle.std.proofs.lemmas.Bool.{and_parts}
 use Rattle.svc_values.specs.declared.entry.Ltxid.{Ltxid}
-use Rattle.svc_values.specs.Identifiers.{same_ltxid}
-use Rattle.client_model.specs.Tried.{Trying, trying_of, tried_of}
+use Rattle.svc_values.specs.meaning.Identifiers.{same_ltxid}
+use Rattle.client_model.specs.meaning.Tried.{Trying, trying_of, tried_of}
 use Rattle.run_clauses.specs.Tried.{tried_of as told_of}
-use Rattle.world_model.specs.Clients.{Client, past_of}
+use Rattle.world_model.specs.meaning.Clients.{Client, past_of}
 use Rattle.world_model.specs.records.Hold.{are_by_held}
 use Rattle.world_model.specs.Orderly.{Orderly}
 use Rattle.invariant_laws.specs.KeptLaws.{IsKeptOfAll}
 use Rattle.invariant_laws.specs.Once.{is_noted, note_sendings, notes_sendings, tell_tried, tells_tried, transaction_at, tried_apart}
 use Rattle.world_model.specs.Parts.{Scan, scan_of}
 use Rattle.world_model.specs.Reached.{traced_start}
-use Rattle.world_model.specs.Settings.{Setting, setting_of}
+use Rattle.world_model.specs.meaning.Settings.{Setting, setting_of}
 use Rattle.world_model.specs.Traced.{Traced, Course, course_now, course_over, courses_of, courses_of_clients}
 use Rattle.world_model.specs.Words.{dones_of}
 use Rattle.world_model.proofs.Offered.{all_step, Followed, follow_happens, at_event, by_held_law, resting_none, ltxid_self, each_self, eq_from}

@@ -8,14 +8,15 @@ use Rattle.std.proofs.lemmas.List.Elements.{filter-append}
 use Rattle.svc_values.specs.declared.answer.Answer.{Answer}
 use Rattle.svc_values.specs.declared.call.Call.{Call}
 use Rattle.svc_values.specs.declared.entry.Ltxid.{Ltxid}
-use Rattle.svc_values.specs.Calls.{has_commit}
-use Rattle.svc_values.specs.Endings.{ends_committed}
-use Rattle.svc_values.specs.Identifiers.{same_ltxid}
-use Rattle.svc_values.specs.Same.{same_call}
+use Rattle.svc_values.specs.meaning.Calls.{has_commit}
+use Rattle.svc_values.specs.meaning.Endings.{ends_committed}
+use Rattle.svc_values.specs.meaning.Identifiers.{same_ltxid}
+use Rattle.svc_values.specs.meaning.Same.{same_call}
 use Rattle.svc_values.specs.SameLaws.{same_answers_decide, same_call_decides, same_ltxid_decides}
 use Rattle.outage_schedule.specs.declared.request.ShownCall.{ShownCall}
-use Rattle.client_model.specs.Tried.{Sending as Noted, each_once, is_try, tried_in}
-use Rattle.run_clauses.specs.Tried.{Sending as Tried, holds, may_have_committed, tried_among, with_new}
+use Rattle.client_model.specs.meaning.Tried.{Sending as Noted, each_once, is_try, tried_in}
+use Rattle.run_clauses.specs.meaning.Tried.{holds}
+use Rattle.run_clauses.specs.Tried.{Sending as Tried, may_have_committed, tried_among, with_new}
 use Rattle.invariant_laws.specs.Once.{is_noted, same_taken, reverse_onto, transaction_at, tried_one}
 use Rattle.world_model.specs.Parts.{Sending}
 use Rattle.world_model.proofs.Offered.{eq_from}

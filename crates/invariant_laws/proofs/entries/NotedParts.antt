@@ -7,10 +7,10 @@ use Rattle.std.proofs.lemmas.Bool.Decides.{nat_tests}
 use Rattle.std.proofs.lemmas.List.{take_all}
 use Rattle.std.proofs.lemmas.List.Sums.{sum_by-cons}
 use Rattle.svc_values.specs.declared.entry.Ltxid.{Ltxid}
-use Rattle.svc_values.specs.Endings.{ends_transaction}
+use Rattle.svc_values.specs.meaning.Endings.{ends_transaction}
 use Rattle.outage_schedule.specs.declared.request.ShownCall.{ShownCall}
-use Rattle.client_model.specs.Tried.{Sending as Noted, tried_upto}
-use Rattle.run_clauses.specs.Transactions.{put_first, txns}
+use Rattle.client_model.specs.meaning.Tried.{Sending as Noted, tried_upto}
+use Rattle.run_clauses.specs.meaning.Transactions.{put_first, txns}
 use Rattle.run_clauses.specs.Tried.{tried_among, tried_from, tried_of}
 use Rattle.invariant_laws.specs.Once.{is_noted, transaction_at}
 use Rattle.world_model.specs.Parts.{Sending}

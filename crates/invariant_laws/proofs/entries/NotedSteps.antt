@@ -14,19 +14,20 @@ use Rattle.svc_values.specs.declared.frame.Down.TheVariants as down
 use Rattle.svc_values.specs.declared.frame.Up.{Up}
 use Rattle.svc_values.specs.declared.frame.Up.TheVariants as up
 use Rattle.svc_values.specs.declared.value.Value.{Value}
-use Rattle.svc_values.specs.Endings.{ends_transaction}
-use Rattle.svc_values.specs.Identifiers.{same_ltxid}
-use Rattle.svc_values.specs.Same.{same_call}
+use Rattle.svc_values.specs.meaning.Endings.{ends_transaction}
+use Rattle.svc_values.specs.meaning.Identifiers.{same_ltxid}
+use Rattle.svc_values.specs.meaning.Same.{same_call}
 use Rattle.svc_values.specs.SameLaws.{same_answers_decide, same_call_decides, same_ltxid_decides}
 use Rattle.outage_schedule.specs.declared.request.ShownCall.{ShownCall}
 use Rattle.client_model.specs.declared.act.Shown.{Shown}
 use Rattle.client_model.specs.declared.input.Input.{Input}
 use Rattle.client_model.specs.declared.input.Input.TheVariants.{Start, Waiting, Lent, Opened, TryFailed, Took, Gone}
-use Rattle.client_model.specs.Account.{Account, after_step}
-use Rattle.client_model.specs.Conversation.{Done}
-use Rattle.client_model.specs.Terms.{Terms}
-use Rattle.client_model.specs.Tried.{Sending as Noted, replied, with_answer, over_after, sent_under, sent_with, sent_in}
-use Rattle.run_clauses.specs.Reports.{shown_call}
+use Rattle.client_model.specs.meaning.Account.{Account, after_step}
+use Rattle.client_model.specs.meaning.Conversation.{Done}
+use Rattle.client_model.specs.meaning.Terms.{Terms}
+use Rattle.client_model.specs.meaning.Tried.{Sending as Noted, replied, with_answer, over_after, sent_under}
+use Rattle.client_model.specs.Tried.{sent_with, sent_in}
+use Rattle.run_clauses.specs.meaning.Reports.{shown_call}
 use Rattle.invariant_laws.specs.Once.{is_noted, same_taken, transaction_at}
 use Rattle.world_model.specs.Parts.{Sending, answered, with_taken, is_unmarked_frame}
 use Rattle.invariant_laws.proofs.entries.NotedLists.{IsNoted, noted_from}

@@ -9,17 +9,17 @@ use Rattle.std.proofs.lemmas.List.Folds.{list_all-append, list_any-append}
 use Rattle.std.proofs.lemmas.List.Sums.{sum_by-cons}
 use Rattle.svc_values.specs.declared.entry.Entry.{Entry}
 use Rattle.svc_values.specs.declared.entry.Ltxid.{Ltxid}
-use Rattle.svc_values.specs.Identifiers.{same_ltxid}
+use Rattle.svc_values.specs.meaning.Identifiers.{same_ltxid}
 use Rattle.svc_values.specs.SameLaws.{same_ltxid_decides}
 use Rattle.outage_schedule.specs.declared.document.Request.{Request}
 use Rattle.outage_schedule.specs.declared.failure.Failure.{Failure}
 use Rattle.outage_schedule.specs.declared.failure.Failure.TheVariants as failure
 use Rattle.outage_schedule.specs.declared.request.RequestReport.{RequestReport}
 use Rattle.outage_schedule.specs.declared.request.ShownCall.{ShownCall}
-use Rattle.run_clauses.specs.Copies.{Copies, copies_of}
-use Rattle.run_clauses.specs.Once.{committed_has_one, copies_have_one, count_in, dropped_has_none, entries_differ, entries_in, has_entry_in, ids_of_last, last_ends, may_end, request_ends}
-use Rattle.run_clauses.specs.Transactions.{Txn, is_last, is_shown_committed, is_shown_dropped, txns, with_tried}
-use Rattle.run_clauses.specs.Tried.{holds, ids_differ, ids_tried}
+use Rattle.run_clauses.specs.meaning.Copies.{Copies, copies_of}
+use Rattle.run_clauses.specs.meaning.Once.{committed_has_one, copies_have_one, count_in, dropped_has_none, entries_differ, entries_in, has_entry_in, ids_of_last, last_ends, may_end, request_ends}
+use Rattle.run_clauses.specs.meaning.Transactions.{Txn, is_last, is_shown_committed, is_shown_dropped, txns, with_tried}
+use Rattle.run_clauses.specs.meaning.Tried.{holds, ids_differ, ids_tried}
 use Rattle.world_model.proofs.Offered.{weaker_all, le_from, le_to, not_both}
 use Rattle.invariant_laws.proofs.losses.LostKept.{both_all}
 use Rattle.invariant_laws.proofs.entries.TriedApart.{false_by, holds_append}

@@ -7,17 +7,17 @@ use Rattle.std.proofs.lemmas.Bool.{and_parts, and_from, not-true}
 use Rattle.svc_values.specs.declared.answer.Answer.{Answer}
 use Rattle.svc_values.specs.declared.call.Call.{Call}
 use Rattle.svc_values.specs.declared.entry.Ltxid.{Ltxid}
-use Rattle.svc_values.specs.Endings.{ends_committed, ends_conflict, ends_transaction, ends_with, is_rolled_back}
-use Rattle.svc_values.specs.Identifiers.{same_ltxid}
-use Rattle.svc_values.specs.Same.{same_call}
+use Rattle.svc_values.specs.meaning.Endings.{ends_committed, ends_conflict, ends_transaction, ends_with, is_rolled_back}
+use Rattle.svc_values.specs.meaning.Identifiers.{same_ltxid}
+use Rattle.svc_values.specs.meaning.Same.{same_call}
 use Rattle.svc_values.specs.SameLaws.{same_ltxid_decides}
 use Rattle.outage_schedule.specs.declared.failure.Failure.{Failure}
 use Rattle.outage_schedule.specs.declared.failure.Failure.TheVariants as failure
 use Rattle.outage_schedule.specs.declared.request.ShownCall.{ShownCall}
-use Rattle.client_model.specs.Tried.{Trying, trying_of, tried_in}
-use Rattle.run_clauses.specs.Once.{committed_has_one, count_in, dropped_has_none, entries_differ, last_ends, may_end, request_ends}
-use Rattle.run_clauses.specs.Transactions.{is_shown_committed, is_shown_dropped, txns, with_tried}
-use Rattle.run_clauses.specs.Tried.{holds}
+use Rattle.client_model.specs.meaning.Tried.{Trying, trying_of, tried_in}
+use Rattle.run_clauses.specs.meaning.Once.{committed_has_one, count_in, dropped_has_none, entries_differ, last_ends, may_end, request_ends}
+use Rattle.run_clauses.specs.meaning.Transactions.{is_shown_committed, is_shown_dropped, txns, with_tried}
+use Rattle.run_clauses.specs.meaning.Tried.{holds}
 use Rattle.invariant_laws.specs.Lost.{ends_unknown, fails_incomplete, is_failed_by, is_wanted, lost_links, lost_rightly, outcome_on}
 use Rattle.invariant_laws.specs.Once.{all_but_last, are_known, ends_so, is_known, is_left_lost, is_open_at, is_open_or_committed, is_placed, is_stored_at, notes_sendings, shows_at, stored_from, tells_completed, tells_tried, transaction_at}
 use Rattle.world_model.specs.Parts.{Sending, commit_sendings, has_entry}

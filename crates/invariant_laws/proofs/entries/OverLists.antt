@@ -8,13 +8,14 @@ use Rattle.svc_values.specs.declared.answer.Answer.{Answer}
 use Rattle.svc_values.specs.declared.answer.Answer.TheVariants as answer
 use Rattle.svc_values.specs.declared.entry.Entry.{Entry}
 use Rattle.svc_values.specs.declared.entry.Ltxid.{Ltxid}
-use Rattle.svc_values.specs.Calls.{has_commit}
-use Rattle.svc_values.specs.Endings.{ends_committed, ends_conflict, ends_transaction, ends_with, is_committed, is_conflict, is_rolled_back}
-use Rattle.svc_values.specs.Identifiers.{same_ltxid}
+use Rattle.svc_values.specs.meaning.Calls.{has_commit}
+use Rattle.svc_values.specs.meaning.Endings.{ends_committed, ends_conflict, ends_transaction, ends_with, is_committed, is_conflict, is_rolled_back}
+use Rattle.svc_values.specs.meaning.Identifiers.{same_ltxid}
 use Rattle.svc_values.specs.SameLaws.{same_ltxid_decides}
 use Rattle.outage_schedule.specs.declared.request.ShownCall.{ShownCall}
-use Rattle.run_clauses.specs.Once.{count_in, entries_in}
-use Rattle.run_clauses.specs.Tried.{Sending as Tried, holds, may_have_committed, tried_among, with_new}
+use Rattle.run_clauses.specs.meaning.Once.{count_in, entries_in}
+use Rattle.run_clauses.specs.meaning.Tried.{holds}
+use Rattle.run_clauses.specs.Tried.{Sending as Tried, may_have_committed, tried_among, with_new}
 use Rattle.invariant_laws.specs.Once.{is_open_or_committed, is_shown_stored, is_stored_at, reverse_onto, stored_from, tried_one}
 use Rattle.world_model.specs.Parts.{Sending, has_entry}
 use Rattle.invariant_laws.proofs.sendings.ApartSteps.{commits}

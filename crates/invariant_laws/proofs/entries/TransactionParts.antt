@@ -7,10 +7,10 @@ use Rattle.std.proofs.lemmas.Bool.{and_parts, and_from}
 use Rattle.std.proofs.lemmas.Bool.Decides.{nat_tests}
 use Rattle.std.proofs.lemmas.List.{take_all}
 use Rattle.svc_values.specs.declared.answer.Answer.{Answer}
-use Rattle.svc_values.specs.Endings.{ends_transaction}
+use Rattle.svc_values.specs.meaning.Endings.{ends_transaction}
 use Rattle.outage_schedule.specs.declared.request.ShownCall.{ShownCall}
-use Rattle.client_model.specs.Tried.{Sending as Noted, tried_in, tried_upto}
-use Rattle.run_clauses.specs.Transactions.{Txn, put_first, txns, with_tried}
+use Rattle.client_model.specs.meaning.Tried.{Sending as Noted, tried_in, tried_upto}
+use Rattle.run_clauses.specs.meaning.Transactions.{Txn, put_first, txns, with_tried}
 use Rattle.invariant_laws.specs.Once.{shows_at, transaction_at}
 use Rattle.invariant_laws.proofs.rows.EndedCalls.{ended_before, ended_below}
 use Rattle.invariant_laws.proofs.entries.NotedParts.{ends_counted, ends_in}

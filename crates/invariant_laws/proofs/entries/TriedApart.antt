@@ -6,12 +6,13 @@ use Rattle.std.specs.List.{list_all, list_any}
 use Rattle.std.proofs.lemmas.Bool.{and_parts, and_from, or_cases, or_left, or_right, not-true, not_from_false, or_from}
 use Rattle.std.proofs.lemmas.List.Folds.{list_any-append}
 use Rattle.svc_values.specs.declared.entry.Ltxid.{Ltxid}
-use Rattle.svc_values.specs.Calls.{has_commit}
-use Rattle.svc_values.specs.Identifiers.{same_ltxid}
+use Rattle.svc_values.specs.meaning.Calls.{has_commit}
+use Rattle.svc_values.specs.meaning.Identifiers.{same_ltxid}
 use Rattle.svc_values.specs.SameLaws.{same_ltxid_decides}
 use Rattle.outage_schedule.specs.declared.request.ShownCall.{ShownCall}
-use Rattle.run_clauses.specs.Transactions.{txns}
-use Rattle.run_clauses.specs.Tried.{Sending as Tried, holds, ids_differ, ids_tried, may_have_committed, tried_among, tried_from, tried_of, with_new}
+use Rattle.run_clauses.specs.meaning.Transactions.{txns}
+use Rattle.run_clauses.specs.meaning.Tried.{holds, ids_differ, ids_tried}
+use Rattle.run_clauses.specs.Tried.{Sending as Tried, may_have_committed, tried_among, tried_from, tried_of, with_new}
 use Rattle.invariant_laws.specs.Once.{is_open_or_committed, reverse_onto, share, tells_tried, tried_one}
 use Rattle.world_model.specs.Parts.{Sending, commit_sendings, sendings_of}
 use Rattle.world_model.specs.Sames.{all_with, each_pair}

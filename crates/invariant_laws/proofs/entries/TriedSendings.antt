@@ -5,12 +5,13 @@ use Rattle.std.specs.List.{list_any}
 use Rattle.std.proofs.lemmas.Bool.{and_parts, and_from, or_cases, or_left, or_right}
 use Rattle.std.proofs.lemmas.Bool.Decides.{nat_tests}
 use Rattle.svc_values.specs.declared.entry.Ltxid.{Ltxid}
-use Rattle.svc_values.specs.Calls.{has_commit}
-use Rattle.svc_values.specs.Identifiers.{same_ltxid}
+use Rattle.svc_values.specs.meaning.Calls.{has_commit}
+use Rattle.svc_values.specs.meaning.Identifiers.{same_ltxid}
 use Rattle.svc_values.specs.SameLaws.{same_ltxid_decides}
 use Rattle.outage_schedule.specs.declared.request.ShownCall.{ShownCall}
-use Rattle.run_clauses.specs.Transactions.{txns}
-use Rattle.run_clauses.specs.Tried.{Sending as Tried, holds, may_have_committed, tried_among, tried_from, with_new}
+use Rattle.run_clauses.specs.meaning.Transactions.{txns}
+use Rattle.run_clauses.specs.meaning.Tried.{holds}
+use Rattle.run_clauses.specs.Tried.{Sending as Tried, may_have_committed, tried_among, tried_from, with_new}
 use Rattle.invariant_laws.specs.Once.{is_open_or_committed, reverse_onto, tells_tried, tried_one}
 use Rattle.world_model.specs.Parts.{Sending, commit_sendings, sendings_of}
 use Rattle.world_model.specs.Traced.{Course}

@@ -9,20 +9,20 @@ use Rattle.svc_values.specs.declared.call.Call.{Call}
 use Rattle.svc_values.specs.declared.frame.Up.{Up}
 use Rattle.svc_values.specs.declared.frame.Up.TheVariants as up
 use Rattle.svc_values.specs.declared.frame.Down.{Down}
-use Rattle.svc_values.specs.Endings.{ends_committed}
-use Rattle.svc_values.specs.Same.{same_bool, same_call, same_draws}
+use Rattle.svc_values.specs.meaning.Endings.{ends_committed}
+use Rattle.svc_values.specs.meaning.Same.{same_bool, same_call, same_draws}
 use Rattle.svc_values.specs.SameLaws.{same_call_decides}
 use Rattle.outage_schedule.specs.declared.item.Item.{Item}
 use Rattle.outage_schedule.specs.declared.item.Item.TheVariants as item
 use Rattle.world_model.specs.records.Basic.{ends_life, is_stopped, none_behind}
-use Rattle.world_model.specs.Crashing.{is_crashed_item}
-use Rattle.world_model.specs.Frames.{Sent, Reply, Handled}
-use Rattle.world_model.specs.Links.{Link}
+use Rattle.world_model.specs.meaning.Crashing.{is_crashed_item}
+use Rattle.world_model.specs.meaning.Frames.{Sent, Reply, Handled}
+use Rattle.world_model.specs.meaning.Links.{Link}
 use Rattle.world_model.specs.records.Number.{is_stopped_call, last_is_stopped_commit, last_served_made, made_entry}
 use Rattle.world_model.specs.Parts.{is_answered, is_commit_call, is_rep, held_number, out_frame, served_reps}
 use Rattle.invariant_laws.specs.Same.{ServedCall, Ran, did_all, ends_on_server, ran_by, ran_item, with_call}
 use Rattle.world_model.specs.Sames.{is_front, same_owners, same_reply, same_sent, same_up}
-use Rattle.world_model.specs.Serving.{is_commit, is_item_of, is_last}
+use Rattle.world_model.specs.meaning.Serving.{is_commit, is_item_of, is_last}
 use Rattle.world_model.specs.records.Wire.{counted_with, handled_from, is_handled, replies_of, reply_to}
 use Rattle.world_model.proofs.Offered.{Known, commits_all, commits_behind, Was, Ordinary, Halted, counted_same, last_handled, plain_commits, rep_of, stopped_item, stopped_silent, was_so, all_level, get_last, front_long, reply_rep, eq_from, le_from}
 use Rattle.invariant_laws.proofs.history.RanSessions.{over_same}

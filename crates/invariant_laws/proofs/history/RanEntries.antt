@@ -7,19 +7,19 @@ use Rattle.std.specs.Option.{option_map_or}
 use Rattle.std.proofs.lemmas.Bool.{and_parts, and_from, not-true}
 use Rattle.svc_values.specs.declared.entry.Entry.{Entry}
 use Rattle.svc_values.specs.declared.entry.SessionId.{SessionId}
-use Rattle.svc_values.specs.SettingsList.{same_settings}
+use Rattle.svc_values.specs.meaning.SettingsList.{same_settings}
 use Rattle.outage_schedule.specs.declared.document.Document.{Document}
 use Rattle.outage_schedule.specs.declared.event.Event.{Event}
 use Rattle.outage_schedule.specs.declared.item.Served.{Served}
 use Rattle.outage_schedule.specs.declared.note.Note.{Note}
 use Rattle.server_model.specs.Items.{items_of}
 use Rattle.server_model.specs.Laws.{RunsLegal}
-use Rattle.server_model.specs.Legal.{items_hold, lines_of, lines_stand}
+use Rattle.server_model.specs.meaning.Legal.{items_hold, lines_of, lines_stand}
 use Rattle.server_model.specs.Seen.{Seen}
-use Rattle.server_model.specs.Walk.{walk_of}
+use Rattle.server_model.specs.meaning.Walk.{walk_of}
 use Rattle.world_model.specs.records.Basic.{none_behind, lives_rightly}
 use Rattle.world_model.specs.Orderly.{Orderly}
-use Rattle.world_model.specs.Links.{Link, link_at}
+use Rattle.world_model.specs.meaning.Links.{Link, link_at}
 use Rattle.world_model.specs.Parts.{implies}
 use Rattle.world_model.specs.Reached.{Reached}
 use Rattle.world_model.specs.records.Ready.{all_requests_right}

@@ -12,19 +12,19 @@ use Rattle.svc_values.specs.declared.frame.Down.TheVariants as down
 use Rattle.svc_values.specs.declared.frame.Up.{Up}
 use Rattle.svc_values.specs.declared.frame.Up.TheVariants as up
 use Rattle.svc_values.specs.declared.value.Value.{Value}
-use Rattle.svc_values.specs.Same.{same_answers, same_bool, same_call, same_draws}
+use Rattle.svc_values.specs.meaning.Same.{same_answers, same_bool, same_call, same_draws}
 use Rattle.svc_values.specs.SameLaws.{same_answers_decide, same_call_decides, same_draws_decide}
-use Rattle.svc_values.specs.Identifiers.{same_ltxid}
+use Rattle.svc_values.specs.meaning.Identifiers.{same_ltxid}
 use Rattle.outage_schedule.specs.declared.item.Item.{Item}
 use Rattle.outage_schedule.specs.declared.item.Item.TheVariants as item
 use Rattle.outage_schedule.specs.declared.note.AskResult.{AskResult}
-use Rattle.server_model.specs.Items.{Thing, Connected, Began, Called, MetBlock, EndedRequest, Closed, Refused, CallStopped, OutcomeStopped, thing_of, of_outcome}
-use Rattle.server_model.specs.Outcomes.{telling_of}
-use Rattle.world_model.specs.Crashing.{is_crashed_item}
-use Rattle.world_model.specs.Frames.{Owner, Sent, Handled}
-use Rattle.world_model.specs.Links.{Link}
+use Rattle.server_model.specs.meaning.Items.{Thing, Connected, Began, Called, MetBlock, EndedRequest, Closed, Refused, CallStopped, OutcomeStopped, thing_of, of_outcome}
+use Rattle.server_model.specs.meaning.Outcomes.{telling_of}
+use Rattle.world_model.specs.meaning.Crashing.{is_crashed_item}
+use Rattle.world_model.specs.meaning.Frames.{Owner, Sent, Handled}
+use Rattle.world_model.specs.meaning.Links.{Link}
 use Rattle.world_model.specs.Sames.{same_up, same_sent, same_owners, is_front}
-use Rattle.world_model.specs.Serving.{is_item_of, reply_of}
+use Rattle.world_model.specs.meaning.Serving.{is_item_of, reply_of}
 use Rattle.invariant_laws.specs.SessionHistory.{told_with}
 use Rattle.invariant_laws.specs.Shown.{is_call}
 use Rattle.world_model.specs.records.Wire.{up_of, is_sent_front, same_replies, is_handled, Stage, New, Told, Repeated, Begun, Rested, Shut, Wrong, stage_if, next_stage, stage_of, is_right}

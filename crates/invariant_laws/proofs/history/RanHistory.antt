@@ -7,16 +7,17 @@ use Rattle.svc_values.specs.declared.entry.Ltxid.{Ltxid}
 use Rattle.svc_values.specs.declared.entry.SessionId.{SessionId}
 use Rattle.svc_values.specs.declared.frame.Down.TheVariants as down
 use Rattle.svc_values.specs.declared.frame.Up.{Up}
-use Rattle.svc_values.specs.Identifiers.{same_session}
-use Rattle.server_model.specs.Base.{Base}
-use Rattle.server_model.specs.Items.{Thing, Began, Called, CallStopped, Item, Did, thing_of, asked_of, items_from}
-use Rattle.server_model.specs.Legal.{item_holds, items_hold, all_stored}
-use Rattle.server_model.specs.Outcomes.{Telling, Silent, Says, Stopped}
+use Rattle.svc_values.specs.meaning.Identifiers.{same_session}
+use Rattle.server_model.specs.meaning.Base.{Base}
+use Rattle.server_model.specs.meaning.Items.{Thing, Began, Called, CallStopped, Item, Did, thing_of, asked_of}
+use Rattle.server_model.specs.Items.{items_from}
+use Rattle.server_model.specs.meaning.Legal.{item_holds, items_hold, all_stored}
+use Rattle.server_model.specs.meaning.Outcomes.{Telling, Silent, Says, Stopped}
 use Rattle.server_model.specs.Runs.{Happened, Served, Asked}
-use Rattle.server_model.specs.Walk.{Transaction, Walk, deed_of, entered, after}
+use Rattle.server_model.specs.meaning.Walk.{Transaction, Walk, deed_of, entered, after}
 use Rattle.world_model.specs.records.Basic.{is_stopped, none_behind}
-use Rattle.world_model.specs.Serving.{is_last}
-use Rattle.world_model.specs.Frames.{Handled}
+use Rattle.world_model.specs.meaning.Serving.{is_last}
+use Rattle.world_model.specs.meaning.Frames.{Handled}
 use Rattle.invariant_laws.specs.Same.{Ran, ran_item}
 use Rattle.invariant_laws.specs.SessionHistory.{served_in, told_with, told_of}
 use Rattle.invariant_laws.specs.Shown.{is_call}

@@ -7,9 +7,9 @@ use Rattle.std.proofs.lemmas.List.Elements.{filter-append}
 use Rattle.svc_values.specs.declared.entry.Entry.{Entry}
 use Rattle.svc_values.specs.declared.entry.SessionId.{SessionId}
 use Rattle.svc_values.specs.declared.value.Value.{Value}
-use Rattle.svc_values.specs.Identifiers.{is_of}
-use Rattle.svc_values.specs.SettingsList.{same_settings}
-use Rattle.server_model.specs.Walk.{number_of}
+use Rattle.svc_values.specs.meaning.Identifiers.{is_of}
+use Rattle.svc_values.specs.meaning.SettingsList.{same_settings}
+use Rattle.server_model.specs.meaning.Walk.{number_of}
 use Rattle.world_model.specs.Parts.{implies}
 use Rattle.invariant_laws.specs.Same.{ServedCall, Ran, are_pieces}
 use Rattle.world_model.proofs.Offered.{get_further, get_last}

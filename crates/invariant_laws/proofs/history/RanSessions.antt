@@ -16,16 +16,16 @@ use Rattle.svc_values.specs.declared.entry.Piece.{Piece}
 use Rattle.svc_values.specs.declared.entry.SessionId.{SessionId}
 use Rattle.svc_values.specs.declared.frame.Up.{Up}
 use Rattle.svc_values.specs.declared.value.Value.{Value}
-use Rattle.svc_values.specs.Endings.{last_answer, ends_committed, is_committed, is_conflict, is_rolled_back}
-use Rattle.svc_values.specs.Identifiers.{is_of, same_session}
-use Rattle.svc_values.specs.Same.{same_piece, same_call}
+use Rattle.svc_values.specs.meaning.Endings.{last_answer, ends_committed, is_committed, is_conflict, is_rolled_back}
+use Rattle.svc_values.specs.meaning.Identifiers.{is_of, same_session}
+use Rattle.svc_values.specs.meaning.Same.{same_piece, same_call}
 use Rattle.svc_values.specs.SameLaws.{same_call_decides, same_piece_decides}
-use Rattle.svc_values.specs.SettingsList.{same_settings, with_set}
+use Rattle.svc_values.specs.meaning.SettingsList.{same_settings, with_set}
 use Rattle.outage_schedule.specs.declared.item.Item.{Item as ItemTold}
 use Rattle.outage_schedule.specs.declared.item.Item.TheVariants as item
-use Rattle.server_model.specs.Items.{Thing, Began, Called, CallStopped}
-use Rattle.server_model.specs.Walk.{Transaction, begun, Walk, with_transaction, transaction_in, number_of, next_of, is_ending, ends, if_ended}
-use Rattle.world_model.specs.Frames.{Sent}
+use Rattle.server_model.specs.meaning.Items.{Thing, Began, Called, CallStopped}
+use Rattle.server_model.specs.meaning.Walk.{Transaction, begun, Walk, with_transaction, transaction_in, number_of, next_of, is_ending, ends, if_ended}
+use Rattle.world_model.specs.meaning.Frames.{Sent}
 use Rattle.invariant_laws.specs.Same.{ServedCall, Ran, begins, is_no_commit, did_all, with_call, ran_item, is_piece_of, are_pieces}
 use Rattle.invariant_laws.specs.Shown.{is_call}
 use Rattle.world_model.proofs.Offered.{weaker_all, session_self, same_session_is}

@@ -10,10 +10,10 @@ use Rattle.svc_values.specs.declared.draw.Draw.{Draw}
 use Rattle.svc_values.specs.declared.schema.Shape.{Shape}
 use Rattle.svc_values.specs.declared.tables.PlainRow.{PlainRow}
 use Rattle.svc_values.specs.declared.value.Value.{Value}
-use Rattle.svc_values.specs.Same.{same_value}
+use Rattle.svc_values.specs.meaning.Same.{same_value}
 use Rattle.svc_values.specs.SameLaws.{bytes_decide, same_value_decides}
-use Rattle.svc_values.specs.SettingsList.{NamedValues, same_settings, with_set}
-use Rattle.stmt_meaning.specs.Meaning.{AllDone, Meant, mean, statements_done, worked}
+use Rattle.svc_values.specs.meaning.SettingsList.{NamedValues, same_settings, with_set}
+use Rattle.stmt_meaning.specs.meaning.Meaning.{AllDone, Meant, mean, statements_done, worked}
 use Rattle.invariant_laws.specs.Same.{Ran, with_call}
 use Rattle.world_model.proofs.Offered.{same_some}
 

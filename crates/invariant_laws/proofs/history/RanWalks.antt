@@ -13,19 +13,19 @@ use Rattle.svc_values.specs.declared.entry.Ltxid.{Ltxid}
 use Rattle.svc_values.specs.declared.entry.Piece.{Piece}
 use Rattle.svc_values.specs.declared.entry.SessionId.{SessionId}
 use Rattle.svc_values.specs.declared.value.Value.{Value}
-use Rattle.svc_values.specs.Calls.{has_commit}
-use Rattle.svc_values.specs.Endings.{is_committed, ends_committed}
-use Rattle.svc_values.specs.Identifiers.{same_ltxid}
-use Rattle.svc_values.specs.Same.{same_piece}
-use Rattle.svc_values.specs.SettingsList.{same_settings, with_set}
+use Rattle.svc_values.specs.meaning.Calls.{has_commit}
+use Rattle.svc_values.specs.meaning.Endings.{is_committed, ends_committed}
+use Rattle.svc_values.specs.meaning.Identifiers.{same_ltxid}
+use Rattle.svc_values.specs.meaning.Same.{same_piece}
+use Rattle.svc_values.specs.meaning.SettingsList.{same_settings, with_set}
 use Rattle.svc_values.specs.SameLaws.{same_ltxid_decides, same_piece_decides}
-use Rattle.stmt_meaning.specs.Meaning.{Meant}
-use Rattle.stmt_meaning.specs.SerialTest.{is_nil}
-use Rattle.server_model.specs.Base.{Base}
-use Rattle.server_model.specs.Items.{Thing, Began, Called, MetBlock, TellsOutcome, CallStopped, OutcomeStopped, Outcome, Uncommitted, Item, Did, AskTold, AskStopped}
-use Rattle.server_model.specs.Legal.{answers_hold, is_free, is_first_entry, stores, draws_hold, deed_holds, is_of_now, item_holds}
-use Rattle.server_model.specs.NewValues.{opened}
-use Rattle.server_model.specs.Walk.{Transaction, begun, Walk, with_transaction, transaction_in, next_of, Performed, stands, if_stands, performed_by, Deed, Ran, meaning, deed, with_meaning, deed_of, is_ending, ends, with_call, if_ended, take_entry, if_commits, with_numbers, stopped, after_deed, if_uncommitted, if_nothing, entered, after, view}
+use Rattle.stmt_meaning.specs.meaning.Meaning.{Meant}
+use Rattle.stmt_meaning.specs.meaning.SerialTest.{is_nil}
+use Rattle.server_model.specs.meaning.Base.{Base}
+use Rattle.server_model.specs.meaning.Items.{Thing, Began, Called, MetBlock, TellsOutcome, CallStopped, OutcomeStopped, Outcome, Uncommitted, Item, Did, AskTold, AskStopped}
+use Rattle.server_model.specs.meaning.Legal.{answers_hold, is_free, is_first_entry, stores, draws_hold, deed_holds, is_of_now, item_holds}
+use Rattle.server_model.specs.meaning.NewValues.{opened}
+use Rattle.server_model.specs.meaning.Walk.{Transaction, begun, Walk, with_transaction, transaction_in, next_of, Performed, stands, if_stands, performed_by, Deed, Ran, meaning, deed, with_meaning, deed_of, is_ending, ends, with_call, if_ended, take_entry, if_commits, with_numbers, stopped, after_deed, if_uncommitted, if_nothing, entered, after, view}
 use Rattle.world_model.proofs.Offered.{same_some}
 use Rattle.invariant_laws.proofs.history.RanSettings.{mean_settings}
 

@@ -5,13 +5,13 @@ use Rattle.std.proofs.lemmas.Bool.{and_parts}
 use Rattle.outage_schedule.specs.declared.item.Item.{Item}
 use Rattle.outage_schedule.specs.declared.item.Served.{Served}
 use Rattle.client_model.specs.declared.input.Input.TheVariants.{Took}
-use Rattle.world_model.specs.Crashing.{is_stopped}
-use Rattle.world_model.specs.Frames.{Handled}
+use Rattle.world_model.specs.meaning.Crashing.{is_stopped}
+use Rattle.world_model.specs.meaning.Frames.{Handled}
 use Rattle.world_model.specs.Orderly.{Orderly}
-use Rattle.world_model.specs.Links.{Link, link_at, takes}
-use Rattle.world_model.specs.Machines.{Machine}
-use Rattle.world_model.specs.Matching.{Noted}
-use Rattle.world_model.specs.Serving.{Front, front_at, is_ordinary, after_front, handled}
+use Rattle.world_model.specs.meaning.Links.{Link, link_at, takes}
+use Rattle.world_model.specs.meaning.Machines.{Machine}
+use Rattle.world_model.specs.meaning.Matching.{Noted}
+use Rattle.world_model.specs.meaning.Serving.{Front, front_at, is_ordinary, after_front, handled}
 use Rattle.world_model.specs.Traced.{Traced}
 use Rattle.world_model.proofs.Offered.{at_link, append_all, one_all, sends_alike, handled_alike, cut_case, fallen_case, serves_at, at_event, held_now, Happens, by_number, Turns, Stays, TurningIsSaid as IsSaid, IsTaken, IsServed, IsCut, IsReaped, HasFallen, WasStopped, WasServed, ComesFrom, IsNew, IsOld, all_turn}
 

@@ -4,8 +4,8 @@ use Rattle.std.specs.Prelude.{All}
 use Rattle.std.proofs.lemmas.List.Elements.{All-head, All-tail}
 use Rattle.svc_values.specs.declared.entry.SessionId.{SessionId}
 use Rattle.svc_values.specs.declared.frame.Up.{Up}
-use Rattle.svc_values.specs.Identifiers.{same_session}
-use Rattle.server_model.specs.Outcomes.{Telling}
+use Rattle.svc_values.specs.meaning.Identifiers.{same_session}
+use Rattle.server_model.specs.meaning.Outcomes.{Telling}
 use Rattle.server_model.specs.Runs.{Happened, Served, Asked}
 use Rattle.server_model.specs.ServiceCalls.{IsOf}
 use Rattle.invariant_laws.specs.SessionHistory.{served_in}

@@ -10,22 +10,22 @@ use Rattle.outage_schedule.specs.declared.document.Document.{Document}
 use Rattle.outage_schedule.specs.declared.event.Event.{Event}
 use Rattle.outage_schedule.specs.declared.item.Served.{Served}
 use Rattle.outage_schedule.specs.declared.note.Note.{Note}
-use Rattle.server_model.specs.Outcomes.{Telling}
+use Rattle.server_model.specs.meaning.Outcomes.{Telling}
 use Rattle.server_model.specs.Runs.{Happened, Served as ServedFrame}
 use Rattle.server_model.specs.Seen.{Seen}
 use Rattle.world_model.specs.records.Basic.{is_made, sessions_of}
-use Rattle.world_model.specs.Frames.{Handled}
+use Rattle.world_model.specs.meaning.Frames.{Handled}
 use Rattle.world_model.specs.records.Hold.{is_connect}
 use Rattle.world_model.specs.Orderly.{Orderly}
-use Rattle.world_model.specs.Links.{Link, link_at}
-use Rattle.world_model.specs.Machines.{next_session}
+use Rattle.world_model.specs.meaning.Links.{Link, link_at}
+use Rattle.world_model.specs.meaning.Machines.{next_session}
 use Rattle.world_model.specs.OneEvent.{OneEvent, session_outside}
 use Rattle.world_model.specs.Reached.{Reached, Begins, GoesOn}
 use Rattle.world_model.specs.records.Ready.{all_requests_right}
 use Rattle.world_model.specs.RunLaws.{RunsAreOrderly}
 use Rattle.invariant_laws.specs.SameLaws.{RunsServe}
-use Rattle.world_model.specs.ServiceDid.{front_telling}
-use Rattle.world_model.specs.Serving.{Front, front_at, is_of_front}
+use Rattle.world_model.specs.meaning.ServiceDid.{front_telling}
+use Rattle.world_model.specs.meaning.Serving.{Front, front_at, is_of_front}
 use Rattle.invariant_laws.specs.SessionHistory.{served_in, told_of, served_on}
 use Rattle.world_model.specs.Traced.{Traced}
 use Rattle.world_model.proofs.Offered.{front_is, at_link, all_wired, connect_first, session_in, made_before, at_event, made_law, grown, grows_made, other_session, is_wired, wired_sent, wired_right, serving, apart, made, same_some, connect_session, not_both}

@@ -5,7 +5,7 @@ use Rattle.svc_values.specs.declared.entry.SessionId.{SessionId}
 use Rattle.svc_values.specs.declared.frame.Down.{Down}
 use Rattle.svc_values.specs.declared.frame.Up.{Up}
 use Rattle.svc_values.specs.declared.frame.Up.TheVariants as up
-use Rattle.svc_values.specs.Identifiers.{same_session}
+use Rattle.svc_values.specs.meaning.Identifiers.{same_session}
 use Rattle.client_model.specs.declared.input.Input.TheVariants.{Took}
 use Rattle.outage_schedule.specs.declared.event.Event.{Event}
 use Rattle.outage_schedule.specs.declared.event.Event.TheVariants as event
@@ -17,26 +17,27 @@ use Rattle.outage_schedule.specs.declared.note.Note.{Note}
 use Rattle.outage_schedule.specs.declared.note.Note.TheVariants as note
 use Rattle.server_model.specs.Runs.{Happened, Served as ServedFrame}
 use Rattle.server_model.specs.Seen.{Seen}
-use Rattle.server_model.specs.ServiceCalls.{is_failover}
+use Rattle.server_model.specs.meaning.ServiceCalls.{is_failover}
 use Rattle.service_calls.specs.Answers.{runs_of}
-use Rattle.world_model.specs.Acting.{sent_by}
-use Rattle.world_model.specs.Crashing.{is_crashed_item, is_stopped, is_over, serves_last, after_stopped, falls, crashes, fallen_link}
+use Rattle.world_model.specs.meaning.Acting.{sent_by}
+use Rattle.world_model.specs.meaning.Crashing.{is_crashed_item, is_stopped, is_over, serves_last, after_stopped, falls, crashes, fallen_link}
 use Rattle.world_model.specs.Orderly.{Orderly}
-use Rattle.world_model.specs.Links.{Link, new_link, link_at, with_link, ends, takes}
-use Rattle.world_model.specs.Machines.{Machine, next_session}
-use Rattle.world_model.specs.Matching.{Noted, Went, ServedOn, CutOff, Reaped, Crashed, Opened, OpeningStopped, Ticked, RanOutside, Asked, Drained, matched}
-use Rattle.world_model.specs.Noting.{only_if, same_name, name_of}
+use Rattle.world_model.specs.meaning.Links.{Link, new_link, link_at, with_link, ends, takes}
+use Rattle.world_model.specs.meaning.Machines.{Machine, next_session}
+use Rattle.world_model.specs.meaning.Matching.{Noted, Went, ServedOn, CutOff, Reaped, Crashed, Opened, OpeningStopped, Ticked, RanOutside, Asked, Drained, matched}
+use Rattle.world_model.specs.meaning.Noting.{only_if, same_name, name_of}
 use Rattle.world_model.specs.OneEvent.{OneEvent, session_outside}
-use Rattle.world_model.specs.ServiceDid.{ServiceDid, item_telling, front_served, front_telling}
-use Rattle.world_model.specs.Serving.{Front, front_at, is_of_front, is_ordinary, is_item_of, reply_of, commits_after, is_blocked, after_front, handled, serves, after_served}
+use Rattle.world_model.specs.meaning.ServiceDid.{item_telling, front_telling}
+use Rattle.world_model.specs.ServiceDid.{ServiceDid, front_served}
+use Rattle.world_model.specs.meaning.Serving.{Front, front_at, is_of_front, is_ordinary, is_item_of, reply_of, commits_after, is_blocked, after_front, handled, serves, after_served}
 use Rattle.invariant_laws.specs.SessionHistory.{served_in, told_with}
 use Rattle.world_model.specs.Traced.{Traced}
 use Rattle.world_model.proofs.Offered.{front_is, sends_alike, cut_case, ends_case, fallen_case, if_by, outside_next, serves_at, Followed, follow_happens, at_event, held_now, reaches, reaches_if, mapped, only_is, pair_is, reached_is, with_others, with_own, only_met, same_session_is, session_self, not_both, Turns, Stays, TurningIsSaid as IsSaid, IsTaken, IsServed, IsCut, IsReaped, HasFallen, WasStopped, WasServed, ComesFrom, IsNew, IsOld, all_turn, either, some_same, fallen_at}
 use Rattle.invariant_laws.proofs.history.SessionLists.{none_other}
 use Rattle.invariant_laws.proofs.losses.ShutStays.{mapped_at}
 use Rattle.std.specs.Prelude.{option_and_then}
-use Rattle.world_model.specs.Settings.{Setting}
-use Rattle.world_model.specs.Walking.{by_kind}
+use Rattle.world_model.specs.meaning.Settings.{Setting}
+use Rattle.world_model.specs.meaning.Walking.{by_kind}
 
 -- the note is one of this event
 pub noted_kind : (setting : Setting) (m n : Machine) (items left : List Served) (test : Bool) (kind : Noted) → option_and_then (by_kind setting m items) (only_if test kind) ≡ Some (n, left) → by_kind setting m items kind ≡ Some (n, left)

@@ -11,13 +11,13 @@ use Rattle.client_model.specs.declared.act.Hold.{Hold}
 use Rattle.client_model.specs.declared.act.Shown.{Shown}
 use Rattle.client_model.specs.declared.input.Input.{Input}
 use Rattle.client_model.specs.declared.input.Input.TheVariants.{Start, Waiting, Lent, Opened, TryFailed, Took, Gone}
-use Rattle.client_model.specs.States.{Living}
-use Rattle.client_model.specs.Talk.{talk_step}
-use Rattle.client_model.specs.Terms.{Running}
-use Rattle.world_model.specs.Clients.{Doing, Step}
-use Rattle.world_model.specs.Frames.{Owner}
+use Rattle.client_model.specs.meaning.States.{Living}
+use Rattle.client_model.specs.meaning.Talk.{talk_step}
+use Rattle.client_model.specs.meaning.Terms.{Running}
+use Rattle.world_model.specs.meaning.Clients.{Doing, Step}
+use Rattle.world_model.specs.meaning.Frames.{Owner}
 use Rattle.world_model.specs.Orderly.{Orderly}
-use Rattle.world_model.specs.Machines.{Machine}
+use Rattle.world_model.specs.meaning.Machines.{Machine}
 use Rattle.invariant_laws.specs.Once.{are_apart}
 use Rattle.world_model.specs.Parts.{Sending, Scan, answered, with_taken}
 use Rattle.world_model.specs.Traced.{Traced}

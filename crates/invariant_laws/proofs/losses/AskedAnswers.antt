@@ -10,7 +10,7 @@ use Rattle.svc_values.specs.declared.frame.Down.{Down}
 use Rattle.svc_values.specs.declared.frame.Down.TheVariants as down
 use Rattle.svc_values.specs.declared.frame.Up.{Up}
 use Rattle.svc_values.specs.declared.frame.Up.TheVariants as up
-use Rattle.svc_values.specs.Same.{same_bool}
+use Rattle.svc_values.specs.meaning.Same.{same_bool}
 use Rattle.svc_values.specs.SameLaws.{same_ltxid_decides, same_bool_decides}
 use Rattle.outage_schedule.specs.declared.item.Item.{Item}
 use Rattle.outage_schedule.specs.declared.item.Item.TheVariants as item
@@ -18,16 +18,16 @@ use Rattle.outage_schedule.specs.declared.note.AskResult.{AskResult}
 use Rattle.outage_schedule.specs.declared.note.AskResult.TheVariants as told
 use Rattle.client_model.specs.declared.input.Input.{Input}
 use Rattle.client_model.specs.declared.input.Input.TheVariants.{Took}
-use Rattle.client_model.specs.States.{Asking}
-use Rattle.client_model.specs.Terms.{Phase, Asked}
-use Rattle.world_model.specs.Frames.{Handled}
+use Rattle.client_model.specs.meaning.States.{Asking}
+use Rattle.client_model.specs.meaning.Terms.{Phase, Asked}
+use Rattle.world_model.specs.meaning.Frames.{Handled}
 use Rattle.world_model.specs.records.Hold.{is_ask, is_awaited}
 use Rattle.world_model.specs.Orderly.{Orderly}
-use Rattle.world_model.specs.Links.{Link, link_at}
-use Rattle.world_model.specs.Machines.{Machine}
+use Rattle.world_model.specs.meaning.Links.{Link, link_at}
+use Rattle.world_model.specs.meaning.Machines.{Machine}
 use Rattle.world_model.specs.Parts.{is_rep, served_reps}
 use Rattle.world_model.specs.Sames.{same_ahead, same_down, same_owners, same_sent, same_up}
-use Rattle.world_model.specs.Serving.{is_item_of, outcome_frame}
+use Rattle.world_model.specs.meaning.Serving.{is_item_of, outcome_frame}
 use Rattle.invariant_laws.specs.Shown.{stands, outcome_stands, answers_stand}
 use Rattle.world_model.specs.Traced.{Traced}
 use Rattle.world_model.proofs.Offered.{at_link, filter_all, HasStepped, at_event, known_of, Known, IsLast, first_step, first_doing}

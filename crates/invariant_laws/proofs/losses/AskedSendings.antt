@@ -9,20 +9,20 @@ use Rattle.std.proofs.lemmas.Bool.{and_parts, and_from}
 use Rattle.std.proofs.lemmas.List.Folds.{list_all-append}
 use Rattle.svc_values.specs.declared.entry.Ltxid.{Ltxid}
 use Rattle.svc_values.specs.declared.frame.Down.TheVariants as down
-use Rattle.svc_values.specs.Calls.{has_commit}
-use Rattle.svc_values.specs.Identifiers.{same_ltxid}
-use Rattle.svc_values.specs.Same.{same_bool}
+use Rattle.svc_values.specs.meaning.Calls.{has_commit}
+use Rattle.svc_values.specs.meaning.Identifiers.{same_ltxid}
+use Rattle.svc_values.specs.meaning.Same.{same_bool}
 use Rattle.svc_values.specs.SameLaws.{same_ltxid_decides}
 use Rattle.outage_schedule.specs.declared.document.Request.{Request}
-use Rattle.run_clauses.specs.Outcomes.{completed_of}
+use Rattle.run_clauses.specs.meaning.Outcomes.{completed_of}
 use Rattle.client_model.specs.declared.input.Input.TheVariants.{Took}
-use Rattle.client_model.specs.States.{Asking}
-use Rattle.client_model.specs.Terms.{Phase, Asked}
-use Rattle.world_model.specs.Clients.{Client, Doing, begun, client_at}
+use Rattle.client_model.specs.meaning.States.{Asking}
+use Rattle.client_model.specs.meaning.Terms.{Phase, Asked}
+use Rattle.world_model.specs.meaning.Clients.{Client, Doing, begun, client_at}
 use Rattle.invariant_laws.specs.Invariant.{Invariant}
-use Rattle.world_model.specs.Links.{Link, link_at}
+use Rattle.world_model.specs.meaning.Links.{Link, link_at}
 use Rattle.invariant_laws.specs.Lost.{lost_links, is_wanted, same_event, is_next, is_asked_next, wants_next}
-use Rattle.world_model.specs.Machines.{Machine}
+use Rattle.world_model.specs.meaning.Machines.{Machine}
 use Rattle.world_model.specs.records.Number.{is_ahead, ahead_rightly}
 use Rattle.invariant_laws.specs.Once.{has_fate, notes_sendings}
 use Rattle.world_model.specs.Parts.{Sending, implies, scan_of, sendings_of, commit_sendings}

@@ -12,26 +12,26 @@ use Rattle.svc_values.specs.declared.frame.Up.{Up}
 use Rattle.svc_values.specs.SameLaws.{same_ltxid_decides}
 use Rattle.outage_schedule.specs.declared.item.Served.{Served}
 use Rattle.outage_schedule.specs.declared.request.Outcome.{Outcome}
-use Rattle.pool_core.specs.Slots.{give_back_answer}
-use Rattle.run_clauses.specs.Reports.{failure_of}
+use Rattle.pool_core.specs.meaning.Slots.{give_back_answer}
+use Rattle.run_clauses.specs.meaning.Reports.{failure_of}
 use Rattle.client_model.specs.declared.act.Act.{Act}
 use Rattle.client_model.specs.declared.act.Failed.{Failed}
 use Rattle.client_model.specs.declared.act.Hold.{Hold}
 use Rattle.client_model.specs.declared.act.Hold.TheVariants as hold
 use Rattle.client_model.specs.declared.input.Input.{Input}
 use Rattle.client_model.specs.declared.input.Input.TheVariants.{Start, Waiting, Lent, Opened, TryFailed, Took, Gone}
-use Rattle.client_model.specs.Talk.{Step, loses, talk_step}
-use Rattle.client_model.specs.Terms.{Phase, Greeting, Asked, Running, Replaying}
-use Rattle.world_model.specs.Acting.{frames_of, sent_by, call_in, owner_at}
-use Rattle.world_model.specs.Clients.{Doing}
+use Rattle.client_model.specs.meaning.Talk.{Step, loses, talk_step}
+use Rattle.client_model.specs.meaning.Terms.{Phase, Greeting, Asked, Running, Replaying}
+use Rattle.world_model.specs.meaning.Acting.{frames_of, sent_by, call_in, owner_at}
+use Rattle.world_model.specs.meaning.Clients.{Doing}
 use Rattle.world_model.specs.records.Conversing.{connected}
-use Rattle.world_model.specs.Frames.{Owner, Sent, Reply}
+use Rattle.world_model.specs.meaning.Frames.{Owner, Sent, Reply}
 use Rattle.world_model.specs.records.Hold.{goes_by, is_awaited}
 use Rattle.world_model.specs.Orderly.{Orderly}
-use Rattle.world_model.specs.Links.{Link, link_at, sends, takes}
+use Rattle.world_model.specs.meaning.Links.{Link, link_at, sends, takes}
 use Rattle.invariant_laws.specs.Lost.{lost_links, is_gone, submitted_on, ends_unknown, is_wanted, want_next}
-use Rattle.world_model.specs.Machines.{Machine}
-use Rattle.world_model.specs.Matching.{Noted}
+use Rattle.world_model.specs.meaning.Machines.{Machine}
+use Rattle.world_model.specs.meaning.Matching.{Noted}
 use Rattle.world_model.specs.Parts.{is_unmarked}
 use Rattle.world_model.specs.Sames.{owned_by}
 use Rattle.invariant_laws.specs.Shown.{answers_stand}

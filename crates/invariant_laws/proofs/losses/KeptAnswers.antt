@@ -9,10 +9,10 @@ use Rattle.svc_values.specs.declared.entry.Ltxid.{Ltxid}
 use Rattle.svc_values.specs.declared.frame.Up.{Up}
 use Rattle.svc_values.specs.declared.frame.Up.TheVariants as up
 use Rattle.svc_values.specs.declared.frame.Down.{Down}
-use Rattle.svc_values.specs.Identifiers.{same_ltxid, session_of}
-use Rattle.svc_values.specs.Same.{same_bool}
+use Rattle.svc_values.specs.meaning.Identifiers.{same_ltxid, session_of}
+use Rattle.svc_values.specs.meaning.Same.{same_bool}
 use Rattle.svc_values.specs.SameLaws.{same_ltxid_decides, same_bool_decides}
-use Rattle.ltxid_book.specs.Journal.{is_blocked}
+use Rattle.ltxid_book.specs.meaning.Journal.{is_blocked}
 use Rattle.outage_schedule.specs.declared.event.Event.{Event}
 use Rattle.outage_schedule.specs.declared.item.Item.{Item}
 use Rattle.outage_schedule.specs.declared.item.Item.TheVariants as item
@@ -20,26 +20,27 @@ use Rattle.outage_schedule.specs.declared.item.Served.{Served}
 use Rattle.outage_schedule.specs.declared.note.Note.{Note}
 use Rattle.outage_schedule.specs.declared.note.AskResult.{AskResult}
 use Rattle.outage_schedule.specs.declared.note.AskResult.TheVariants as told
-use Rattle.run_clauses.specs.EntryEvents.{entries_of}
-use Rattle.run_clauses.specs.Outcomes.{completed_of}
-use Rattle.run_clauses.specs.Tried.{holds}
-use Rattle.server_model.specs.Base as base
+use Rattle.run_clauses.specs.meaning.EntryEvents.{entries_of}
+use Rattle.run_clauses.specs.meaning.Outcomes.{completed_of}
+use Rattle.run_clauses.specs.meaning.Tried.{holds}
+use Rattle.server_model.specs.meaning.Base as base
 use Rattle.server_model.specs.Core.{all_entries, all_blocked}
 use Rattle.server_model.specs.Laws.{CommitsAs, LastOf}
-use Rattle.server_model.specs.Outcomes.{Says, down_of, verdict_on}
+use Rattle.server_model.specs.meaning.Outcomes.{Says}
+use Rattle.server_model.specs.Outcomes.{down_of, verdict_on}
 use Rattle.server_model.specs.Runs.{Happened, Served as ServedFrame, Server, Runs}
 use Rattle.server_model.specs.Seen.{Seen}
 use Rattle.server_model.proofs.Offered.{runs_last, blocks_are_stored, runs_keep_base}
-use Rattle.world_model.specs.Frames.{Handled}
+use Rattle.world_model.specs.meaning.Frames.{Handled}
 use Rattle.invariant_laws.specs.Invariant.{Invariant}
 use Rattle.invariant_laws.specs.KeptLaws.{IsKeptOfAll}
-use Rattle.world_model.specs.Links.{Link}
+use Rattle.world_model.specs.meaning.Links.{Link}
 use Rattle.world_model.specs.records.Number.{numbered_after}
 use Rattle.invariant_laws.specs.Shown.{stands, answers_stand}
 use Rattle.world_model.specs.OneEvent.{OneEvent}
-use Rattle.world_model.specs.ServiceDid.{item_telling, front_telling}
-use Rattle.world_model.specs.Serving.{Front, front_at, is_of_front, is_ordinary, is_item_of, commits_after, outcome_frame}
-use Rattle.world_model.specs.Crashing.{is_stopped, is_crashed_item}
+use Rattle.world_model.specs.meaning.ServiceDid.{item_telling, front_telling}
+use Rattle.world_model.specs.meaning.Serving.{Front, front_at, is_of_front, is_ordinary, is_item_of, commits_after, outcome_frame}
+use Rattle.world_model.specs.meaning.Crashing.{is_stopped, is_crashed_item}
 use Rattle.world_model.specs.Traced.{Traced}
 use Rattle.world_model.proofs.Offered.{front_is, weaker_all, IsAnswer, move_answer, blocked_holds, not_refused, verdict_committed, verdict_near, told_committed, told_server, told_client, commits_unmarked, one_of, gains_none, entries_more, at_event, numbered_now, happens_one, by as event_by, serves_at}
 use Rattle.invariant_laws.proofs.losses.AnswersStand.{stands_still}

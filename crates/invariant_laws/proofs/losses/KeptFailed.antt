@@ -8,25 +8,25 @@ use Rattle.svc_values.specs.SameLaws.{same_ltxid_decides}
 use Rattle.outage_schedule.specs.declared.failure.Failure.{Failure}
 use Rattle.outage_schedule.specs.declared.item.Served.{Served}
 use Rattle.outage_schedule.specs.declared.request.Outcome.{Outcome}
-use Rattle.run_clauses.specs.Reports.{failure_of, failed_in, report_of}
+use Rattle.run_clauses.specs.meaning.Reports.{failure_of, failed_in, report_of}
 use Rattle.client_model.specs.declared.act.Failed.{Failed}
 use Rattle.client_model.specs.declared.act.Hold.{Hold}
 use Rattle.client_model.specs.declared.act.Hold.TheVariants as hold
 use Rattle.client_model.specs.declared.input.Input.{Input}
 use Rattle.client_model.specs.declared.input.Input.TheVariants.{Took}
 use Rattle.client_model.specs.Conversation.{is_wanted, is_gone}
-use Rattle.client_model.specs.States.{Asking}
-use Rattle.client_model.specs.Talk.{Step, takes, talk_step, wants_in, wants_of}
-use Rattle.client_model.specs.Terms.{Terms, Talk, Phase, Idle, Asked}
-use Rattle.world_model.specs.Clients.{Doing}
+use Rattle.client_model.specs.meaning.States.{Asking}
+use Rattle.client_model.specs.meaning.Talk.{Step, takes, talk_step, wants_in, wants_of}
+use Rattle.client_model.specs.meaning.Terms.{Terms, Talk, Phase, Idle, Asked}
+use Rattle.world_model.specs.meaning.Clients.{Doing}
 use Rattle.world_model.specs.Orderly.{Orderly}
 use Rattle.invariant_laws.specs.KeptLaws.{IsKeptOfAll}
-use Rattle.world_model.specs.Links.{Link}
+use Rattle.world_model.specs.meaning.Links.{Link}
 use Rattle.invariant_laws.specs.Lost.{fails_incomplete, is_told, is_failed_by, fail_incomplete}
-use Rattle.world_model.specs.Machines.{Machine}
-use Rattle.world_model.specs.Matching.{Noted}
+use Rattle.world_model.specs.meaning.Machines.{Machine}
+use Rattle.world_model.specs.meaning.Matching.{Noted}
 use Rattle.world_model.specs.Parts.{implies}
-use Rattle.world_model.specs.Settings.{setting_of}
+use Rattle.world_model.specs.meaning.Settings.{setting_of}
 use Rattle.world_model.specs.Traced.{Traced, Course, courses_of}
 use Rattle.world_model.specs.Words.{dones_of}
 use Rattle.world_model.proofs.Offered.{append_all, weaker_all, HasStepped, GoesOn, AtOnce, LostToo, happens_step, Followed, follow_happens, at_event, resting_none, Happens, first_step, first_doing, before_talks}

@@ -10,17 +10,17 @@ use Rattle.client_model.specs.declared.act.Hold.{Hold}
 use Rattle.client_model.specs.declared.act.Hold.TheVariants as hold
 use Rattle.client_model.specs.declared.input.Input.{Input}
 use Rattle.client_model.specs.declared.input.Input.TheVariants.{Start, Waiting, Lent, Opened, TryFailed, Took, Gone}
-use Rattle.world_model.specs.Clients.{Doing, Client, client_at, after_hold}
+use Rattle.world_model.specs.meaning.Clients.{Doing, Client, client_at, after_hold}
 use Rattle.world_model.specs.records.Conversing.{connected}
 use Rattle.world_model.specs.records.Hold.{idle_of, is_idle, is_had, are_had, holders_of, is_held}
-use Rattle.world_model.specs.Frames.{Sent}
+use Rattle.world_model.specs.meaning.Frames.{Sent}
 use Rattle.world_model.specs.Orderly.{Orderly}
 use Rattle.invariant_laws.specs.KeptLaws.{IsKeptOfAll}
-use Rattle.world_model.specs.Links.{Link, link_at}
+use Rattle.world_model.specs.meaning.Links.{Link, link_at}
 use Rattle.invariant_laws.specs.Lost.{lost_links, is_without, is_gone, stay_gone}
-use Rattle.world_model.specs.Machines.{Machine}
-use Rattle.world_model.specs.Matching.{Noted}
-use Rattle.world_model.specs.Settings.{Setting, setting_of}
+use Rattle.world_model.specs.meaning.Machines.{Machine}
+use Rattle.world_model.specs.meaning.Matching.{Noted}
+use Rattle.world_model.specs.meaning.Settings.{Setting, setting_of}
 use Rattle.world_model.specs.Reached.{traced_start}
 use Rattle.world_model.specs.Traced.{Traced, Course, course_now, courses_of, courses_of_clients}
 use Rattle.world_model.specs.Words.{brought}

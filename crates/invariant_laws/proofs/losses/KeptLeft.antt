@@ -14,25 +14,25 @@ use Rattle.svc_values.specs.declared.frame.Up.TheVariants as up
 use Rattle.outage_schedule.specs.declared.item.Served.{Served}
 use Rattle.pool_core.specs.declared.answers.Back.{Back}
 use Rattle.pool_core.specs.declared.answers.Back.TheVariants as back
-use Rattle.pool_core.specs.Slots.{give_back_answer}
+use Rattle.pool_core.specs.meaning.Slots.{give_back_answer}
 use Rattle.client_model.specs.declared.act.Hold.{Hold}
 use Rattle.client_model.specs.declared.act.Hold.TheVariants as hold
 use Rattle.client_model.specs.declared.input.Input.{Input}
 use Rattle.client_model.specs.declared.input.Input.TheVariants.{Start, Waiting, Lent, Opened, TryFailed, Took, Gone}
-use Rattle.client_model.specs.Terms.{Phase}
-use Rattle.world_model.specs.Acting.{closing, frames_of, sent_by, call_in, owner_at}
-use Rattle.world_model.specs.Clients.{Client, Doing, Past, client_at}
-use Rattle.world_model.specs.Frames.{Owner, Sent, Reply}
+use Rattle.client_model.specs.meaning.Terms.{Phase}
+use Rattle.world_model.specs.meaning.Acting.{closing, frames_of, sent_by, call_in, owner_at}
+use Rattle.world_model.specs.meaning.Clients.{Client, Doing, Past, client_at}
+use Rattle.world_model.specs.meaning.Frames.{Owner, Sent, Reply}
 use Rattle.world_model.specs.Orderly.{Orderly}
 use Rattle.invariant_laws.specs.KeptLaws.{IsKeptOfAll}
-use Rattle.world_model.specs.Links.{Link, link_at, takes}
+use Rattle.world_model.specs.meaning.Links.{Link, link_at, takes}
 use Rattle.invariant_laws.specs.Lost.{has_last, is_its_call, left_none, leave_none}
-use Rattle.world_model.specs.Machines.{Machine}
-use Rattle.world_model.specs.Matching.{Noted}
+use Rattle.world_model.specs.meaning.Machines.{Machine}
+use Rattle.world_model.specs.meaning.Matching.{Noted}
 use Rattle.world_model.specs.Parts.{is_rep, is_out, is_unmarked, is_unmarked_frame, count_reps}
 use Rattle.world_model.specs.Reached.{traced_start}
 use Rattle.world_model.specs.Sames.{same_sent, same_reply, same_owner, owned_by, is_front}
-use Rattle.world_model.specs.Settings.{Setting, setting_of}
+use Rattle.world_model.specs.meaning.Settings.{Setting, setting_of}
 use Rattle.world_model.specs.Traced.{Traced, Course, course_over, courses_from, courses_of, courses_of_clients}
 use Rattle.world_model.specs.records.Wire.{up_of, is_sent_front, replies_of, is_reply_front, handled_from}
 use Rattle.world_model.specs.Words.{brought, held_in}

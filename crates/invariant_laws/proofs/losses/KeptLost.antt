@@ -7,24 +7,24 @@ use Rattle.std.specs.Option.{option_map_or}
 use Rattle.std.proofs.lemmas.Bool.{and_parts, and_from, or_cases, or_right, or_left}
 use Rattle.svc_values.specs.declared.entry.Entry.{Entry}
 use Rattle.svc_values.specs.declared.entry.Ltxid.{Ltxid}
-use Rattle.svc_values.specs.Identifiers.{same_ltxid, session_of}
-use Rattle.svc_values.specs.Same.{same_bool}
+use Rattle.svc_values.specs.meaning.Identifiers.{same_ltxid, session_of}
+use Rattle.svc_values.specs.meaning.Same.{same_bool}
 use Rattle.svc_values.specs.SameLaws.{same_ltxid_decides}
 use Rattle.outage_schedule.specs.declared.request.Outcome.{Outcome}
 use Rattle.commit_log.specs.Keeping.{EachKeeps}
 use Rattle.server_model.specs.Laws.{EntryNumbers}
-use Rattle.run_clauses.specs.EntryEvents.{entries_of}
-use Rattle.run_clauses.specs.Outcomes.{completed_of}
-use Rattle.run_clauses.specs.Tried.{holds}
+use Rattle.run_clauses.specs.meaning.EntryEvents.{entries_of}
+use Rattle.run_clauses.specs.meaning.Outcomes.{completed_of}
+use Rattle.run_clauses.specs.meaning.Tried.{holds}
 use Rattle.world_model.specs.records.Basic.{is_named, are_named}
 use Rattle.world_model.specs.Orderly.{Orderly}
 use Rattle.invariant_laws.specs.KeptLaws.{IsKeptOfAll}
-use Rattle.world_model.specs.Links.{Link, link_at}
+use Rattle.world_model.specs.meaning.Links.{Link, link_at}
 use Rattle.invariant_laws.specs.Lost.{lost_links, is_gone, outcome_on, is_nothing, is_pending, is_blocked, is_stored, nothing_left, is_settled, is_lost, lost_rightly, are_lost}
 use Rattle.world_model.specs.records.Number.{Number, numbered_after, is_near, is_ahead, ahead_rightly, last_served_made}
 use Rattle.world_model.specs.Parts.{number_of, held_number, is_out, is_commit_call}
 use Rattle.world_model.specs.Reached.{traced_start}
-use Rattle.world_model.specs.Settings.{setting_of}
+use Rattle.world_model.specs.meaning.Settings.{setting_of}
 use Rattle.invariant_laws.specs.Shown.{outcome_stands}
 use Rattle.world_model.specs.Traced.{Traced, Course, courses_of}
 use Rattle.invariant_laws.proofs.losses.AccountedLinks.{is_accounted, accounted_on, is_told_of}

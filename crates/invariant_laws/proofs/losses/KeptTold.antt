@@ -9,33 +9,34 @@ use Rattle.std.proofs.lemmas.List.{append-nil, map-append}
 use Rattle.svc_values.specs.declared.answer.Answer.{Answer}
 use Rattle.svc_values.specs.declared.entry.Ltxid.{Ltxid}
 use Rattle.svc_values.specs.declared.frame.Down.TheVariants as down
-use Rattle.svc_values.specs.Calls.{has_commit}
-use Rattle.svc_values.specs.Endings.{ends_committed}
-use Rattle.svc_values.specs.Identifiers.{same_ltxid}
+use Rattle.svc_values.specs.meaning.Calls.{has_commit}
+use Rattle.svc_values.specs.meaning.Endings.{ends_committed}
+use Rattle.svc_values.specs.meaning.Identifiers.{same_ltxid}
 use Rattle.outage_schedule.specs.declared.item.Served.{Served}
 use Rattle.outage_schedule.specs.declared.request.Outcome.{Outcome}
 use Rattle.outage_schedule.specs.declared.request.ShownCall.{ShownCall}
-use Rattle.run_clauses.specs.Reports.{shown_call, report_of}
+use Rattle.run_clauses.specs.meaning.Reports.{shown_call, report_of}
 use Rattle.client_model.specs.declared.act.Act.{Act}
 use Rattle.client_model.specs.declared.input.Input.{Input}
 use Rattle.client_model.specs.declared.input.Input.TheVariants.{Took}
-use Rattle.client_model.specs.Account.{Account, account_of, unheard}
-use Rattle.client_model.specs.States.{Asking}
-use Rattle.client_model.specs.Conversation.{Done, talk_after}
-use Rattle.client_model.specs.Talk.{next_call, talk_step}
-use Rattle.client_model.specs.Terms.{Terms, Talk, Phase, Asked}
+use Rattle.client_model.specs.meaning.Account.{Account, account_of, unheard}
+use Rattle.client_model.specs.meaning.States.{Asking}
+use Rattle.client_model.specs.meaning.Conversation.{Done}
+use Rattle.client_model.specs.Conversation.{talk_after}
+use Rattle.client_model.specs.meaning.Talk.{next_call, talk_step}
+use Rattle.client_model.specs.meaning.Terms.{Terms, Talk, Phase, Asked}
 use Rattle.client_model.proofs.Offered.{Fits, IsTalk, first_talks, last_talks, next_left}
-use Rattle.world_model.specs.Clients.{Doing}
+use Rattle.world_model.specs.meaning.Clients.{Doing}
 use Rattle.world_model.specs.records.Conversing.{Talks, inputs_of, first_talk}
 use Rattle.invariant_laws.specs.Invariant.{Invariant}
 use Rattle.world_model.specs.Orderly.{Orderly}
 use Rattle.invariant_laws.specs.KeptLaws.{IsKeptOfAll}
-use Rattle.world_model.specs.Links.{Link}
+use Rattle.world_model.specs.meaning.Links.{Link}
 use Rattle.invariant_laws.specs.Lost.{is_failed_by, is_told, are_told}
-use Rattle.world_model.specs.Machines.{Machine}
-use Rattle.world_model.specs.Matching.{Noted}
+use Rattle.world_model.specs.meaning.Machines.{Machine}
+use Rattle.world_model.specs.meaning.Matching.{Noted}
 use Rattle.world_model.specs.Parts.{Sending, answered, implies, sendings_of}
-use Rattle.world_model.specs.Settings.{setting_of}
+use Rattle.world_model.specs.meaning.Settings.{setting_of}
 use Rattle.world_model.specs.Traced.{Traced, Course, courses_of}
 use Rattle.world_model.specs.Words.{dones_of}
 use Rattle.world_model.proofs.Offered.{append_all, weaker_all, HasStepped, happens_step, Followed, follow_happens, at_event, resting_none, any_with, Happens, get_further, get_last, scan_by, heard_scan, after_sendings, account_now, first_step, first_doing, before_talks, eq_from}

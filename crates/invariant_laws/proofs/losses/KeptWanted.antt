@@ -7,26 +7,26 @@ use Rattle.std.specs.Option.{option_map_or}
 use Rattle.std.proofs.lemmas.Bool.{and_parts, and_from, or_right, or_left}
 use Rattle.std.proofs.lemmas.List.Folds.{list_any-append}
 use Rattle.svc_values.specs.declared.entry.Ltxid.{Ltxid}
-use Rattle.svc_values.specs.Identifiers.{same_ltxid}
-use Rattle.svc_values.specs.Same.{same_bool}
+use Rattle.svc_values.specs.meaning.Identifiers.{same_ltxid}
+use Rattle.svc_values.specs.meaning.Same.{same_bool}
 use Rattle.outage_schedule.specs.declared.item.Served.{Served}
 use Rattle.client_model.specs.declared.input.Input.{Input}
 use Rattle.client_model.specs.declared.input.Input.TheVariants.{Lent, Opened, Took}
-use Rattle.client_model.specs.Talk.{loses, talk_step, Step}
-use Rattle.client_model.specs.Terms.{Phase, Running}
+use Rattle.client_model.specs.meaning.Talk.{loses, talk_step, Step}
+use Rattle.client_model.specs.meaning.Terms.{Phase, Running}
 use Rattle.world_model.specs.records.Basic.{ends_rightly}
-use Rattle.world_model.specs.Clients.{Doing}
+use Rattle.world_model.specs.meaning.Clients.{Doing}
 use Rattle.world_model.specs.records.Conversing.{connected}
-use Rattle.world_model.specs.Frames.{Sent, Reply}
+use Rattle.world_model.specs.meaning.Frames.{Sent, Reply}
 use Rattle.world_model.specs.records.Hold.{goes_by, same_held, is_by_held, is_awaited}
 use Rattle.world_model.specs.Orderly.{Orderly}
 use Rattle.invariant_laws.specs.KeptLaws.{IsKeptOfAll}
-use Rattle.world_model.specs.Links.{Link, link_at, sends, takes}
+use Rattle.world_model.specs.meaning.Links.{Link, link_at, sends, takes}
 use Rattle.invariant_laws.specs.Lost.{lost_links, is_gone, is_wanted, same_event, wants_lost, want_lost, is_next, wants_next, want_next, is_asked_next, is_asked_for}
-use Rattle.world_model.specs.Machines.{Machine}
-use Rattle.world_model.specs.Matching.{Noted}
+use Rattle.world_model.specs.meaning.Machines.{Machine}
+use Rattle.world_model.specs.meaning.Matching.{Noted}
 use Rattle.world_model.specs.Reached.{traced_start}
-use Rattle.world_model.specs.Settings.{setting_of}
+use Rattle.world_model.specs.meaning.Settings.{setting_of}
 use Rattle.world_model.specs.Traced.{Traced, Course, courses_of}
 use Rattle.world_model.specs.Wanted.{Wanted, wanted_in}
 use Rattle.world_model.specs.Words.{brought, held_in}
@@ -41,11 +41,11 @@ use Rattle.svc_values.specs.declared.frame.Up.{Up}
 use Rattle.svc_values.specs.declared.frame.Up.TheVariants as up
 use Rattle.client_model.specs.declared.act.Act.{Act}
 use Rattle.client_model.specs.declared.act.Shown.{Shown}
-use Rattle.client_model.specs.States.{Living}
+use Rattle.client_model.specs.meaning.States.{Living}
 use Rattle.client_model.proofs.Offered.{Fits}
-use Rattle.pool_core.specs.Slots.{give_back_answer}
-use Rattle.run_clauses.specs.Reports.{shown_call}
-use Rattle.world_model.specs.Acting.{frames_of, sent_by, call_in, owner_at}
+use Rattle.pool_core.specs.meaning.Slots.{give_back_answer}
+use Rattle.run_clauses.specs.meaning.Reports.{shown_call}
+use Rattle.world_model.specs.meaning.Acting.{frames_of, sent_by, call_in, owner_at}
 use Rattle.world_model.specs.Parts.{implies, is_rep, is_out, out_frame, count_reps, is_unmarked, is_unmarked_frame}
 use Rattle.invariant_laws.proofs.rows.KeptRows.{before_on}
 use Rattle.invariant_laws.proofs.rows.RowCourses.{OnIt}

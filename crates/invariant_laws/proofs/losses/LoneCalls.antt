@@ -13,19 +13,19 @@ use Rattle.svc_values.specs.declared.entry.Piece.{Piece}
 use Rattle.svc_values.specs.declared.frame.Down.TheVariants as down
 use Rattle.svc_values.specs.declared.frame.Up.{Up}
 use Rattle.svc_values.specs.declared.frame.Up.TheVariants as up
-use Rattle.svc_values.specs.Calls.{is_lone_commit}
-use Rattle.svc_values.specs.Identifiers.{same_ltxid, session_of}
-use Rattle.svc_values.specs.Same.{same_bool, same_call, same_piece}
+use Rattle.svc_values.specs.meaning.Calls.{is_lone_commit}
+use Rattle.svc_values.specs.meaning.Identifiers.{same_ltxid, session_of}
+use Rattle.svc_values.specs.meaning.Same.{same_bool, same_call, same_piece}
 use Rattle.svc_values.specs.SameLaws.{same_bool_decides, same_call_decides, same_ltxid_decides, same_piece_decides}
-use Rattle.run_clauses.specs.Outcomes.{completed_of}
+use Rattle.run_clauses.specs.meaning.Outcomes.{completed_of}
 use Rattle.client_model.specs.declared.input.Input.TheVariants.{Took}
-use Rattle.client_model.specs.States.{Asking}
-use Rattle.client_model.specs.Terms.{Asked}
+use Rattle.client_model.specs.meaning.States.{Asking}
+use Rattle.client_model.specs.meaning.Terms.{Asked}
 use Rattle.world_model.specs.records.Basic.{lives_rightly, none_behind}
-use Rattle.world_model.specs.Clients.{Client, Doing, client_at}
-use Rattle.world_model.specs.Frames.{Sent}
+use Rattle.world_model.specs.meaning.Clients.{Client, Doing, client_at}
+use Rattle.world_model.specs.meaning.Frames.{Sent}
 use Rattle.invariant_laws.specs.Invariant.{Invariant}
-use Rattle.world_model.specs.Machines.{Machine}
+use Rattle.world_model.specs.meaning.Machines.{Machine}
 use Rattle.world_model.specs.records.Number.{ahead_rightly, is_ahead, is_counted, last_served_made}
 use Rattle.invariant_laws.specs.Once.{last_lone, is_of_link, is_foreign, is_completed_rightly}
 use Rattle.world_model.specs.Parts.{held_number, implies, is_commit_call, is_commit_frame, is_out, is_rep, is_unmarked, number_of, out_frame}

@@ -7,14 +7,14 @@ use Rattle.std.specs.Option.{option_map_or}
 use Rattle.std.proofs.lemmas.Bool.{and_parts, and_from, or_cases, not-true}
 use Rattle.std.proofs.lemmas.List.Folds.{list_any-append}
 use Rattle.svc_values.specs.declared.entry.Ltxid.{Ltxid}
-use Rattle.svc_values.specs.Identifiers.{same_ltxid}
-use Rattle.svc_values.specs.Same.{same_bool}
+use Rattle.svc_values.specs.meaning.Identifiers.{same_ltxid}
+use Rattle.svc_values.specs.meaning.Same.{same_bool}
 use Rattle.svc_values.specs.SameLaws.{same_ltxid_decides}
 use Rattle.outage_schedule.specs.declared.request.Outcome.{Outcome}
-use Rattle.run_clauses.specs.Outcomes.{completed_of}
-use Rattle.run_clauses.specs.Tried.{holds}
-use Rattle.world_model.specs.Frames.{Owner}
-use Rattle.world_model.specs.Links.{Link, link_at}
+use Rattle.run_clauses.specs.meaning.Outcomes.{completed_of}
+use Rattle.run_clauses.specs.meaning.Tried.{holds}
+use Rattle.world_model.specs.meaning.Frames.{Owner}
+use Rattle.world_model.specs.meaning.Links.{Link, link_at}
 use Rattle.invariant_laws.specs.Lost.{fails_incomplete, is_blocked, is_failed_by, is_lost, is_nothing, is_pending, is_settled, is_stored, lost_links, lost_rightly, nothing_left, outcome_on, submitted_on, without_last}
 use Rattle.invariant_laws.specs.Once.{tells_completed}
 use Rattle.world_model.specs.Parts.{Sending, held_number, is_commit_call, is_rep, is_unmarked, number_of}

@@ -6,12 +6,12 @@ use Rattle.std.proofs.lemmas.Bool.{and_parts, and_from, or_cases, or_right, or_l
 use Rattle.outage_schedule.specs.declared.document.Request.{Request}
 use Rattle.outage_schedule.specs.declared.item.Served.{Served}
 use Rattle.client_model.specs.declared.act.Hold.TheVariants as hold
-use Rattle.world_model.specs.Clients.{Client, begun, past_of}
+use Rattle.world_model.specs.meaning.Clients.{Client, begun, past_of}
 use Rattle.world_model.specs.Orderly.{Orderly}
-use Rattle.world_model.specs.Links.{Link, link_at}
+use Rattle.world_model.specs.meaning.Links.{Link, link_at}
 use Rattle.invariant_laws.specs.Lost.{lost_links, is_gone, stay_gone}
-use Rattle.world_model.specs.Machines.{Machine}
-use Rattle.world_model.specs.Matching.{Noted}
+use Rattle.world_model.specs.meaning.Machines.{Machine}
+use Rattle.world_model.specs.meaning.Matching.{Noted}
 use Rattle.world_model.specs.Traced.{Traced, Course, course_now, course_over, courses_of, courses_of_clients}
 use Rattle.world_model.proofs.Offered.{weaker_all, HasStepped, MayStep, Still, Closed, Stepped, all_step, at_event, Happens}
 use Rattle.invariant_laws.proofs.losses.KeptGone.{GoneAt, gone_at, gone_stays}

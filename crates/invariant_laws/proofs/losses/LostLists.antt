@@ -8,7 +8,7 @@ use Rattle.std.proofs.lemmas.List.Folds.{list_any-append}
 use Rattle.std.proofs.lemmas.Bool.{or_left}
 use Rattle.client_model.specs.declared.input.Input.{Input}
 use Rattle.client_model.specs.declared.input.Input.TheVariants.{Start, Waiting, Lent, Opened, TryFailed, Took, Gone}
-use Rattle.world_model.specs.Clients.{Step}
+use Rattle.world_model.specs.meaning.Clients.{Step}
 use Rattle.world_model.specs.records.Conversing.{connected, connection_after}
 use Rattle.invariant_laws.specs.Lost.{without_last}
 use Rattle.world_model.specs.Words.{brought, held_in}

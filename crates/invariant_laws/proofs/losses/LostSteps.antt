@@ -5,9 +5,9 @@ use Rattle.std.specs.List.{list_all, last_or, cons_option}
 use Rattle.std.specs.Option.{option_or}
 use Rattle.std.proofs.lemmas.Bool.{and_parts}
 use Rattle.std.proofs.lemmas.List.{append-nil, map-append}
-use Rattle.svc_values.specs.Same.{same_bool}
+use Rattle.svc_values.specs.meaning.Same.{same_bool}
 use Rattle.outage_schedule.specs.declared.document.Request.{Request}
-use Rattle.run_clauses.specs.Reports.{failure_of, failed_in}
+use Rattle.run_clauses.specs.meaning.Reports.{failure_of, failed_in}
 use Rattle.svc_values.specs.declared.call.Call.{Call}
 use Rattle.svc_values.specs.declared.entry.Ltxid.{Ltxid}
 use Rattle.svc_values.specs.declared.frame.Down.{Down}
@@ -20,18 +20,19 @@ use Rattle.client_model.specs.declared.input.Input.{Input}
 use Rattle.client_model.specs.declared.input.Input.TheVariants.{Start, Waiting, Lent, Opened, TryFailed, Took, Gone}
 use Rattle.client_model.specs.declared.input.Wants.{Wants}
 use Rattle.client_model.specs.declared.input.Wants.TheVariants as wants
-use Rattle.client_model.specs.Conversation.{Done, is_wanted, is_gone}
-use Rattle.client_model.specs.States.{Asking}
-use Rattle.client_model.specs.Talk.{wants_of, talk_step, sends_or_ends, begin_of}
-use Rattle.client_model.specs.Terms.{Phase, Unbegun, Queued, unsubmitted}
-use Rattle.world_model.specs.Frames.{Sent, Reply}
-use Rattle.world_model.specs.Links.{Link, link_at, sends, takes}
-use Rattle.world_model.specs.Clients.{Step, Doing, begun, past_of}
+use Rattle.client_model.specs.meaning.Conversation.{Done}
+use Rattle.client_model.specs.Conversation.{is_wanted, is_gone}
+use Rattle.client_model.specs.meaning.States.{Asking}
+use Rattle.client_model.specs.meaning.Talk.{wants_of, talk_step, sends_or_ends, begin_of}
+use Rattle.client_model.specs.meaning.Terms.{Phase, Unbegun, Queued, unsubmitted}
+use Rattle.world_model.specs.meaning.Frames.{Sent, Reply}
+use Rattle.world_model.specs.meaning.Links.{Link, link_at, sends, takes}
+use Rattle.world_model.specs.meaning.Clients.{Step, Doing, begun, past_of}
 use Rattle.world_model.specs.records.Conversing.{Talks, connected}
 use Rattle.world_model.specs.records.Hold.{holds_connection, is_held}
 use Rattle.world_model.specs.Orderly.{Orderly}
 use Rattle.invariant_laws.specs.Lost.{lost_all, lost_links}
-use Rattle.world_model.specs.Machines.{Machine}
+use Rattle.world_model.specs.meaning.Machines.{Machine}
 use Rattle.world_model.specs.Parts.{implies}
 use Rattle.world_model.specs.records.Ready.{is_waiting, is_unbegun}
 use Rattle.world_model.specs.Traced.{Traced, Course, course_now, course_over, courses_of}

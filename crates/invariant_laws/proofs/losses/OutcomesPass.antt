@@ -4,14 +4,14 @@ use Rattle.std.specs.List.{list_all}
 use Rattle.std.proofs.lemmas.Bool.{and_from}
 use Rattle.svc_values.specs.declared.frame.Down.TheVariants as down
 use Rattle.outage_schedule.specs.declared.request.Outcome.{Outcome}
-use Rattle.run_clauses.specs.Reports.{report_of}
+use Rattle.run_clauses.specs.meaning.Reports.{report_of}
 use Rattle.client_model.specs.declared.input.Input.{Input}
 use Rattle.client_model.specs.declared.input.Input.TheVariants.{Took}
-use Rattle.client_model.specs.States.{Asking}
-use Rattle.client_model.specs.Terms.{Phase, Asked}
-use Rattle.world_model.specs.Clients.{Client, past_of}
+use Rattle.client_model.specs.meaning.States.{Asking}
+use Rattle.client_model.specs.meaning.Terms.{Phase, Asked}
+use Rattle.world_model.specs.meaning.Clients.{Client, past_of}
 use Rattle.world_model.specs.Orderly.{Orderly}
-use Rattle.world_model.specs.Machines.{Machine}
+use Rattle.world_model.specs.meaning.Machines.{Machine}
 use Rattle.world_model.specs.Traced.{Traced, Course, course_now, course_over, courses_of, courses_of_clients}
 use Rattle.world_model.specs.Words.{dones_of}
 use Rattle.world_model.proofs.Offered.{append_all, weaker_all, HasStepped, MayStep, Still, Closed, Stepped, all_step, at_event}

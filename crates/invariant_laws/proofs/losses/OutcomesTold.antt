@@ -10,20 +10,20 @@ use Rattle.svc_values.specs.declared.frame.Up.{Up}
 use Rattle.svc_values.specs.declared.frame.Up.TheVariants as up
 use Rattle.svc_values.specs.declared.frame.Down.TheVariants as down
 use Rattle.outage_schedule.specs.declared.request.Outcome.{Outcome}
-use Rattle.run_clauses.specs.Reports.{told_outcome, report_of}
+use Rattle.run_clauses.specs.meaning.Reports.{told_outcome, report_of}
 use Rattle.client_model.specs.declared.act.Hold.{Hold}
 use Rattle.client_model.specs.declared.act.Shown.{Shown}
 use Rattle.client_model.specs.declared.input.Input.{Input}
 use Rattle.client_model.specs.declared.input.Input.TheVariants.{Start, Waiting, Lent, Opened, TryFailed, Took, Gone}
-use Rattle.client_model.specs.Account.{Account, Outcome as Heard, unheard, begins, sends, shows, shows_found, hears, hears_outcome, hears_reply, before_sends, after_step, account_of}
-use Rattle.client_model.specs.Conversation.{Done}
-use Rattle.client_model.specs.Terms.{Terms, Phase, Idle, Unbegun, Queued, Seeking, Greeting, Asked, Running, Replaying}
+use Rattle.client_model.specs.meaning.Account.{Account, Outcome as Heard, unheard, begins, sends, shows, shows_found, hears, hears_outcome, hears_reply, before_sends, after_step, account_of}
+use Rattle.client_model.specs.meaning.Conversation.{Done}
+use Rattle.client_model.specs.meaning.Terms.{Terms, Phase, Idle, Unbegun, Queued, Seeking, Greeting, Asked, Running, Replaying}
 use Rattle.client_model.proofs.Offered.{Fits}
-use Rattle.world_model.specs.Clients.{Step, Doing}
-use Rattle.world_model.specs.Frames.{Sent}
+use Rattle.world_model.specs.meaning.Clients.{Step, Doing}
+use Rattle.world_model.specs.meaning.Frames.{Sent}
 use Rattle.world_model.specs.Orderly.{Orderly}
-use Rattle.world_model.specs.Links.{Link}
-use Rattle.world_model.specs.Machines.{Machine}
+use Rattle.world_model.specs.meaning.Links.{Link}
+use Rattle.world_model.specs.meaning.Machines.{Machine}
 use Rattle.world_model.specs.Traced.{Traced}
 use Rattle.world_model.specs.records.Wire.{is_reply_front, handled_from, is_answered_in_order}
 use Rattle.world_model.specs.Words.{dones_of}

@@ -15,15 +15,15 @@ use Rattle.outage_schedule.specs.declared.item.Item.{Item}
 use Rattle.outage_schedule.specs.declared.item.Item.TheVariants as item
 use Rattle.outage_schedule.specs.declared.note.AskResult.{AskResult}
 use Rattle.outage_schedule.specs.declared.note.AskResult.TheVariants as told
-use Rattle.client_model.specs.Verifying.{index_of}
-use Rattle.client_model.specs.Terms.{Phase, Greeting, Asked, Running, Replaying}
-use Rattle.world_model.specs.Crashing.{is_crashed_item}
-use Rattle.world_model.specs.Frames.{Owner, Sent, Reply, Handled}
+use Rattle.client_model.specs.meaning.Verifying.{index_of}
+use Rattle.client_model.specs.meaning.Terms.{Phase, Greeting, Asked, Running, Replaying}
+use Rattle.world_model.specs.meaning.Crashing.{is_crashed_item}
+use Rattle.world_model.specs.meaning.Frames.{Owner, Sent, Reply, Handled}
 use Rattle.world_model.specs.records.Hold.{is_awaited, is_ask, is_call, is_connect}
-use Rattle.world_model.specs.Links.{Link}
+use Rattle.world_model.specs.meaning.Links.{Link}
 use Rattle.world_model.specs.Parts.{is_answered, is_rep, is_out, count_reps}
 use Rattle.world_model.specs.Sames.{same_up, same_down, same_sent, same_reply, is_front, owned_by}
-use Rattle.world_model.specs.Serving.{is_item_of, reply_of, outcome_frame}
+use Rattle.world_model.specs.meaning.Serving.{is_item_of, reply_of, outcome_frame}
 use Rattle.world_model.specs.records.Wire.{reply_to, replies_of, is_reply_front, same_replies, is_handled, counted_with, handled_from, reps_of, is_answered_in_order}
 use Rattle.world_model.proofs.Offered.{last_kept, same_frames, awaits, eq_from}
 

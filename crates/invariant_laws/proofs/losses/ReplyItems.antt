@@ -14,18 +14,18 @@ use Rattle.svc_values.specs.declared.frame.Up.{Up}
 use Rattle.svc_values.specs.declared.frame.Up.TheVariants as up
 use Rattle.svc_values.specs.declared.frame.Down.{Down}
 use Rattle.svc_values.specs.declared.frame.Down.TheVariants as down
-use Rattle.svc_values.specs.Endings.{ends_committed}
-use Rattle.svc_values.specs.Same.{same_answers, same_bool, same_call, same_draws}
+use Rattle.svc_values.specs.meaning.Endings.{ends_committed}
+use Rattle.svc_values.specs.meaning.Same.{same_answers, same_bool, same_call, same_draws}
 use Rattle.svc_values.specs.SameLaws.{same_answers_decide, same_bool_decides, same_draws_decide, same_call_decides}
 use Rattle.outage_schedule.specs.declared.item.Item.{Item}
 use Rattle.outage_schedule.specs.declared.item.Item.TheVariants as item
-use Rattle.world_model.specs.Crashing.{is_crashed_item}
-use Rattle.world_model.specs.Frames.{Sent, Reply, Handled}
+use Rattle.world_model.specs.meaning.Crashing.{is_crashed_item}
+use Rattle.world_model.specs.meaning.Frames.{Sent, Reply, Handled}
 use Rattle.world_model.specs.records.Hold.{is_call as is_awaited_call}
-use Rattle.world_model.specs.Links.{Link}
+use Rattle.world_model.specs.meaning.Links.{Link}
 use Rattle.world_model.specs.Parts.{is_rep, count_reps, served_reps}
 use Rattle.world_model.specs.Sames.{same_up, same_down, same_sent, same_reply, is_front}
-use Rattle.world_model.specs.Serving.{is_item_of, is_commit, reply_of}
+use Rattle.world_model.specs.meaning.Serving.{is_item_of, is_commit, reply_of}
 use Rattle.invariant_laws.specs.Shown.{is_shown_item}
 use Rattle.world_model.specs.records.Wire.{up_of, replies_of, same_replies}
 use Rattle.world_model.proofs.Offered.{front_filter, front_begun, last_kept, last_alike, Known, IsLast, taken_last, last_was, rep_of, same_reps, few_replies, front_long, reps_sent, le_from, none_first}

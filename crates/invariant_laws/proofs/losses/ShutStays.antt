@@ -9,18 +9,18 @@ use Rattle.outage_schedule.specs.declared.document.Request.{Request}
 use Rattle.outage_schedule.specs.declared.item.Served.{Served}
 use Rattle.client_model.specs.declared.input.Wants.{Wants}
 use Rattle.client_model.specs.declared.input.Input.TheVariants.{Took}
-use Rattle.world_model.specs.Settings.{Setting}
-use Rattle.world_model.specs.Links.{Link, link_at, with_link, changed, sends, takes}
-use Rattle.world_model.specs.Clients.{Client, Doing, client_at, begun, doing_at}
-use Rattle.world_model.specs.Acting.{connection_of}
-use Rattle.world_model.specs.Machines.{Machine}
-use Rattle.world_model.specs.Matching.{Noted}
-use Rattle.world_model.specs.Going.{lost_at_once}
+use Rattle.world_model.specs.meaning.Settings.{Setting}
+use Rattle.world_model.specs.meaning.Links.{Link, link_at, with_link, changed, sends, takes}
+use Rattle.world_model.specs.meaning.Clients.{Client, Doing, client_at, begun, doing_at}
+use Rattle.world_model.specs.meaning.Acting.{connection_of}
+use Rattle.world_model.specs.meaning.Machines.{Machine}
+use Rattle.world_model.specs.meaning.Matching.{Noted}
+use Rattle.world_model.specs.meaning.Going.{lost_at_once}
 use Rattle.world_model.specs.records.Hold.{is_idle}
-use Rattle.world_model.specs.Serving.{Front, after_front, handled}
-use Rattle.world_model.specs.Cutting.{cut_link, reaped_link}
-use Rattle.world_model.specs.Crashing.{fallen_link, falls}
-use Rattle.world_model.specs.Outside.{closed_by_drain}
+use Rattle.world_model.specs.meaning.Serving.{Front, after_front, handled}
+use Rattle.world_model.specs.meaning.Cutting.{cut_link, reaped_link}
+use Rattle.world_model.specs.meaning.Crashing.{fallen_link, falls}
+use Rattle.world_model.specs.meaning.Outside.{closed_by_drain}
 use Rattle.world_model.proofs.Offered.{front_is, open_is, ends_case, handled_case, fallen_case, not_zero, get_mapped, with_others, with_own, changed_own, new_others, each_others, IsDoing, Goes, Rests, Waits, Lends, Opens, MovesFails as Fails, Takes, Loses, takes_one, ServesLast, LastNone, LastStopped, LastServed, Happens, Nothing, IsStep, Serves, Cuts, Reaps, Crashes, OpensUp, StopsOpening, Ticks, RunsOutside, MovesAsks as Asks, Drains, changed_others, lent_idle, not_both, either, some_same}
 
 -- the same was sent, taken and is held, and it is not open, by the same event

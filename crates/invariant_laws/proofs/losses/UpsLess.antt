@@ -6,21 +6,21 @@ use Rattle.std.proofs.lemmas.List.Folds.{list_any-append}
 use Rattle.std.proofs.lemmas.Bool.{or_from, or_parts}
 use Rattle.svc_values.specs.declared.frame.Up.{Up}
 use Rattle.outage_schedule.specs.declared.item.Served.{Served}
-use Rattle.pool_core.specs.Slots.{Slots, after_take}
+use Rattle.pool_core.specs.meaning.Slots.{Slots, after_take}
 use Rattle.client_model.specs.declared.input.Input.{Input}
 use Rattle.client_model.specs.declared.input.Input.TheVariants.{Waiting, Lent, TryFailed, Took}
-use Rattle.world_model.specs.Settings.{Setting}
-use Rattle.world_model.specs.Frames.{Sent, whole_front, up_size}
-use Rattle.world_model.specs.Links.{Link, link_at, with_link, changed, sends, takes}
-use Rattle.world_model.specs.Clients.{Doing, doing_at, heard, step_at}
-use Rattle.world_model.specs.Acting.{frames_of, call_in, sent_by, owner_at, connection_of, steps}
-use Rattle.world_model.specs.Machines.{Machine}
-use Rattle.world_model.specs.Matching.{Noted}
-use Rattle.world_model.specs.Going.{lost_at_once}
-use Rattle.world_model.specs.Serving.{Front, after_front, handled}
-use Rattle.world_model.specs.Cutting.{cut_link, reaped_link}
-use Rattle.world_model.specs.Crashing.{fallen_link, falls}
-use Rattle.world_model.specs.Outside.{closed_by_drain}
+use Rattle.world_model.specs.meaning.Settings.{Setting}
+use Rattle.world_model.specs.meaning.Frames.{Sent, whole_front, up_size}
+use Rattle.world_model.specs.meaning.Links.{Link, link_at, with_link, changed, sends, takes}
+use Rattle.world_model.specs.meaning.Clients.{Doing, doing_at, heard, step_at}
+use Rattle.world_model.specs.meaning.Acting.{frames_of, call_in, sent_by, owner_at, connection_of, steps}
+use Rattle.world_model.specs.meaning.Machines.{Machine}
+use Rattle.world_model.specs.meaning.Matching.{Noted}
+use Rattle.world_model.specs.meaning.Going.{lost_at_once}
+use Rattle.world_model.specs.meaning.Serving.{Front, after_front, handled}
+use Rattle.world_model.specs.meaning.Cutting.{cut_link, reaped_link}
+use Rattle.world_model.specs.meaning.Crashing.{fallen_link, falls}
+use Rattle.world_model.specs.meaning.Outside.{closed_by_drain}
 use Rattle.world_model.proofs.Offered.{front_is, open_is, sends_alike, ends_case, handled_case, cut_case, fallen_case, with_others, with_own, changed_own, new_others, Goes, Rests, Waits, Lends, Opens, MovesFails as Fails, Takes, Loses, takes_one, ServesLast, LastNone, LastStopped, LastServed, Happens, Nothing, IsStep, Serves, Cuts, Reaps, Crashes, OpensUp, StopsOpening, Ticks, RunsOutside, MovesAsks as Asks, Drains, changed_others, either, some_same}
 use Rattle.invariant_laws.proofs.losses.ShutStays.{mapped_at}
 

@@ -4,7 +4,7 @@ use Rattle.std.specs.Prelude.{◌==◌}
 use Rattle.std.proofs.lemmas.Bool.{and_parts}
 use Rattle.svc_values.specs.declared.frame.Up.{Up}
 use Rattle.svc_values.specs.declared.frame.Up.TheVariants as up
-use Rattle.world_model.specs.Frames.{Sent}
+use Rattle.world_model.specs.meaning.Frames.{Sent}
 use Rattle.world_model.specs.Parts.{is_answered, is_unmarked_frame}
 use Rattle.world_model.specs.Sames.{same_owners, same_sent, same_up}
 use Rattle.invariant_laws.specs.Shown.{is_call}

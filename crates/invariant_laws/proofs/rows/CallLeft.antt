@@ -3,13 +3,13 @@ use Rattle.std.proofs.Common.{◌≡◌, refl, sym, ap, ◌∙◌, Bool, true, f
 use Rattle.std.specs.Prelude.{◌==◌, not, slice_get, is_some}
 use Rattle.std.proofs.lemmas.Bool.{and_parts}
 use Rattle.svc_values.specs.declared.call.Call.{Call}
-use Rattle.client_model.specs.Terms.{Phase, Idle, Unbegun, Queued, Seeking, Greeting, Asked, Running, Replaying}
+use Rattle.client_model.specs.meaning.Terms.{Phase, Idle, Unbegun, Queued, Seeking, Greeting, Asked, Running, Replaying}
 use Rattle.client_model.specs.declared.track.Track.{Track}
-use Rattle.client_model.specs.Account.{Account}
-use Rattle.client_model.specs.Talk.{next_call}
+use Rattle.client_model.specs.meaning.Account.{Account}
+use Rattle.client_model.specs.meaning.Talk.{next_call}
 use Rattle.client_model.proofs.Offered.{Fits, Tracked, next_left}
 use Rattle.world_model.specs.Orderly.{Orderly}
-use Rattle.world_model.specs.Machines.{Machine}
+use Rattle.world_model.specs.meaning.Machines.{Machine}
 use Rattle.world_model.specs.Parts.{implies}
 use Rattle.world_model.specs.records.Ready.{is_unbegun}
 use Rattle.world_model.specs.Traced.{Traced}

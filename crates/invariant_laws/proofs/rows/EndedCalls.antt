@@ -7,8 +7,8 @@ use Rattle.std.proofs.lemmas.List.Sums.{sum_by-cons}
 use Rattle.std.proofs.lemmas.Option.{slice_get_within}
 use Rattle.svc_values.specs.declared.answer.Answer.{Answer}
 use Rattle.svc_values.specs.declared.answer.Answer.TheVariants as answer
-use Rattle.svc_values.specs.Endings.{ends_committed, ends_transaction, is_committed, is_conflict, is_rolled_back}
-use Rattle.svc_values.specs.Same.{same_answers}
+use Rattle.svc_values.specs.meaning.Endings.{ends_committed, ends_transaction, is_committed, is_conflict, is_rolled_back}
+use Rattle.svc_values.specs.meaning.Same.{same_answers}
 use Rattle.svc_values.specs.SameLaws.{same_answers_decide}
 use Rattle.outage_schedule.specs.declared.request.ShownCall.{ShownCall}
 use Rattle.invariant_laws.specs.Once.{shows_at, transaction_at}

@@ -9,27 +9,27 @@ use Rattle.outage_schedule.specs.declared.document.Request.{Request}
 use Rattle.client_model.specs.declared.act.Hold.{Hold}
 use Rattle.client_model.specs.declared.input.Input.{Input}
 use Rattle.client_model.specs.declared.input.Input.TheVariants.{Lent}
-use Rattle.client_model.specs.Account.{Account}
+use Rattle.client_model.specs.meaning.Account.{Account}
 use Rattle.client_model.specs.Conversation.{is_wanted, is_gone, may_come}
 use Rattle.client_model.specs.Laws.{track_of}
-use Rattle.client_model.specs.States.{Asking}
-use Rattle.client_model.specs.Talk.{wants_of}
-use Rattle.client_model.specs.Terms.{Phase, Queued, Asked}
-use Rattle.run_clauses.specs.Reports.{shown_call}
-use Rattle.world_model.specs.Acting.{frames_of, sent_by, call_in, owner_at}
-use Rattle.world_model.specs.Clients.{Doing, Client, begun, client_at, past_of}
+use Rattle.client_model.specs.meaning.States.{Asking}
+use Rattle.client_model.specs.meaning.Talk.{wants_of}
+use Rattle.client_model.specs.meaning.Terms.{Phase, Queued, Asked}
+use Rattle.run_clauses.specs.meaning.Reports.{shown_call}
+use Rattle.world_model.specs.meaning.Acting.{frames_of, sent_by, call_in, owner_at}
+use Rattle.world_model.specs.meaning.Clients.{Doing, Client, begun, client_at, past_of}
 use Rattle.world_model.specs.records.Conversing.{AllTalk}
-use Rattle.world_model.specs.Frames.{Owner, Sent}
+use Rattle.world_model.specs.meaning.Frames.{Owner, Sent}
 use Rattle.world_model.specs.records.Hold.{is_awaited, waits_on, is_held, are_held}
 use Rattle.invariant_laws.specs.KeptLaws.{StaysTrue}
-use Rattle.world_model.specs.Links.{Link, link_at}
-use Rattle.world_model.specs.Machines.{Machine}
-use Rattle.world_model.specs.Outside.{closed_by_drain}
+use Rattle.world_model.specs.meaning.Links.{Link, link_at}
+use Rattle.world_model.specs.meaning.Machines.{Machine}
+use Rattle.world_model.specs.meaning.Outside.{closed_by_drain}
 use Rattle.world_model.specs.Parts.{implies, is_out, is_answered}
 use Rattle.world_model.specs.records.Ready.{is_ready_client}
 use Rattle.world_model.specs.Sames.{owned_by}
 use Rattle.world_model.specs.records.Script.{owned_rightly, same_digests, recorded_from, keeps, is_kept, account}
-use Rattle.world_model.specs.Settings.{Setting, setting_of}
+use Rattle.world_model.specs.meaning.Settings.{Setting, setting_of}
 use Rattle.invariant_laws.specs.Shown.{calls_on, is_current, is_row, in_rows, in_row, first_of, is_scripts}
 use Rattle.world_model.specs.Traced.{Traced, Course, course_now, course_over, courses_of_clients, courses_of}
 use Rattle.world_model.specs.records.Wire.{stage_of, is_right, in_grammar}

@@ -10,31 +10,31 @@ use Rattle.svc_values.specs.declared.answer.Answer.TheVariants as answer
 use Rattle.svc_values.specs.declared.call.Call.{Call}
 use Rattle.svc_values.specs.declared.draw.Draw.{Draw}
 use Rattle.svc_values.specs.declared.frame.Down.TheVariants as down
-use Rattle.svc_values.specs.Calls.{is_lone_commit}
-use Rattle.svc_values.specs.Same.{same_answers}
+use Rattle.svc_values.specs.meaning.Calls.{is_lone_commit}
+use Rattle.svc_values.specs.meaning.Same.{same_answers}
 use Rattle.svc_values.specs.SameLaws.{same_answers_decide}
 use Rattle.outage_schedule.specs.declared.document.Request.{Request}
 use Rattle.outage_schedule.specs.declared.request.Outcome.{Outcome}
 use Rattle.outage_schedule.specs.declared.request.ShownCall.{ShownCall}
 use Rattle.client_model.specs.declared.act.Shown.{Shown}
 use Rattle.client_model.specs.declared.input.Input.{Input}
-use Rattle.client_model.specs.States.{Asking}
-use Rattle.client_model.specs.Talk.{takes, talk_step}
-use Rattle.client_model.specs.Terms.{Phase, Asked}
-use Rattle.run_clauses.specs.Reports.{shown_call, told_outcome}
-use Rattle.run_clauses.specs.Tried.{holds}
-use Rattle.world_model.specs.Clients.{Doing, Client, Step, begun, past_of}
-use Rattle.world_model.specs.Frames.{Owner, Handled}
+use Rattle.client_model.specs.meaning.States.{Asking}
+use Rattle.client_model.specs.meaning.Talk.{takes, talk_step}
+use Rattle.client_model.specs.meaning.Terms.{Phase, Asked}
+use Rattle.run_clauses.specs.meaning.Reports.{shown_call, told_outcome}
+use Rattle.run_clauses.specs.meaning.Tried.{holds}
+use Rattle.world_model.specs.meaning.Clients.{Doing, Client, Step, begun, past_of}
+use Rattle.world_model.specs.meaning.Frames.{Owner, Handled}
 use Rattle.invariant_laws.specs.Invariant.{Invariant}
 use Rattle.world_model.specs.Orderly.{Orderly}
 use Rattle.invariant_laws.specs.KeptLaws.{IsKeptOfAll}
-use Rattle.world_model.specs.Links.{Link, link_at}
-use Rattle.world_model.specs.Machines.{Machine}
+use Rattle.world_model.specs.meaning.Links.{Link, link_at}
+use Rattle.world_model.specs.meaning.Machines.{Machine}
 use Rattle.invariant_laws.specs.Once.{tells_tried}
 use Rattle.world_model.specs.Parts.{Sending, sendings_of}
 use Rattle.world_model.specs.Reached.{traced_start}
 use Rattle.world_model.specs.Sames.{owned_by}
-use Rattle.world_model.specs.Settings.{Setting, setting_of}
+use Rattle.world_model.specs.meaning.Settings.{Setting, setting_of}
 use Rattle.invariant_laws.specs.Shown.{is_shown_item, link_shows, has_completed, is_from, all_from, are_from, shows_commit}
 use Rattle.world_model.specs.Traced.{Traced, Course, course_now, course_over, courses_of_clients, courses_of}
 use Rattle.world_model.specs.Words.{brought, held_in}

@@ -4,7 +4,7 @@ use Rattle.std.specs.List.{list_all}
 use Rattle.outage_schedule.specs.declared.item.Item.TheVariants as item
 use Rattle.invariant_laws.specs.KeptLaws.{IsKeptOfAll}
 use Rattle.world_model.specs.Reached.{traced_start}
-use Rattle.world_model.specs.Settings.{Setting, setting_of}
+use Rattle.world_model.specs.meaning.Settings.{Setting, setting_of}
 use Rattle.invariant_laws.specs.Shown.{told_as, outcome_stands, outcomes_stand}
 use Rattle.world_model.specs.Traced.{courses_of_clients}
 use Rattle.invariant_laws.proofs.losses.AnswersStand.{stands_still}

@@ -11,12 +11,12 @@ use Rattle.svc_values.specs.declared.frame.Up.TheVariants as up
 use Rattle.request_bounds.specs.declared.rule.After.{After}
 use Rattle.request_bounds.specs.declared.rule.After.TheVariants as after
 use Rattle.call_recorder.specs.declared.recorded.Recorded.{Recorded}
-use Rattle.client_model.specs.Account.{Account, unheard, hears, hears_outcome, hears_reply, shows, shows_found, since_after, purged_after, begins, sends, before_sends, after_step, account_of}
-use Rattle.client_model.specs.Conversation.{Done}
+use Rattle.client_model.specs.meaning.Account.{Account, unheard, hears, hears_outcome, hears_reply, shows, shows_found, since_after, purged_after, begins, sends, before_sends, after_step, account_of}
+use Rattle.client_model.specs.meaning.Conversation.{Done}
 use Rattle.client_model.specs.declared.act.Shown.{Shown}
 use Rattle.client_model.specs.declared.input.Input.{Input}
 use Rattle.client_model.specs.declared.input.Input.TheVariants.{Start, Waiting, Lent, Opened, TryFailed, Took, Gone}
-use Rattle.client_model.specs.Terms.{Terms}
+use Rattle.client_model.specs.meaning.Terms.{Terms}
 
 -- what an input, or a frame that is sent, leaves
 pub record IsBeside (a b : Account) : Type 0 where

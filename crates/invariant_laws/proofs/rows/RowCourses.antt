@@ -14,20 +14,20 @@ use Rattle.svc_values.specs.declared.frame.Up.{Up}
 use Rattle.svc_values.specs.declared.frame.Up.TheVariants as up
 use Rattle.svc_values.specs.declared.frame.Down.{Down}
 use Rattle.svc_values.specs.declared.frame.Down.TheVariants as down
-use Rattle.svc_values.specs.Same.{same_bool}
+use Rattle.svc_values.specs.meaning.Same.{same_bool}
 use Rattle.call_recorder.specs.declared.recorded.Recorded.{Recorded}
 use Rattle.pool_core.specs.declared.answers.Back.{Back}
 use Rattle.pool_core.specs.declared.answers.Back.TheVariants as back
 use Rattle.client_model.specs.declared.act.Hold.{Hold}
 use Rattle.client_model.specs.declared.act.Hold.TheVariants as hold
-use Rattle.client_model.specs.States.{Living, Repeating, next_of}
-use Rattle.client_model.specs.Terms.{Terms, Talk, Phase, Replaying}
-use Rattle.client_model.specs.Talk.{sends_or_ends, next_call, sends_marked, on_compared, on_repeated, takes}
-use Rattle.client_model.specs.Verifying.{verified_more, mismatch, submitted}
-use Rattle.world_model.specs.Acting.{closing, sent_by}
-use Rattle.world_model.specs.Frames.{Owner, Sent}
+use Rattle.client_model.specs.meaning.States.{Living, Repeating, next_of}
+use Rattle.client_model.specs.meaning.Terms.{Terms, Talk, Phase, Replaying}
+use Rattle.client_model.specs.meaning.Talk.{sends_or_ends, next_call, sends_marked, on_compared, on_repeated, takes}
+use Rattle.client_model.specs.meaning.Verifying.{verified_more, mismatch, submitted}
+use Rattle.world_model.specs.meaning.Acting.{closing, sent_by}
+use Rattle.world_model.specs.meaning.Frames.{Owner, Sent}
 use Rattle.world_model.specs.records.Hold.{is_awaited, is_ask, is_connect, is_call as is_awaited_call}
-use Rattle.world_model.specs.Links.{Link, link_at}
+use Rattle.world_model.specs.meaning.Links.{Link, link_at}
 use Rattle.world_model.specs.Parts.{is_answered, is_unmarked}
 use Rattle.world_model.specs.Sames.{owned_by, same_owner}
 use Rattle.invariant_laws.specs.Shown.{is_call, is_current, is_row}

@@ -10,17 +10,17 @@ use Rattle.client_model.specs.declared.input.Input.TheVariants.{Start, Waiting, 
 use Rattle.client_model.specs.declared.input.Wants.{Wants}
 use Rattle.client_model.specs.declared.input.Wants.TheVariants as wants
 use Rattle.client_model.specs.Conversation.{is_wanted}
-use Rattle.client_model.specs.States.{Asking}
-use Rattle.client_model.specs.Talk.{talk_step}
-use Rattle.client_model.specs.Terms.{Phase, Idle, Unbegun, Queued, Seeking, Greeting, Asked, Running, Replaying}
-use Rattle.run_clauses.specs.Reports.{shown_call}
+use Rattle.client_model.specs.meaning.States.{Asking}
+use Rattle.client_model.specs.meaning.Talk.{talk_step}
+use Rattle.client_model.specs.meaning.Terms.{Phase, Idle, Unbegun, Queued, Seeking, Greeting, Asked, Running, Replaying}
+use Rattle.run_clauses.specs.meaning.Reports.{shown_call}
 use Rattle.world_model.specs.records.Conversing.{AllTalk, connected}
-use Rattle.world_model.specs.Frames.{Owner, Sent}
+use Rattle.world_model.specs.meaning.Frames.{Owner, Sent}
 use Rattle.world_model.specs.records.Hold.{holds_connection, is_awaited}
-use Rattle.world_model.specs.Links.{Link, link_at}
-use Rattle.world_model.specs.Machines.{Machine}
+use Rattle.world_model.specs.meaning.Links.{Link, link_at}
+use Rattle.world_model.specs.meaning.Machines.{Machine}
 use Rattle.world_model.specs.records.Script.{recorded_from}
-use Rattle.world_model.specs.Settings.{Setting}
+use Rattle.world_model.specs.meaning.Settings.{Setting}
 use Rattle.invariant_laws.specs.Shown.{is_current, is_row}
 use Rattle.world_model.specs.Traced.{Course, course_now}
 use Rattle.world_model.specs.Words.{brought, held_in}

@@ -8,28 +8,28 @@ use Rattle.svc_values.specs.declared.call.Call.{Call}
 use Rattle.svc_values.specs.declared.draw.Draw.{Draw}
 use Rattle.svc_values.specs.declared.frame.Up.{Up}
 use Rattle.svc_values.specs.declared.frame.Up.TheVariants as up
-use Rattle.pool_core.specs.Slots.{give_back_answer}
+use Rattle.pool_core.specs.meaning.Slots.{give_back_answer}
 use Rattle.client_model.specs.declared.act.Shown.{Shown}
 use Rattle.client_model.specs.declared.input.Input.{Input}
 use Rattle.client_model.specs.declared.input.Input.TheVariants.{Start, Waiting, Lent, Opened, TryFailed, Took, Gone}
 use Rattle.client_model.specs.declared.input.Wants.TheVariants as wants
 use Rattle.client_model.specs.Conversation.{is_wanted, is_gone}
-use Rattle.client_model.specs.States.{Asking}
-use Rattle.client_model.specs.Talk.{quiet, wants_of}
-use Rattle.client_model.specs.Terms.{Talk, Phase, Idle, Unbegun, Queued, Seeking, Greeting, Asked, Running, Replaying}
-use Rattle.client_model.specs.Verifying.{index_of}
+use Rattle.client_model.specs.meaning.States.{Asking}
+use Rattle.client_model.specs.meaning.Talk.{quiet, wants_of}
+use Rattle.client_model.specs.meaning.Terms.{Talk, Phase, Idle, Unbegun, Queued, Seeking, Greeting, Asked, Running, Replaying}
+use Rattle.client_model.specs.meaning.Verifying.{index_of}
 use Rattle.client_model.proofs.Offered.{Fits}
-use Rattle.world_model.specs.Acting.{closing, frames_of, owner_at, sent_by, call_in}
-use Rattle.world_model.specs.Clients.{Step as Stepped, Doing}
+use Rattle.world_model.specs.meaning.Acting.{closing, frames_of, owner_at, sent_by, call_in}
+use Rattle.world_model.specs.meaning.Clients.{Step as Stepped, Doing}
 use Rattle.world_model.specs.records.Conversing.{AllTalk, first_talk}
-use Rattle.world_model.specs.Frames.{Owner, Sent}
+use Rattle.world_model.specs.meaning.Frames.{Owner, Sent}
 use Rattle.world_model.specs.records.Hold.{is_awaited, is_call as is_awaited_call}
-use Rattle.world_model.specs.Machines.{Machine}
-use Rattle.run_clauses.specs.Reports.{shown_call}
+use Rattle.world_model.specs.meaning.Machines.{Machine}
+use Rattle.run_clauses.specs.meaning.Reports.{shown_call}
 use Rattle.world_model.specs.records.Script.{recorded_from}
 use Rattle.invariant_laws.specs.Shown.{has_unmarked, is_current, is_row}
 use Rattle.world_model.specs.Sames.{same_owner}
-use Rattle.world_model.specs.Settings.{Setting}
+use Rattle.world_model.specs.meaning.Settings.{Setting}
 use Rattle.world_model.specs.Traced.{Course, course_now}
 use Rattle.world_model.proofs.Offered.{HasStepped, owner_self, agrees, scan_by, sent_so, said_mine, sents_at, sents_pass, PassesAt, passes_from, passes_to, spoken_own, spoken_others, sent_lists, spoken, account_now, first_step, first_doing, before_talks, counts_so, IsAt, scan_steps, eq_from}
 use Rattle.invariant_laws.proofs.rows.RowCourses.{silent_row, closing_silent, row_append, OnIt, AwaitedCall, awaited_call, ask_opens, connect_opens}

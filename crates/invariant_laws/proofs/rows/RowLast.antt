@@ -5,8 +5,8 @@ use Rattle.std.specs.List.{list_all, list_any, last_or}
 use Rattle.std.proofs.lemmas.Bool.{and_parts, and_from}
 use Rattle.svc_values.specs.declared.frame.Up.{Up}
 use Rattle.svc_values.specs.declared.frame.Up.TheVariants as up
-use Rattle.world_model.specs.Frames.{Owner, Sent}
-use Rattle.world_model.specs.Links.{Link}
+use Rattle.world_model.specs.meaning.Frames.{Owner, Sent}
+use Rattle.world_model.specs.meaning.Links.{Link}
 use Rattle.world_model.specs.Parts.{is_unmarked}
 use Rattle.world_model.specs.Sames.{owned_by, same_owners}
 use Rattle.invariant_laws.specs.Shown.{is_call, has_unmarked}

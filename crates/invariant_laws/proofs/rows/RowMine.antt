@@ -4,18 +4,18 @@ use Rattle.std.specs.Prelude.{◌==◌, option_map}
 use Rattle.std.specs.Option.{option_map_or}
 use Rattle.client_model.specs.declared.input.Input.{Input}
 use Rattle.client_model.specs.declared.input.Input.TheVariants.{Took}
-use Rattle.client_model.specs.States.{Asking}
-use Rattle.client_model.specs.Talk.{takes, talk_step}
-use Rattle.client_model.specs.Terms.{Phase, Idle, Unbegun, Queued, Seeking, Greeting, Asked, Running, Replaying}
+use Rattle.client_model.specs.meaning.States.{Asking}
+use Rattle.client_model.specs.meaning.Talk.{takes, talk_step}
+use Rattle.client_model.specs.meaning.Terms.{Phase, Idle, Unbegun, Queued, Seeking, Greeting, Asked, Running, Replaying}
 use Rattle.world_model.specs.records.Conversing.{AllTalk, connected}
-use Rattle.world_model.specs.Frames.{Owner, Sent}
+use Rattle.world_model.specs.meaning.Frames.{Owner, Sent}
 use Rattle.world_model.specs.records.Hold.{is_awaited}
-use Rattle.world_model.specs.Links.{Link}
-use Rattle.world_model.specs.Machines.{Machine}
-use Rattle.run_clauses.specs.Reports.{shown_call}
+use Rattle.world_model.specs.meaning.Links.{Link}
+use Rattle.world_model.specs.meaning.Machines.{Machine}
+use Rattle.run_clauses.specs.meaning.Reports.{shown_call}
 use Rattle.world_model.specs.records.Script.{recorded_from}
 use Rattle.invariant_laws.specs.Shown.{has_unmarked, is_current, is_row}
-use Rattle.world_model.specs.Settings.{Setting}
+use Rattle.world_model.specs.meaning.Settings.{Setting}
 use Rattle.world_model.specs.Traced.{Course, course_now}
 use Rattle.world_model.proofs.Offered.{HasStepped, sent_so, sents_at, sents_pass, PassesAt, passes_from, grown_at, link_sents, sent_lists, account_now, first_step, first_doing, eq_to}
 use Rattle.invariant_laws.proofs.rows.RowCourses.{row_test, replay_shows, OnIt}

@@ -13,9 +13,9 @@ use Rattle.outage_schedule.specs.declared.request.ShownCall.{ShownCall}
 use Rattle.client_model.specs.declared.act.Shown.{Shown}
 use Rattle.client_model.specs.declared.input.Input.{Input}
 use Rattle.client_model.specs.declared.input.Input.TheVariants.{Start, Waiting, Lent, Opened, TryFailed, Took, Gone}
-use Rattle.world_model.specs.Clients.{Step}
-use Rattle.world_model.specs.Frames.{Owner, Sent}
-use Rattle.world_model.specs.Links.{told_by}
+use Rattle.world_model.specs.meaning.Clients.{Step}
+use Rattle.world_model.specs.meaning.Frames.{Owner, Sent}
+use Rattle.world_model.specs.meaning.Links.{told_by}
 use Rattle.world_model.specs.Parts.{Sending, Scan, scanned, is_unmarked, is_unmarked_frame, with_taken, answered, sent_on}
 use Rattle.world_model.specs.Sames.{owned_by}
 use Rattle.world_model.specs.records.Script.{is_call_of, is_sending_of, reverse_onto}

@@ -14,30 +14,30 @@ use Rattle.svc_values.specs.declared.call.Call.{Call}
 use Rattle.svc_values.specs.declared.draw.Draw.{Draw}
 use Rattle.svc_values.specs.declared.frame.Up.{Up}
 use Rattle.svc_values.specs.declared.frame.Up.TheVariants as up
-use Rattle.svc_values.specs.Same.{same_call, same_draws}
+use Rattle.svc_values.specs.meaning.Same.{same_call, same_draws}
 use Rattle.svc_values.specs.SameLaws.{same_call_decides}
 use Rattle.call_recorder.specs.declared.recorded.Recorded.{Recorded}
 use Rattle.outage_schedule.specs.declared.request.ShownCall.{ShownCall}
-use Rattle.request_bounds.specs.Replies.{ends_decided}
+use Rattle.request_bounds.specs.meaning.Replies.{ends_decided}
 use Rattle.client_model.specs.declared.act.Shown.{Shown}
 use Rattle.client_model.specs.declared.act.Hold.{Hold}
-use Rattle.client_model.specs.Account.{Account, account_of, unheard, hears, shows, shows_found, before_sends, after_step}
-use Rattle.client_model.specs.Conversation.{Done}
+use Rattle.client_model.specs.meaning.Account.{Account, account_of, unheard, hears, shows, shows_found, before_sends, after_step}
+use Rattle.client_model.specs.meaning.Conversation.{Done}
 use Rattle.client_model.specs.Laws.{EachStep, MaySend, MaySendAll}
-use Rattle.client_model.specs.States.{Living, Losing, Asking, Repeating, next_of}
-use Rattle.client_model.specs.Terms.{Terms, Phase, Idle, Unbegun, Queued, Seeking, Greeting, Asked, Running, Replaying}
-use Rattle.client_model.specs.Told.{repeated}
-use Rattle.client_model.specs.Verifying.{index_of, verified_more}
+use Rattle.client_model.specs.meaning.States.{Living, Losing, Asking, Repeating, next_of}
+use Rattle.client_model.specs.meaning.Terms.{Terms, Phase, Idle, Unbegun, Queued, Seeking, Greeting, Asked, Running, Replaying}
+use Rattle.client_model.specs.meaning.Told.{repeated}
+use Rattle.client_model.specs.meaning.Verifying.{index_of, verified_more}
 use Rattle.client_model.proofs.Offered.{Fits, replays_only_verified}
-use Rattle.world_model.specs.Acting.{sent_by, call_in}
-use Rattle.world_model.specs.Clients.{Step, Doing}
+use Rattle.world_model.specs.meaning.Acting.{sent_by, call_in}
+use Rattle.world_model.specs.meaning.Clients.{Step, Doing}
 use Rattle.world_model.specs.records.Conversing.{AllTalk, inputs_of}
-use Rattle.world_model.specs.Frames.{Owner, Sent}
-use Rattle.world_model.specs.Machines.{Machine}
-use Rattle.run_clauses.specs.Reports.{shown_call}
+use Rattle.world_model.specs.meaning.Frames.{Owner, Sent}
+use Rattle.world_model.specs.meaning.Machines.{Machine}
+use Rattle.run_clauses.specs.meaning.Reports.{shown_call}
 use Rattle.world_model.specs.records.Script.{recorded_from}
 use Rattle.invariant_laws.specs.Shown.{is_marked, is_row}
-use Rattle.world_model.specs.Settings.{Setting}
+use Rattle.world_model.specs.meaning.Settings.{Setting}
 use Rattle.world_model.specs.Traced.{Course}
 use Rattle.world_model.specs.Words.{dones_of}
 use Rattle.world_model.proofs.Offered.{HasStepped, GoesOn, AtOnce, LostToo, next_recalled, hears_same, behind_more, Recalled, all_more, account_now, FitsNow, talks_fit, first_step, first_doing, before_talks, first_talks_on, first_fits, is_next, is_running, frame_fits, send_fits}

@@ -7,9 +7,9 @@ use Rattle.std.proofs.lemmas.Bool.{and_parts, and_from, or_right, or_left}
 use Rattle.svc_values.specs.declared.call.Call.{Call}
 use Rattle.svc_values.specs.declared.frame.Up.{Up}
 use Rattle.svc_values.specs.declared.frame.Up.TheVariants as up
-use Rattle.svc_values.specs.Same.{same_call}
+use Rattle.svc_values.specs.meaning.Same.{same_call}
 use Rattle.outage_schedule.specs.declared.request.ShownCall.{ShownCall}
-use Rattle.world_model.specs.Frames.{Sent}
+use Rattle.world_model.specs.meaning.Frames.{Sent}
 use Rattle.world_model.specs.Parts.{implies, is_unmarked}
 use Rattle.world_model.specs.records.Script.{recorded_from}
 use Rattle.invariant_laws.specs.Shown.{is_marked, first_of, in_row, is_scripts, marked_from, has_unmarked, first_unmarked, unmarked_first, is_row}

@@ -11,26 +11,26 @@ use Rattle.svc_values.specs.declared.frame.Up.{Up}
 use Rattle.svc_values.specs.declared.frame.Up.TheVariants as up
 use Rattle.svc_values.specs.declared.frame.Down.{Down}
 use Rattle.svc_values.specs.declared.frame.Down.TheVariants as down
-use Rattle.svc_values.specs.Same.{same_bool, same_call}
+use Rattle.svc_values.specs.meaning.Same.{same_bool, same_call}
 use Rattle.svc_values.specs.SameLaws.{same_call_decides}
 use Rattle.client_model.specs.declared.act.Hold.{Hold}
 use Rattle.client_model.specs.declared.act.Shown.{Shown}
 use Rattle.client_model.specs.declared.input.Input.{Input}
 use Rattle.client_model.specs.declared.input.Input.TheVariants.{Took}
-use Rattle.client_model.specs.States.{Living, Asking}
-use Rattle.client_model.specs.Talk.{talk_step, takes}
-use Rattle.client_model.specs.Terms.{Phase, Asked, Running}
+use Rattle.client_model.specs.meaning.States.{Living, Asking}
+use Rattle.client_model.specs.meaning.Talk.{talk_step, takes}
+use Rattle.client_model.specs.meaning.Terms.{Phase, Asked, Running}
 use Rattle.client_model.proofs.Offered.{Fits}
-use Rattle.run_clauses.specs.Reports.{shown_call}
+use Rattle.run_clauses.specs.meaning.Reports.{shown_call}
 use Rattle.world_model.specs.records.Conversing.{AllTalk}
-use Rattle.world_model.specs.Clients.{Doing}
-use Rattle.world_model.specs.Frames.{Owner, Sent, Reply, Handled}
+use Rattle.world_model.specs.meaning.Clients.{Doing}
+use Rattle.world_model.specs.meaning.Frames.{Owner, Sent, Reply, Handled}
 use Rattle.world_model.specs.records.Hold.{is_awaited, is_call as is_awaited_call}
-use Rattle.world_model.specs.Links.{Link, link_at}
-use Rattle.world_model.specs.Machines.{Machine}
+use Rattle.world_model.specs.meaning.Links.{Link, link_at}
+use Rattle.world_model.specs.meaning.Machines.{Machine}
 use Rattle.world_model.specs.Parts.{is_answered, is_rep}
 use Rattle.world_model.specs.Sames.{is_of, owned_by, same_owner, same_owners, same_up, same_down, same_sent}
-use Rattle.world_model.specs.Settings.{Setting}
+use Rattle.world_model.specs.meaning.Settings.{Setting}
 use Rattle.invariant_laws.specs.Shown.{is_call, is_scripts, is_shown_item}
 use Rattle.world_model.specs.Traced.{Course, course_now}
 use Rattle.world_model.proofs.Offered.{is_frame, HasStepped, HeardOn, OfNone, OfIdle, OfNew, OfReply, OfEnded, Known, IsLast, account_now, first_step, eq_from, eq_to}

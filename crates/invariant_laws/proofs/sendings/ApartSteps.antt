@@ -6,13 +6,13 @@ use Rattle.std.specs.Option.{option_map_or}
 use Rattle.std.proofs.lemmas.Bool.{and_parts, and_from}
 use Rattle.svc_values.specs.declared.answer.Answer.{Answer}
 use Rattle.svc_values.specs.declared.entry.Ltxid.{Ltxid}
-use Rattle.svc_values.specs.Calls.{has_commit}
-use Rattle.svc_values.specs.Endings.{ends_committed}
+use Rattle.svc_values.specs.meaning.Calls.{has_commit}
+use Rattle.svc_values.specs.meaning.Endings.{ends_committed}
 use Rattle.client_model.specs.declared.input.Input.{Input}
-use Rattle.world_model.specs.Clients.{Step}
-use Rattle.world_model.specs.Frames.{Owner}
+use Rattle.world_model.specs.meaning.Clients.{Step}
+use Rattle.world_model.specs.meaning.Frames.{Owner}
 use Rattle.world_model.specs.Orderly.{Orderly}
-use Rattle.world_model.specs.Machines.{Machine}
+use Rattle.world_model.specs.meaning.Machines.{Machine}
 use Rattle.world_model.specs.Sames.{all_with, each_pair}
 use Rattle.svc_values.specs.declared.call.Call.{Call}
 use Rattle.svc_values.specs.declared.frame.Up.{Up}
@@ -20,7 +20,7 @@ use Rattle.svc_values.specs.declared.frame.Up.TheVariants as up
 use Rattle.svc_values.specs.declared.value.Value.{Value}
 use Rattle.client_model.specs.declared.act.Hold.{Hold}
 use Rattle.client_model.specs.declared.act.Hold.TheVariants.{Keep}
-use Rattle.world_model.specs.Clients.{Doing}
+use Rattle.world_model.specs.meaning.Clients.{Doing}
 use Rattle.world_model.specs.records.Conversing.{connected}
 use Rattle.world_model.specs.records.Hold.{is_idle}
 use Rattle.world_model.specs.Parts.{is_unmarked_frame}
@@ -30,10 +30,10 @@ use Rattle.invariant_laws.proofs.sendings.FateLinks.{idle_waits}
 use Rattle.invariant_laws.proofs.sendings.FateTaken.{plain_none, shown_behind, waits_at}
 use Rattle.invariant_laws.proofs.losses.KeptGone.{new_apart}
 use Rattle.invariant_laws.proofs.talks.Placing.{IsLent, lent_at, said as spoken_frames}
-use Rattle.svc_values.specs.Identifiers.{same_ltxid, session_of}
+use Rattle.svc_values.specs.meaning.Identifiers.{same_ltxid, session_of}
 use Rattle.svc_values.specs.SameLaws.{same_ltxid_decides}
 use Rattle.world_model.specs.records.Basic.{sessions_differ, sessions_of}
-use Rattle.world_model.specs.Links.{Link, link_at}
+use Rattle.world_model.specs.meaning.Links.{Link, link_at}
 use Rattle.invariant_laws.specs.Once.{is_on_link, share, are_apart, is_open_or_committed}
 use Rattle.world_model.specs.Parts.{Sending, Scan, held_number, sent_on}
 use Rattle.world_model.specs.Traced.{Traced}

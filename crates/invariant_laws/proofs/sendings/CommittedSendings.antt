@@ -11,13 +11,13 @@ use Rattle.svc_values.specs.declared.call.Call.{Call}
 use Rattle.svc_values.specs.declared.entry.Ltxid.{Ltxid}
 use Rattle.svc_values.specs.declared.frame.Up.{Up}
 use Rattle.svc_values.specs.declared.frame.Up.TheVariants as up
-use Rattle.svc_values.specs.Calls.{has_commit}
-use Rattle.svc_values.specs.Endings.{ends_committed}
-use Rattle.svc_values.specs.Identifiers.{same_ltxid}
-use Rattle.svc_values.specs.Same.{same_bool, same_call, same_draws}
+use Rattle.svc_values.specs.meaning.Calls.{has_commit}
+use Rattle.svc_values.specs.meaning.Endings.{ends_committed}
+use Rattle.svc_values.specs.meaning.Identifiers.{same_ltxid}
+use Rattle.svc_values.specs.meaning.Same.{same_bool, same_call, same_draws}
 use Rattle.svc_values.specs.SameLaws.{same_bool_decides, same_call_decides}
-use Rattle.world_model.specs.Frames.{Sent, Handled}
-use Rattle.world_model.specs.Links.{Link, link_at}
+use Rattle.world_model.specs.meaning.Frames.{Sent, Handled}
+use Rattle.world_model.specs.meaning.Links.{Link, link_at}
 use Rattle.invariant_laws.specs.Lost.{is_next}
 use Rattle.world_model.specs.records.Number.{is_ahead, ahead_rightly, last_served_made, made_entry}
 use Rattle.invariant_laws.specs.Once.{has_fate, answered_blocked, is_frame_of}

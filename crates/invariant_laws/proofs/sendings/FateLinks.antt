@@ -13,17 +13,17 @@ use Rattle.svc_values.specs.declared.frame.Down.{Down}
 use Rattle.svc_values.specs.declared.frame.Down.TheVariants as down
 use Rattle.svc_values.specs.declared.frame.Up.{Up}
 use Rattle.svc_values.specs.declared.frame.Up.TheVariants as up
-use Rattle.svc_values.specs.Endings.{ends_committed}
+use Rattle.svc_values.specs.meaning.Endings.{ends_committed}
 use Rattle.client_model.specs.declared.input.Input.TheVariants.{Took}
-use Rattle.client_model.specs.Terms.{Phase, Greeting, Asked, Running, Replaying}
-use Rattle.client_model.specs.States.{Living}
-use Rattle.world_model.specs.Frames.{Owner, Sent, Reply}
+use Rattle.client_model.specs.meaning.Terms.{Phase, Greeting, Asked, Running, Replaying}
+use Rattle.client_model.specs.meaning.States.{Living}
+use Rattle.world_model.specs.meaning.Frames.{Owner, Sent, Reply}
 use Rattle.world_model.specs.records.Hold.{is_idle, is_awaited, is_connect, is_ask, is_call}
-use Rattle.world_model.specs.Links.{Link, told_by, sends, takes}
+use Rattle.world_model.specs.meaning.Links.{Link, told_by, sends, takes}
 use Rattle.invariant_laws.specs.Once.{answered_blocked, is_blocked_reply}
 use Rattle.world_model.specs.Parts.{Sending, is_answered, is_commit_call, is_commit_frame, is_unmarked, is_unmarked_frame, is_out, out_frame, held_number, count_reps, is_rep}
 use Rattle.world_model.specs.Sames.{owned_by, is_of, same_owners, same_up, same_down}
-use Rattle.world_model.specs.Serving.{is_commit}
+use Rattle.world_model.specs.meaning.Serving.{is_commit}
 use Rattle.world_model.proofs.Offered.{sends_alike, last_kept, last_pushed, loud, all_said_loud, Known, IsLast, taken_number, commit_rep, told_alive, is_orderly, idle_none, is_hushed, awaits, sends_none, same_owner_is, eq_from, not_both}
 use Rattle.invariant_laws.proofs.sendings.Fates.{Fate, Waits}
 use Rattle.invariant_laws.proofs.sendings.LinkFates.{held_rises, commit_above, shown_commits}

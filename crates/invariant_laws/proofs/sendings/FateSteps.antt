@@ -9,8 +9,8 @@ use Rattle.svc_values.specs.declared.call.Call.{Call}
 use Rattle.svc_values.specs.declared.frame.Up.{Up}
 use Rattle.svc_values.specs.declared.frame.Up.TheVariants as up
 use Rattle.svc_values.specs.declared.value.Value.{Value}
-use Rattle.svc_values.specs.Calls.{has_commit}
-use Rattle.svc_values.specs.Same.{same_bool}
+use Rattle.svc_values.specs.meaning.Calls.{has_commit}
+use Rattle.svc_values.specs.meaning.Same.{same_bool}
 use Rattle.client_model.specs.declared.act.Hold.{Hold}
 use Rattle.client_model.specs.declared.act.Hold.TheVariants.{Keep, GiveBack, Drop}
 use Rattle.client_model.specs.declared.input.Input.{Input}
@@ -18,16 +18,16 @@ use Rattle.client_model.specs.declared.input.Input.TheVariants.{Start, Waiting, 
 use Rattle.client_model.specs.declared.input.Wants.{Wants}
 use Rattle.client_model.specs.declared.input.Wants.TheVariants as wants
 use Rattle.client_model.specs.Conversation.{is_wanted, is_gone}
-use Rattle.client_model.specs.Talk.{Step as Talking, wants_of, talk_step, takes as taken_by, on_hello, waits_from}
-use Rattle.client_model.specs.Terms.{Terms, Talk, Phase, Greeting}
-use Rattle.world_model.specs.Acting.{call_in}
-use Rattle.world_model.specs.Clients.{Step}
+use Rattle.client_model.specs.meaning.Talk.{Step as Talking, wants_of, talk_step, takes as taken_by, on_hello, waits_from}
+use Rattle.client_model.specs.meaning.Terms.{Terms, Talk, Phase, Greeting}
+use Rattle.world_model.specs.meaning.Acting.{call_in}
+use Rattle.world_model.specs.meaning.Clients.{Step}
 use Rattle.world_model.specs.records.Conversing.{connected}
-use Rattle.world_model.specs.Frames.{Owner, Sent, Reply}
+use Rattle.world_model.specs.meaning.Frames.{Owner, Sent, Reply}
 use Rattle.world_model.specs.records.Hold.{is_held, holds_connection}
 use Rattle.world_model.specs.Orderly.{Orderly}
-use Rattle.world_model.specs.Links.{Link, link_at, sends, takes}
-use Rattle.world_model.specs.Machines.{Machine}
+use Rattle.world_model.specs.meaning.Links.{Link, link_at, sends, takes}
+use Rattle.world_model.specs.meaning.Machines.{Machine}
 use Rattle.invariant_laws.specs.Once.{has_fate, are_apart, is_frame_of}
 use Rattle.world_model.specs.Parts.{Sending, Scan, sent_on, is_commit_call, is_unmarked_frame, held_number}
 use Rattle.world_model.specs.Sames.{owned_by}

@@ -10,23 +10,23 @@ use Rattle.svc_values.specs.declared.draw.Draw.{Draw}
 use Rattle.svc_values.specs.declared.entry.Ltxid.{Ltxid}
 use Rattle.svc_values.specs.declared.frame.Down.{Down}
 use Rattle.svc_values.specs.declared.frame.Down.TheVariants as down
-use Rattle.svc_values.specs.Calls.{has_commit}
+use Rattle.svc_values.specs.meaning.Calls.{has_commit}
 use Rattle.client_model.specs.declared.act.Hold.TheVariants as hold
 use Rattle.client_model.specs.declared.act.Shown.{Shown}
 use Rattle.client_model.specs.declared.input.Input.{Input}
 use Rattle.client_model.specs.declared.input.Input.TheVariants.{Start, Waiting, Lent, Opened, TryFailed, Took, Gone}
-use Rattle.client_model.specs.States.{Living}
-use Rattle.client_model.specs.Talk.{talk_step, takes as taken_by, next_call}
-use Rattle.client_model.specs.Terms.{Terms, Talk, Phase, Running}
+use Rattle.client_model.specs.meaning.States.{Living}
+use Rattle.client_model.specs.meaning.Talk.{talk_step, takes as taken_by, next_call}
+use Rattle.client_model.specs.meaning.Terms.{Terms, Talk, Phase, Running}
 use Rattle.svc_values.specs.declared.frame.Up.{Up}
 use Rattle.svc_values.specs.declared.frame.Up.TheVariants as up
-use Rattle.world_model.specs.Acting.{sent_by, call_in}
-use Rattle.world_model.specs.Clients.{Step}
+use Rattle.world_model.specs.meaning.Acting.{sent_by, call_in}
+use Rattle.world_model.specs.meaning.Clients.{Step}
 use Rattle.world_model.specs.records.Conversing.{connected}
-use Rattle.world_model.specs.Frames.{Owner, Sent}
+use Rattle.world_model.specs.meaning.Frames.{Owner, Sent}
 use Rattle.world_model.specs.Orderly.{Orderly}
-use Rattle.world_model.specs.Links.{Link, link_at, sends, takes, told_by}
-use Rattle.world_model.specs.Machines.{Machine}
+use Rattle.world_model.specs.meaning.Links.{Link, link_at, sends, takes, told_by}
+use Rattle.world_model.specs.meaning.Machines.{Machine}
 use Rattle.invariant_laws.specs.Once.{share, are_apart, is_open_or_committed}
 use Rattle.world_model.specs.records.Hold.{is_awaited, is_call}
 use Rattle.world_model.specs.Parts.{Sending, Scan, answered, commit_sendings, is_commit_call, is_unmarked_frame}
@@ -41,11 +41,11 @@ use Rattle.invariant_laws.proofs.entries.TriedApart.{share_not}
 use Rattle.invariant_laws.proofs.losses.LostSteps.{before_so, in_course}
 use Rattle.invariant_laws.proofs.talks.Placing.{said as spoken_frames}
 use Rattle.invariant_laws.proofs.sendings.SendingsMade.{chosen_from}
-use Rattle.svc_values.specs.Endings.{ends_committed}
-use Rattle.svc_values.specs.Identifiers.{same_ltxid}
-use Rattle.client_model.specs.Talk.{on_reply, talk_shown}
-use Rattle.world_model.specs.Acting.{frames_of, owner_at}
-use Rattle.world_model.specs.Clients.{heard, step_at}
+use Rattle.svc_values.specs.meaning.Endings.{ends_committed}
+use Rattle.svc_values.specs.meaning.Identifiers.{same_ltxid}
+use Rattle.client_model.specs.meaning.Talk.{on_reply, talk_shown}
+use Rattle.world_model.specs.meaning.Acting.{frames_of, owner_at}
+use Rattle.world_model.specs.meaning.Clients.{heard, step_at}
 use Rattle.world_model.specs.Parts.{scanned, with_taken}
 use Rattle.world_model.specs.Sames.{same_owner}
 use Rattle.world_model.specs.records.Wire.{is_reply_front, handled_from, is_answered_in_order}

@@ -9,20 +9,21 @@ use Rattle.std.proofs.lemmas.List.Folds.{list_any-append}
 use Rattle.svc_values.specs.declared.call.Call.{Call}
 use Rattle.svc_values.specs.declared.frame.Up.{Up}
 use Rattle.svc_values.specs.declared.frame.Up.TheVariants as up
-use Rattle.svc_values.specs.Calls.{has_commit}
+use Rattle.svc_values.specs.meaning.Calls.{has_commit}
 use Rattle.svc_values.specs.SameLaws.{same_call_decides}
-use Rattle.client_model.specs.States.{Living}
-use Rattle.client_model.specs.Talk.{next_call}
-use Rattle.client_model.specs.Terms.{Talk, Phase, Idle, Running}
-use Rattle.client_model.specs.Account.{unheard, after_step}
-use Rattle.client_model.specs.Conversation.{Done, talk_after, steps_of}
+use Rattle.client_model.specs.meaning.States.{Living}
+use Rattle.client_model.specs.meaning.Talk.{next_call}
+use Rattle.client_model.specs.meaning.Terms.{Talk, Phase, Idle, Running}
+use Rattle.client_model.specs.meaning.Account.{unheard, after_step}
+use Rattle.client_model.specs.meaning.Conversation.{Done}
+use Rattle.client_model.specs.Conversation.{talk_after, steps_of}
 use Rattle.client_model.proofs.Offered.{Fits, IsTalk, first_talks, last_talks, next_left}
 use Rattle.world_model.specs.records.Conversing.{Talks, first_talk, inputs_of}
 use Rattle.world_model.specs.Words.{held_in}
-use Rattle.world_model.specs.Frames.{Owner, Sent}
+use Rattle.world_model.specs.meaning.Frames.{Owner, Sent}
 use Rattle.world_model.specs.Orderly.{Orderly}
-use Rattle.world_model.specs.Links.{Link, link_at}
-use Rattle.world_model.specs.Machines.{Machine}
+use Rattle.world_model.specs.meaning.Links.{Link, link_at}
+use Rattle.world_model.specs.meaning.Machines.{Machine}
 use Rattle.world_model.specs.Parts.{Sending, Scan, is_unmarked, is_commit_frame, is_commit_call}
 use Rattle.world_model.specs.Sames.{all_with, each_pair, owned_by}
 use Rattle.world_model.specs.records.Script.{is_sending_of, is_call_of, reverse_onto}

@@ -5,15 +5,15 @@ use Rattle.std.specs.List.{list_all, list_any}
 use Rattle.std.proofs.lemmas.Bool.{and_parts, and_from, or_right}
 use Rattle.std.proofs.lemmas.List.Folds.{list_all-append}
 use Rattle.svc_values.specs.declared.entry.Ltxid.{Ltxid}
-use Rattle.svc_values.specs.Calls.{has_commit}
-use Rattle.world_model.specs.Clients.{Step}
-use Rattle.world_model.specs.Frames.{Owner}
+use Rattle.svc_values.specs.meaning.Calls.{has_commit}
+use Rattle.world_model.specs.meaning.Clients.{Step}
+use Rattle.world_model.specs.meaning.Frames.{Owner}
 use Rattle.world_model.specs.Orderly.{Orderly}
-use Rattle.world_model.specs.Machines.{Machine}
+use Rattle.world_model.specs.meaning.Machines.{Machine}
 use Rattle.world_model.specs.Sames.{all_with, each_pair}
 use Rattle.world_model.proofs.Offered.{HasStepped, at_event, scan_by, heard_scan, first_step, eq_from, some_same, weaker_all, leads, or_second, Followed, follow_happens, basic_is_kept}
 use Rattle.world_model.specs.records.Basic.{sessions_differ}
-use Rattle.world_model.specs.Links.{Link, link_at}
+use Rattle.world_model.specs.meaning.Links.{Link, link_at}
 use Rattle.invariant_laws.specs.Once.{is_on_link, share, are_apart}
 use Rattle.world_model.specs.Parts.{Sending, Scan}
 use Rattle.world_model.specs.Traced.{Traced}
@@ -21,7 +21,7 @@ use Rattle.invariant_laws.proofs.sendings.FateSteps.{IsFated, fated, fated_from}
 use Rattle.invariant_laws.proofs.sendings.Fates.{Waits}
 use Rattle.invariant_laws.proofs.talks.InPlace.{InPlace, Here, There}
 use Rattle.svc_values.specs.declared.call.Call.{Call}
-use Rattle.world_model.specs.Frames.{Sent}
+use Rattle.world_model.specs.meaning.Frames.{Sent}
 use Rattle.world_model.specs.Parts.{sent_on, out_frame, is_commit_call, is_unmarked_frame}
 use Rattle.world_model.specs.Sames.{owned_by}
 use Rattle.invariant_laws.proofs.sendings.ApartSteps.{AnsweredAs, NoneNow, LastNow, PushedAs, NoMore, OneMade, pushed_as, made_calls, commits, made_shares, share_turned, with_answered, each_answered, answered_as, none_waits}
@@ -30,11 +30,11 @@ use Rattle.invariant_laws.proofs.losses.LostKept.{both_all}
 use Rattle.invariant_laws.proofs.sendings.SendingsMade.{made, Speaks, speaks}
 use Rattle.std.proofs.Common.{map}
 use Rattle.outage_schedule.specs.declared.document.Client.{Client as Scripted}
-use Rattle.world_model.specs.Clients.{Client, resting}
+use Rattle.world_model.specs.meaning.Clients.{Client, resting}
 use Rattle.invariant_laws.specs.KeptLaws.{IsKeptOfAll}
 use Rattle.invariant_laws.specs.Once.{all_sendings}
 use Rattle.world_model.specs.Parts.{commit_sendings}
-use Rattle.world_model.specs.Settings.{Setting, setting_of}
+use Rattle.world_model.specs.meaning.Settings.{Setting, setting_of}
 use Rattle.world_model.specs.Traced.{courses_of_clients}
 use Rattle.invariant_laws.proofs.talks.InPlace.{Others, AllBack, OneMore, pairs_in}
 use Rattle.invariant_laws.proofs.sendings.KeptFates.{fates_law}

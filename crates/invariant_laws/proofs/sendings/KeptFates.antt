@@ -9,24 +9,24 @@ use Rattle.svc_values.specs.declared.entry.Ltxid.{Ltxid}
 use Rattle.svc_values.specs.declared.frame.Up.{Up}
 use Rattle.svc_values.specs.declared.frame.Up.TheVariants as up
 use Rattle.svc_values.specs.declared.value.Value.{Value}
-use Rattle.svc_values.specs.Calls.{has_commit}
+use Rattle.svc_values.specs.meaning.Calls.{has_commit}
 use Rattle.client_model.specs.declared.act.Hold.{Hold}
 use Rattle.client_model.specs.declared.act.Hold.TheVariants.{Keep}
 use Rattle.client_model.specs.declared.input.Input.{Input}
-use Rattle.client_model.specs.Talk.{talk_step}
-use Rattle.world_model.specs.Acting.{call_in}
-use Rattle.world_model.specs.Clients.{Client, Doing, Step}
+use Rattle.client_model.specs.meaning.Talk.{talk_step}
+use Rattle.world_model.specs.meaning.Acting.{call_in}
+use Rattle.world_model.specs.meaning.Clients.{Client, Doing, Step}
 use Rattle.world_model.specs.records.Conversing.{connected}
-use Rattle.world_model.specs.Frames.{Owner, Sent}
+use Rattle.world_model.specs.meaning.Frames.{Owner, Sent}
 use Rattle.world_model.specs.records.Hold.{is_idle}
 use Rattle.world_model.specs.Orderly.{Orderly}
 use Rattle.invariant_laws.specs.KeptLaws.{IsKeptOfAll}
-use Rattle.world_model.specs.Links.{Link, link_at, sends}
-use Rattle.world_model.specs.Machines.{Machine}
+use Rattle.world_model.specs.meaning.Links.{Link, link_at, sends}
+use Rattle.world_model.specs.meaning.Machines.{Machine}
 use Rattle.invariant_laws.specs.Once.{have_fates, are_apart}
 use Rattle.world_model.specs.Parts.{Sending, Scan, sent_on, answered, commit_sendings, is_unmarked_frame}
 use Rattle.world_model.specs.Reached.{traced_start}
-use Rattle.world_model.specs.Settings.{Setting, setting_of}
+use Rattle.world_model.specs.meaning.Settings.{Setting, setting_of}
 use Rattle.world_model.specs.Traced.{Traced, Course, course_now, courses_of, courses_of_clients}
 use Rattle.world_model.proofs.Offered.{weaker_all, HasStepped, HeardOn, OfNone, OfIdle, OfNew, OfReply, OfEnded, is_frame, all_step, Followed, follow_happens, at_event, held_now, resting_none, some_same, opening, sends_at, moves_next_number as next_number, scan_by, heard_scan, after_sendings, leads, lent_idle, first_step, first_doing, same_owner_is, at_link, sends_alike, all_orderly, ends_at, is_orderly, open_living, places}
 use Rattle.invariant_laws.proofs.sendings.Fates.{Fate, same_fate, call_frames, made_fate}

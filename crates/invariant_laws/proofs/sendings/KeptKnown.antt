@@ -10,26 +10,26 @@ use Rattle.svc_values.specs.declared.call.Call.{Call}
 use Rattle.svc_values.specs.declared.entry.Ltxid.{Ltxid}
 use Rattle.svc_values.specs.declared.frame.Up.TheVariants as up
 use Rattle.svc_values.specs.declared.value.Value.{Value}
-use Rattle.svc_values.specs.Calls.{has_commit}
-use Rattle.svc_values.specs.Identifiers.{same_ltxid}
+use Rattle.svc_values.specs.meaning.Calls.{has_commit}
+use Rattle.svc_values.specs.meaning.Identifiers.{same_ltxid}
 use Rattle.outage_schedule.specs.declared.item.Served.{Served}
 use Rattle.outage_schedule.specs.declared.request.Outcome.{Outcome}
 use Rattle.outage_schedule.specs.declared.request.ShownCall.{ShownCall}
-use Rattle.run_clauses.specs.Reports.{shown_call}
-use Rattle.run_clauses.specs.Tried.{holds}
+use Rattle.run_clauses.specs.meaning.Reports.{shown_call}
+use Rattle.run_clauses.specs.meaning.Tried.{holds}
 use Rattle.client_model.specs.declared.act.Hold.TheVariants as hold
-use Rattle.world_model.specs.Clients.{Step, Doing}
-use Rattle.world_model.specs.Frames.{Owner}
+use Rattle.world_model.specs.meaning.Clients.{Step, Doing}
+use Rattle.world_model.specs.meaning.Frames.{Owner}
 use Rattle.world_model.specs.records.Hold.{are_by_held}
 use Rattle.invariant_laws.specs.Invariant.{Invariant}
 use Rattle.invariant_laws.specs.KeptLaws.{IsKeptOfAll}
-use Rattle.world_model.specs.Links.{Link, link_at}
+use Rattle.world_model.specs.meaning.Links.{Link, link_at}
 use Rattle.invariant_laws.specs.Lost.{go_unasked, goes_unasked, outcome_on}
-use Rattle.world_model.specs.Machines.{Machine}
-use Rattle.world_model.specs.Matching.{Noted}
+use Rattle.world_model.specs.meaning.Machines.{Machine}
+use Rattle.world_model.specs.meaning.Matching.{Noted}
 use Rattle.invariant_laws.specs.Once.{all_but_last, all_known, are_known, are_placed, is_known, tells_completed}
 use Rattle.world_model.specs.Parts.{Scan, Sending, commit_sendings, sent_on}
-use Rattle.world_model.specs.Settings.{Setting, setting_of}
+use Rattle.world_model.specs.meaning.Settings.{Setting, setting_of}
 use Rattle.world_model.specs.Traced.{Traced, Course, course_now, courses_of}
 use Rattle.world_model.specs.Reached.{traced_start}
 use Rattle.world_model.proofs.Offered.{weaker_all, HasStepped, happens_step, Followed, follow_happens, at_event, doing_course, by_held_law, resting_none, Happens, opening, scan_by, heard_scan, after_sendings, account_now, first_step, first_doing}

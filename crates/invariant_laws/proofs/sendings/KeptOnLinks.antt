@@ -7,23 +7,23 @@ use Rattle.std.proofs.lemmas.Bool.{or_right}
 use Rattle.svc_values.specs.declared.call.Call.{Call}
 use Rattle.svc_values.specs.declared.entry.Ltxid.{Ltxid}
 use Rattle.svc_values.specs.declared.entry.SessionId.{SessionId}
-use Rattle.svc_values.specs.Calls.{has_commit}
-use Rattle.svc_values.specs.Identifiers.{is_of_session, session_of}
+use Rattle.svc_values.specs.meaning.Calls.{has_commit}
+use Rattle.svc_values.specs.meaning.Identifiers.{is_of_session, session_of}
 use Rattle.outage_schedule.specs.declared.item.Served.{Served}
 use Rattle.world_model.specs.records.Basic.{is_named, are_named, sessions_differ}
-use Rattle.world_model.specs.Clients.{Client}
-use Rattle.world_model.specs.Frames.{Owner, Handled}
+use Rattle.world_model.specs.meaning.Clients.{Client}
+use Rattle.world_model.specs.meaning.Frames.{Owner, Handled}
 use Rattle.world_model.specs.records.Hold as hold
 use Rattle.world_model.specs.Orderly.{Orderly}
 use Rattle.invariant_laws.specs.KeptLaws.{StaysTrue}
-use Rattle.world_model.specs.Links.{Link, link_at}
-use Rattle.world_model.specs.Machines.{Machine}
-use Rattle.world_model.specs.Matching.{Noted}
+use Rattle.world_model.specs.meaning.Links.{Link, link_at}
+use Rattle.world_model.specs.meaning.Machines.{Machine}
+use Rattle.world_model.specs.meaning.Matching.{Noted}
 use Rattle.invariant_laws.specs.Once.{is_on_link, on_links}
 use Rattle.world_model.specs.Parts.{Sending, Scan, commit_sendings}
-use Rattle.world_model.specs.Serving.{Front, front_at, is_of_front, after_front}
+use Rattle.world_model.specs.meaning.Serving.{Front, front_at, is_of_front, after_front}
 use Rattle.world_model.specs.Reached.{traced_start}
-use Rattle.world_model.specs.Settings.{Setting, setting_of}
+use Rattle.world_model.specs.meaning.Settings.{Setting, setting_of}
 use Rattle.world_model.specs.Traced.{Traced, Course, course_now, courses_of, courses_of_clients}
 use Rattle.world_model.proofs.Offered.{at_link, front_is, weaker_all, all_wired, HasStepped, all_step, shut, sends_alike, handled_alike, cut_case, fallen_case, connect_first, Followed, follow_happens, at_event, basic_is_kept, resting_none, named_test, unnamed, other_session, Happens, is_wired, wired_sent, wired_right, serving, scan_by, heard_scan, after_sendings, leads, first_step, session_self}
 use Rattle.invariant_laws.proofs.losses.KeptUnasked.{held_session}

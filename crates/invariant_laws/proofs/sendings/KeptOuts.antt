@@ -9,24 +9,24 @@ use Rattle.svc_values.specs.declared.entry.Ltxid.{Ltxid}
 use Rattle.svc_values.specs.declared.frame.Up.{Up}
 use Rattle.svc_values.specs.declared.frame.Up.TheVariants as up
 use Rattle.svc_values.specs.declared.value.Value.{Value}
-use Rattle.svc_values.specs.Calls.{has_commit}
-use Rattle.svc_values.specs.Identifiers.{same_ltxid}
+use Rattle.svc_values.specs.meaning.Calls.{has_commit}
+use Rattle.svc_values.specs.meaning.Identifiers.{same_ltxid}
 use Rattle.outage_schedule.specs.declared.item.Served.{Served}
 use Rattle.client_model.specs.declared.act.Hold.{Hold}
 use Rattle.client_model.specs.declared.act.Hold.TheVariants.{Keep}
 use Rattle.client_model.specs.declared.input.Input.TheVariants.{Opened}
-use Rattle.world_model.specs.Acting.{sent_by, call_in}
-use Rattle.world_model.specs.Clients.{Client, Step}
+use Rattle.world_model.specs.meaning.Acting.{sent_by, call_in}
+use Rattle.world_model.specs.meaning.Clients.{Client, Step}
 use Rattle.world_model.specs.records.Conversing.{connected}
-use Rattle.world_model.specs.Frames.{Owner, Sent, Reply}
+use Rattle.world_model.specs.meaning.Frames.{Owner, Sent, Reply}
 use Rattle.world_model.specs.Orderly.{Orderly}
 use Rattle.invariant_laws.specs.KeptLaws.{IsKeptOfAll}
-use Rattle.world_model.specs.Links.{Link, new_link, link_at, sends}
-use Rattle.world_model.specs.Machines.{Machine}
-use Rattle.world_model.specs.Matching.{Noted}
+use Rattle.world_model.specs.meaning.Links.{Link, new_link, link_at, sends}
+use Rattle.world_model.specs.meaning.Machines.{Machine}
+use Rattle.world_model.specs.meaning.Matching.{Noted}
 use Rattle.invariant_laws.specs.Once.{are_apart, all_sendings, has_commit_out, is_waiting_on, out_waits, outs_wait}
 use Rattle.world_model.specs.Parts.{Sending, Scan, Numbered, commit_sendings, implies, is_commit_call, is_rep, count_reps, is_unmarked_frame, sent_on}
-use Rattle.world_model.specs.Settings.{Setting}
+use Rattle.world_model.specs.meaning.Settings.{Setting}
 use Rattle.world_model.specs.Traced.{Traced, courses_of_clients}
 use Rattle.invariant_laws.proofs.sendings.ApartSteps.{commits}
 use Rattle.world_model.proofs.Offered.{HasStepped, sends_alike, all_numbered, Followed, follow_happens, at_event, held_now, numbered_at, implied, moves_next_number as next_number, ltxid_self, opening, sends_at, heard_scan, leads, places, first_step, first_doing, eq_from, eq_to, not_both, ComesFrom, IsNew, IsOld, all_turn, either, some_same}

@@ -11,18 +11,18 @@ use Rattle.svc_values.specs.declared.entry.Ltxid.{Ltxid}
 use Rattle.svc_values.specs.declared.frame.Up.{Up}
 use Rattle.svc_values.specs.declared.frame.Up.TheVariants as up
 use Rattle.svc_values.specs.declared.value.Value.{Value}
-use Rattle.svc_values.specs.Same.{same_call}
+use Rattle.svc_values.specs.meaning.Same.{same_call}
 use Rattle.svc_values.specs.SameLaws.{same_call_decides}
 use Rattle.outage_schedule.specs.declared.document.Request.{Request}
-use Rattle.world_model.specs.Acting.{call_in}
-use Rattle.world_model.specs.Clients.{Step, Doing}
-use Rattle.world_model.specs.Frames.{Owner}
+use Rattle.world_model.specs.meaning.Acting.{call_in}
+use Rattle.world_model.specs.meaning.Clients.{Step, Doing}
+use Rattle.world_model.specs.meaning.Frames.{Owner}
 use Rattle.world_model.specs.Orderly.{Orderly}
 use Rattle.invariant_laws.specs.KeptLaws.{IsKeptOfAll}
-use Rattle.world_model.specs.Machines.{Machine}
+use Rattle.world_model.specs.meaning.Machines.{Machine}
 use Rattle.invariant_laws.specs.Once.{is_placed, are_placed, all_placed, are_apart}
 use Rattle.world_model.specs.Parts.{Sending, Scan, sent_on}
-use Rattle.world_model.specs.Settings.{Setting, setting_of}
+use Rattle.world_model.specs.meaning.Settings.{Setting, setting_of}
 use Rattle.world_model.specs.Traced.{Traced, course_now, courses_of_clients}
 use Rattle.world_model.specs.Words.{brought, held_in}
 use Rattle.world_model.proofs.Offered.{weaker_all, HasStepped, all_step, Followed, follow_happens, at_event, resting_none, opening, scan_by, heard_scan, after_sendings, after_held, places, leads, sends_at, account_now, first_step, first_doing, first_talks_on, request_after, eq_from}

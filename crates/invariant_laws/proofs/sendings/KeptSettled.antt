@@ -11,33 +11,33 @@ use Rattle.svc_values.specs.declared.call.Call.{Call}
 use Rattle.svc_values.specs.declared.entry.Ltxid.{Ltxid}
 use Rattle.svc_values.specs.declared.frame.Up.TheVariants as up
 use Rattle.svc_values.specs.declared.value.Value.{Value}
-use Rattle.svc_values.specs.Calls.{has_commit}
-use Rattle.svc_values.specs.Endings.{ends_committed, ends_transaction}
-use Rattle.svc_values.specs.Same.{same_call}
+use Rattle.svc_values.specs.meaning.Calls.{has_commit}
+use Rattle.svc_values.specs.meaning.Endings.{ends_committed, ends_transaction}
+use Rattle.svc_values.specs.meaning.Same.{same_call}
 use Rattle.outage_schedule.specs.declared.item.Served.{Served}
 use Rattle.outage_schedule.specs.declared.request.ShownCall.{ShownCall}
-use Rattle.run_clauses.specs.Reports.{failure_of, failed_in, shown_call}
-use Rattle.run_clauses.specs.Tried.{holds}
+use Rattle.run_clauses.specs.meaning.Reports.{failure_of, failed_in, shown_call}
+use Rattle.run_clauses.specs.meaning.Tried.{holds}
 use Rattle.server_model.specs.Laws.{EntryNumbers}
 use Rattle.client_model.specs.declared.act.Hold.TheVariants as hold
 use Rattle.client_model.specs.Conversation.{is_gone_next}
-use Rattle.client_model.specs.States.{Living}
-use Rattle.client_model.specs.Terms.{Running}
+use Rattle.client_model.specs.meaning.States.{Living}
+use Rattle.client_model.specs.meaning.Terms.{Running}
 use Rattle.world_model.specs.records.Basic.{sessions_differ}
-use Rattle.world_model.specs.Clients.{Step, Doing}
-use Rattle.world_model.specs.Frames.{Owner}
+use Rattle.world_model.specs.meaning.Clients.{Step, Doing}
+use Rattle.world_model.specs.meaning.Frames.{Owner}
 use Rattle.world_model.specs.records.Hold.{are_by_held}
 use Rattle.invariant_laws.specs.Invariant.{Invariant}
 use Rattle.invariant_laws.specs.KeptLaws.{IsKeptOfAll}
-use Rattle.world_model.specs.Links.{Link}
+use Rattle.world_model.specs.meaning.Links.{Link}
 use Rattle.invariant_laws.specs.Lost.{are_lost, fail_incomplete, fails_incomplete, is_failed_by, is_pending, is_wanted, lost_links, lost_rightly, outcome_on, without_last}
-use Rattle.world_model.specs.Machines.{Machine}
-use Rattle.world_model.specs.Matching.{Noted}
+use Rattle.world_model.specs.meaning.Machines.{Machine}
+use Rattle.world_model.specs.meaning.Matching.{Noted}
 use Rattle.invariant_laws.specs.Once.{all_but_last, all_known, all_placed, all_sendings, are_known, are_placed, earlier_settled, is_known, is_open_or_committed, is_placed, is_settled, later_settled, notes_sendings, shows_at, tells_completed, transaction_at}
 use Rattle.world_model.specs.Parts.{Scan, Sending, commit_sendings, sendings_of, sent_on}
 use Rattle.world_model.specs.Reached.{traced_start}
 use Rattle.world_model.specs.Sames.{same_owner}
-use Rattle.world_model.specs.Settings.{Setting, setting_of}
+use Rattle.world_model.specs.meaning.Settings.{Setting, setting_of}
 use Rattle.world_model.specs.Traced.{Traced, Course, course_now, courses_of}
 use Rattle.world_model.specs.Wanted.{Wanted, wanted_in}
 use Rattle.world_model.specs.Words.{dones_of, held_in}

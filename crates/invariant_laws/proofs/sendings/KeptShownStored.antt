@@ -13,31 +13,31 @@ use Rattle.svc_values.specs.declared.entry.Ltxid.{Ltxid}
 use Rattle.svc_values.specs.declared.frame.Down.TheVariants as down
 use Rattle.svc_values.specs.declared.frame.Up.{Up}
 use Rattle.svc_values.specs.declared.frame.Up.TheVariants as up
-use Rattle.svc_values.specs.Calls.{has_commit}
-use Rattle.svc_values.specs.Endings.{ends_committed}
-use Rattle.svc_values.specs.Identifiers.{same_ltxid}
+use Rattle.svc_values.specs.meaning.Calls.{has_commit}
+use Rattle.svc_values.specs.meaning.Endings.{ends_committed}
+use Rattle.svc_values.specs.meaning.Identifiers.{same_ltxid}
 use Rattle.svc_values.specs.SameLaws.{same_ltxid_decides}
 use Rattle.outage_schedule.specs.declared.item.Served.{Served}
 use Rattle.outage_schedule.specs.declared.request.ShownCall.{ShownCall}
-use Rattle.run_clauses.specs.Reports.{shown_call}
+use Rattle.run_clauses.specs.meaning.Reports.{shown_call}
 use Rattle.server_model.specs.Laws.{EntryNumbers}
 use Rattle.client_model.specs.declared.act.Shown.{Shown}
-use Rattle.client_model.specs.States.{Living}
-use Rattle.client_model.specs.Terms.{Phase, Running}
+use Rattle.client_model.specs.meaning.States.{Living}
+use Rattle.client_model.specs.meaning.Terms.{Phase, Running}
 use Rattle.world_model.specs.records.Basic.{sessions_differ}
-use Rattle.world_model.specs.Clients.{Step, Doing}
-use Rattle.world_model.specs.Frames.{Owner, Sent}
+use Rattle.world_model.specs.meaning.Clients.{Step, Doing}
+use Rattle.world_model.specs.meaning.Frames.{Owner, Sent}
 use Rattle.world_model.specs.records.Hold.{are_by_held, is_awaited, is_call}
 use Rattle.invariant_laws.specs.Invariant.{Invariant}
 use Rattle.invariant_laws.specs.KeptLaws.{IsKeptOfAll}
-use Rattle.world_model.specs.Links.{Link}
-use Rattle.world_model.specs.Machines.{Machine}
-use Rattle.world_model.specs.Matching.{Noted}
+use Rattle.world_model.specs.meaning.Links.{Link}
+use Rattle.world_model.specs.meaning.Machines.{Machine}
+use Rattle.world_model.specs.meaning.Matching.{Noted}
 use Rattle.world_model.specs.records.Number.{ahead_rightly, cond_held, is_ahead, is_counted, is_near, last_is_stopped_commit}
 use Rattle.invariant_laws.specs.Once.{all_sendings, is_open_or_committed, is_shown_stored, is_stored_at, shown_stored, stored_from}
 use Rattle.world_model.specs.Parts.{Scan, Sending, commit_sendings, has_entry, held_number, implies, is_answered, is_commit_call, is_unmarked, is_unmarked_frame, number_of, sent_on}
 use Rattle.world_model.specs.Reached.{traced_start}
-use Rattle.world_model.specs.Settings.{Setting, setting_of}
+use Rattle.world_model.specs.meaning.Settings.{Setting, setting_of}
 use Rattle.world_model.specs.Traced.{Traced, Course, courses_of, courses_of_clients}
 use Rattle.world_model.proofs.Offered.{at_link, weaker_all, HasStepped, happens_step, Followed, follow_happens, at_event, any_goes, basic_is_kept, by_held_law, resting_none, extra_few, implied, Happens, scan_by, heard_scan, after_sendings, account_now, first_step, first_doing, eq_from, eq_to, le_from, implied_by, none_is}
 use Rattle.invariant_laws.proofs.sendings.ApartSteps.{PushedAs, NoMore, OneMade, commits, pushed_as}

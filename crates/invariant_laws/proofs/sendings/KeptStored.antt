@@ -9,17 +9,17 @@ use Rattle.svc_values.specs.declared.answer.Answer.{Answer}
 use Rattle.svc_values.specs.declared.entry.Entry.{Entry}
 use Rattle.svc_values.specs.declared.entry.Ltxid.{Ltxid}
 use Rattle.svc_values.specs.declared.entry.SessionId.{SessionId}
-use Rattle.svc_values.specs.Endings.{ends_committed}
-use Rattle.svc_values.specs.Identifiers.{same_ltxid, is_of_session, session_of}
-use Rattle.run_clauses.specs.EntryEvents.{entries_of}
+use Rattle.svc_values.specs.meaning.Endings.{ends_committed}
+use Rattle.svc_values.specs.meaning.Identifiers.{same_ltxid, is_of_session, session_of}
+use Rattle.run_clauses.specs.meaning.EntryEvents.{entries_of}
 use Rattle.server_model.specs.Laws.{EntryNumbers}
 use Rattle.invariant_laws.specs.KeptLaws.{IsKeptOfAll}
-use Rattle.world_model.specs.Links.{Link, link_at}
+use Rattle.world_model.specs.meaning.Links.{Link, link_at}
 use Rattle.world_model.specs.records.Number.{cond_held, numbered_after, is_near, are_near}
 use Rattle.invariant_laws.specs.Once.{is_on_link, all_sendings, committed_stored}
 use Rattle.world_model.specs.Parts.{Sending, commit_sendings, has_entry, implies, held_number, number_of}
 use Rattle.world_model.specs.Reached.{traced_start}
-use Rattle.world_model.specs.Settings.{setting_of}
+use Rattle.world_model.specs.meaning.Settings.{setting_of}
 use Rattle.world_model.specs.Traced.{Traced, courses_of}
 use Rattle.world_model.proofs.Offered.{at_link, weaker_all, number_named, near_law, numbered_now, resting_none, some_same, entries_cons, numbered_parts, ltxid_self, eq_from, eq_to, le_from, not_both, same_session_is}
 use Rattle.invariant_laws.proofs.sendings.FateSteps.{fated, fated_from}

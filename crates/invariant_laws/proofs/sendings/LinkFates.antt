@@ -8,19 +8,19 @@ use Rattle.std.proofs.lemmas.List.Elements.{filter-append, filter_map-append}
 use Rattle.std.proofs.lemmas.List.Sums.{sum_by-append, sum_by-cons}
 use Rattle.svc_values.specs.declared.call.Call.{Call}
 use Rattle.svc_values.specs.declared.entry.Ltxid.{Ltxid}
-use Rattle.svc_values.specs.Endings.{ends_committed}
-use Rattle.svc_values.specs.Same.{same_answers, same_call, same_draws}
+use Rattle.svc_values.specs.meaning.Endings.{ends_committed}
+use Rattle.svc_values.specs.meaning.Same.{same_answers, same_call, same_draws}
 use Rattle.svc_values.specs.SameLaws.{same_answers_decide}
 use Rattle.outage_schedule.specs.declared.item.Item.{Item}
 use Rattle.outage_schedule.specs.declared.item.Item.TheVariants as item
 use Rattle.outage_schedule.specs.declared.request.ShownCall.{ShownCall}
 use Rattle.client_model.specs.declared.input.Input.TheVariants.{Took}
-use Rattle.world_model.specs.Frames.{Reply, Handled}
-use Rattle.world_model.specs.Links.{Link, told_by}
+use Rattle.world_model.specs.meaning.Frames.{Reply, Handled}
+use Rattle.world_model.specs.meaning.Links.{Link, told_by}
 use Rattle.world_model.specs.records.Number.{last_told}
 use Rattle.world_model.specs.Parts.{held_number, served_reps}
 use Rattle.world_model.specs.Sames.{same_reply, is_front}
-use Rattle.world_model.specs.Serving.{is_commit}
+use Rattle.world_model.specs.meaning.Serving.{is_commit}
 use Rattle.invariant_laws.specs.Shown.{is_shown_item}
 use Rattle.world_model.specs.records.Wire.{reply_to, replies_of, is_handled, counted_with, handled_from}
 use Rattle.world_model.proofs.Offered.{front_begun, told_same, Known, IsLast, commits_all, commits_behind, is_commit_of, behind_is, rep_of, all_told, alike_told, number_in, replies_rise_next_number as next_number, few_replies, front_long, le_from}

@@ -17,16 +17,16 @@ use Rattle.client_model.specs.declared.act.Hold.{Hold}
 use Rattle.client_model.specs.declared.act.Shown.{Shown}
 use Rattle.client_model.specs.declared.input.Input.{Input}
 use Rattle.client_model.specs.declared.input.Input.TheVariants.{Start, Waiting, Lent, Opened, TryFailed, Took, Gone}
-use Rattle.client_model.specs.States.{Asking}
-use Rattle.client_model.specs.Talk.{talk_step, waits_from}
-use Rattle.client_model.specs.Terms.{Talk, Phase, Asked}
-use Rattle.world_model.specs.Clients.{Step, Doing}
+use Rattle.client_model.specs.meaning.States.{Asking}
+use Rattle.client_model.specs.meaning.Talk.{talk_step, waits_from}
+use Rattle.client_model.specs.meaning.Terms.{Talk, Phase, Asked}
+use Rattle.world_model.specs.meaning.Clients.{Step, Doing}
 use Rattle.world_model.specs.records.Conversing.{connected, first_talk}
-use Rattle.world_model.specs.Frames.{Owner, Sent}
+use Rattle.world_model.specs.meaning.Frames.{Owner, Sent}
 use Rattle.world_model.specs.records.Hold.{goes_by, same_held, is_by_held}
 use Rattle.world_model.specs.Orderly.{Orderly}
-use Rattle.world_model.specs.Links.{Link, link_at, sends, takes, told_by}
-use Rattle.world_model.specs.Machines.{Machine}
+use Rattle.world_model.specs.meaning.Links.{Link, link_at, sends, takes, told_by}
+use Rattle.world_model.specs.meaning.Machines.{Machine}
 use Rattle.world_model.specs.Parts.{Sending, Scan, answered, sent_on, is_unmarked_frame}
 use Rattle.world_model.specs.Traced.{Traced}
 use Rattle.world_model.specs.Words.{brought}

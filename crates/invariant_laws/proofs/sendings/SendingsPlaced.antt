@@ -8,13 +8,13 @@ use Rattle.std.proofs.lemmas.List.Folds.{list_any-append}
 use Rattle.svc_values.specs.declared.answer.Answer.{Answer}
 use Rattle.svc_values.specs.declared.frame.Up.{Up}
 use Rattle.svc_values.specs.declared.entry.Ltxid.{Ltxid}
-use Rattle.svc_values.specs.Calls.{has_commit}
+use Rattle.svc_values.specs.meaning.Calls.{has_commit}
 use Rattle.outage_schedule.specs.declared.document.Request.{Request}
 use Rattle.client_model.specs.declared.act.Hold.{Hold}
-use Rattle.world_model.specs.Clients.{Doing, Step, begun}
-use Rattle.world_model.specs.Frames.{Owner}
+use Rattle.world_model.specs.meaning.Clients.{Doing, Step, begun}
+use Rattle.world_model.specs.meaning.Frames.{Owner}
 use Rattle.world_model.specs.Orderly.{Orderly}
-use Rattle.world_model.specs.Machines.{Machine}
+use Rattle.world_model.specs.meaning.Machines.{Machine}
 use Rattle.invariant_laws.specs.Once.{are_apart, all_sendings}
 use Rattle.world_model.specs.Parts.{Sending, Scan, commit_sendings, sent_on}
 use Rattle.world_model.specs.Traced.{Traced, Course, course_now, courses_from, courses_of, courses_of_clients}

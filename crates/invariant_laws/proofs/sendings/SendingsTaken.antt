@@ -12,8 +12,8 @@ use Rattle.svc_values.specs.declared.frame.Down.TheVariants as down
 use Rattle.client_model.specs.declared.act.Shown.{Shown}
 use Rattle.client_model.specs.declared.input.Input.{Input}
 use Rattle.client_model.specs.declared.input.Input.TheVariants.{Start, Waiting, Lent, Opened, TryFailed, Took, Gone}
-use Rattle.world_model.specs.Clients.{Step}
-use Rattle.world_model.specs.Links.{told_by}
+use Rattle.world_model.specs.meaning.Clients.{Step}
+use Rattle.world_model.specs.meaning.Links.{told_by}
 use Rattle.world_model.specs.Parts.{Sending, Scan, with_taken, answered, sent_on, scanned, implies}
 use Rattle.world_model.specs.Words.{brought}
 use Rattle.world_model.proofs.Offered.{weaker_all, le_from, le_to, lt_from, lt_to, implies_more}

@@ -5,9 +5,9 @@ use Rattle.std.specs.List.{list_all}
 use Rattle.std.proofs.lemmas.Bool.{and_parts, and_from, or_cases, or_left, or_right}
 use Rattle.std.proofs.Common.{◌⊎◌, inl, inr}
 use Rattle.svc_values.specs.declared.entry.Ltxid.{Ltxid}
-use Rattle.svc_values.specs.Calls.{has_commit}
+use Rattle.svc_values.specs.meaning.Calls.{has_commit}
 use Rattle.outage_schedule.specs.declared.request.ShownCall.{ShownCall}
-use Rattle.run_clauses.specs.Tried.{holds}
+use Rattle.run_clauses.specs.meaning.Tried.{holds}
 use Rattle.invariant_laws.specs.Once.{all_but_last, is_open_or_committed, is_settled, later_settled, transaction_at}
 use Rattle.world_model.specs.Parts.{Sending, implies}
 use Rattle.world_model.specs.Traced.{Traced}

@@ -12,37 +12,38 @@ use Rattle.svc_values.specs.declared.entry.Ltxid.{Ltxid}
 use Rattle.svc_values.specs.declared.frame.Up.{Up}
 use Rattle.svc_values.specs.declared.frame.Up.TheVariants as up
 use Rattle.svc_values.specs.declared.value.Value.{Value}
-use Rattle.svc_values.specs.SettingsList.{NamedValues, with_set, with_sets}
+use Rattle.svc_values.specs.meaning.SettingsList.{NamedValues, with_set, with_sets}
 use Rattle.request_bounds.specs.declared.rule.After.{After}
 use Rattle.request_bounds.specs.declared.rule.After.TheVariants as after
 use Rattle.request_bounds.specs.declared.rule.Why.{Why}
 use Rattle.request_bounds.specs.declared.rule.Why.TheVariants as why
-use Rattle.request_bounds.specs.Limits.{has_waited}
-use Rattle.request_bounds.specs.Replies.{ends_decided}
-use Rattle.request_bounds.specs.Rules.{Rules}
+use Rattle.request_bounds.specs.meaning.Limits.{has_waited}
+use Rattle.request_bounds.specs.meaning.Replies.{ends_decided}
+use Rattle.request_bounds.specs.meaning.Rules.{Rules}
 use Rattle.outage_schedule.specs.declared.document.Consistency.{Consistency}
 use Rattle.outage_schedule.specs.declared.document.Consistency.TheVariants as consistency
 use Rattle.outage_schedule.specs.declared.document.Failover.{Failover}
 use Rattle.outage_schedule.specs.declared.document.Failover.TheVariants as failover
 use Rattle.outage_schedule.specs.declared.document.Request.{Request}
-use Rattle.client_model.specs.Account.{Account, unheard, hears, shows, shows_found, purged_after, before_sends}
-use Rattle.client_model.specs.Conversation.{Done, is_gone, is_wanted}
+use Rattle.client_model.specs.meaning.Account.{Account, unheard, hears, shows, shows_found, purged_after, before_sends}
+use Rattle.client_model.specs.meaning.Conversation.{Done}
+use Rattle.client_model.specs.Conversation.{is_gone, is_wanted}
 use Rattle.client_model.specs.declared.act.Shown.{Shown}
 use Rattle.client_model.specs.declared.input.Input.{Input}
 use Rattle.client_model.specs.declared.input.Input.TheVariants.{Lent}
 use Rattle.client_model.specs.declared.input.Wants.TheVariants as wants
 use Rattle.client_model.specs.Laws.{EachStep, BegunWith, settings_known}
-use Rattle.client_model.specs.States.{Living, Asking}
-use Rattle.client_model.specs.Talk.{is_set, talk_step, wants_in, wants_of}
-use Rattle.client_model.specs.Terms.{Terms, Talk, Phase, Idle, Unbegun, Queued, Seeking, Greeting, Asked, Running, Replaying}
+use Rattle.client_model.specs.meaning.States.{Living, Asking}
+use Rattle.client_model.specs.meaning.Talk.{is_set, talk_step, wants_in, wants_of}
+use Rattle.client_model.specs.meaning.Terms.{Terms, Talk, Phase, Idle, Unbegun, Queued, Seeking, Greeting, Asked, Running, Replaying}
 use Rattle.client_model.proofs.Offered.{Fits, begins_known}
-use Rattle.world_model.specs.Acting.{call_in}
+use Rattle.world_model.specs.meaning.Acting.{call_in}
 use Rattle.invariant_laws.specs.Begins.{settings_before, carries_settings}
-use Rattle.world_model.specs.Clients.{Step, Doing}
+use Rattle.world_model.specs.meaning.Clients.{Step, Doing}
 use Rattle.world_model.specs.records.Conversing.{AllTalk, Talks, inputs_of}
-use Rattle.world_model.specs.Machines.{Machine}
+use Rattle.world_model.specs.meaning.Machines.{Machine}
 use Rattle.world_model.specs.Parts.{implies}
-use Rattle.world_model.specs.Settings.{Setting, rules_of}
+use Rattle.world_model.specs.meaning.Settings.{Setting, rules_of}
 use Rattle.world_model.specs.Words.{dones_of}
 use Rattle.world_model.proofs.Offered.{HasStepped, account_now, FitsNow, talks_fit, first_step, first_doing, before_talks, first_talks_on, first_fits}
 use Rattle.invariant_laws.proofs.rows.PurgedCalls.{is_purge, hears_beside, all_purged, never_purged}

@@ -8,15 +8,15 @@ use Rattle.std.proofs.lemmas.Bool.{and_parts}
 use Rattle.std.proofs.lemmas.List.{length-map}
 use Rattle.std.proofs.lemmas.Option.{slice_get_within}
 use Rattle.svc_values.specs.declared.call.Call.{Call}
-use Rattle.svc_values.specs.Same.{same_call}
-use Rattle.client_model.specs.Account.{Account, account_of, after_step, before_sends, hears, shows, shows_found, unheard}
-use Rattle.client_model.specs.Conversation.{Done}
+use Rattle.svc_values.specs.meaning.Same.{same_call}
+use Rattle.client_model.specs.meaning.Account.{Account, account_of, after_step, before_sends, hears, shows, shows_found, unheard}
+use Rattle.client_model.specs.meaning.Conversation.{Done}
 use Rattle.client_model.specs.declared.act.Shown.{Shown}
-use Rattle.client_model.specs.Terms.{Terms}
-use Rattle.run_clauses.specs.Reports.{report_of, shown_call}
-use Rattle.world_model.specs.Clients.{Step}
+use Rattle.client_model.specs.meaning.Terms.{Terms}
+use Rattle.run_clauses.specs.meaning.Reports.{report_of, shown_call}
+use Rattle.world_model.specs.meaning.Clients.{Step}
 use Rattle.invariant_laws.specs.Invariant.{Invariant}
-use Rattle.world_model.specs.Links.{Link, link_at}
+use Rattle.world_model.specs.meaning.Links.{Link, link_at}
 use Rattle.invariant_laws.specs.NearCalls.{is_shown_or_next, sends_near, send_near}
 use Rattle.invariant_laws.specs.Once.{are_placed, is_placed}
 use Rattle.world_model.specs.Parts.{Scan, Sending, scan_of, scanned, sendings_of}

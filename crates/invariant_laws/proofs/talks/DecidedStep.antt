@@ -9,18 +9,18 @@ use Rattle.svc_values.specs.declared.answer.Answer.TheVariants as answer
 use Rattle.svc_values.specs.declared.call.Call.{Call}
 use Rattle.svc_values.specs.declared.frame.Up.{Up}
 use Rattle.svc_values.specs.declared.frame.Up.TheVariants as up
-use Rattle.request_bounds.specs.Replies.{ends_decided}
+use Rattle.request_bounds.specs.meaning.Replies.{ends_decided}
 use Rattle.outage_schedule.specs.declared.request.ShownCall.{ShownCall}
 use Rattle.client_model.specs.declared.act.Shown.{Shown}
-use Rattle.client_model.specs.States.{Living, Asking}
-use Rattle.client_model.specs.Talk.{talk_step}
-use Rattle.client_model.specs.Terms.{Terms, Asked, Running}
-use Rattle.run_clauses.specs.Reports.{shown_call}
-use Rattle.world_model.specs.Acting.{call_in}
-use Rattle.world_model.specs.Clients.{Step, Doing, client_at}
+use Rattle.client_model.specs.meaning.States.{Living, Asking}
+use Rattle.client_model.specs.meaning.Talk.{talk_step}
+use Rattle.client_model.specs.meaning.Terms.{Terms, Asked, Running}
+use Rattle.run_clauses.specs.meaning.Reports.{shown_call}
+use Rattle.world_model.specs.meaning.Acting.{call_in}
+use Rattle.world_model.specs.meaning.Clients.{Step, Doing, client_at}
 use Rattle.world_model.specs.records.Conversing.{AllTalk}
 use Rattle.invariant_laws.specs.FirstCalls.{begins_behind, is_behind_decided}
-use Rattle.world_model.specs.Machines.{Machine}
+use Rattle.world_model.specs.meaning.Machines.{Machine}
 use Rattle.world_model.specs.records.Script.{behind_decided, is_kept, recorded_from}
 use Rattle.world_model.specs.Traced.{Traced, courses_of}
 use Rattle.invariant_laws.proofs.talks.BeginsStep.{IsRule, asked_by, call_is, lost_call}

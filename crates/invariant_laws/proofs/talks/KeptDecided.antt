@@ -7,22 +7,22 @@ use Rattle.svc_values.specs.declared.frame.Up.TheVariants as up
 use Rattle.outage_schedule.specs.declared.request.ShownCall.{ShownCall}
 use Rattle.pool_core.specs.declared.answers.Back.{Back}
 use Rattle.pool_core.specs.declared.answers.Back.TheVariants as back
-use Rattle.pool_core.specs.Slots.{give_back_answer}
+use Rattle.pool_core.specs.meaning.Slots.{give_back_answer}
 use Rattle.client_model.specs.declared.act.Act.{Act}
 use Rattle.client_model.specs.declared.act.Hold.{Hold}
 use Rattle.client_model.specs.declared.act.Hold.TheVariants.{GiveBack}
-use Rattle.run_clauses.specs.Reports.{shown_call}
-use Rattle.world_model.specs.Acting.{closing, frames_of, call_in}
-use Rattle.world_model.specs.Clients.{client_at}
+use Rattle.run_clauses.specs.meaning.Reports.{shown_call}
+use Rattle.world_model.specs.meaning.Acting.{closing, frames_of, call_in}
+use Rattle.world_model.specs.meaning.Clients.{client_at}
 use Rattle.world_model.specs.records.Conversing.{AllTalk}
 use Rattle.invariant_laws.specs.FirstCalls.{begins_behind, begin_decided}
-use Rattle.world_model.specs.Frames.{Sent}
+use Rattle.world_model.specs.meaning.Frames.{Sent}
 use Rattle.invariant_laws.specs.KeptLaws.{StaysTrue}
-use Rattle.world_model.specs.Machines.{Machine}
+use Rattle.world_model.specs.meaning.Machines.{Machine}
 use Rattle.world_model.specs.Parts.{implies}
 use Rattle.world_model.specs.Sames.{owned_by}
 use Rattle.world_model.specs.records.Script.{is_kept}
-use Rattle.world_model.specs.Settings.{Setting}
+use Rattle.world_model.specs.meaning.Settings.{Setting}
 use Rattle.world_model.specs.Traced.{Traced, Course, course_now, courses_of}
 use Rattle.world_model.proofs.Offered.{append_all, HasStepped, StepPasses, frames_start, frames_event, at_event, account_now, first_step, first_doing}
 use Rattle.invariant_laws.proofs.talks.BeginsStep.{IsRule, rule_of}

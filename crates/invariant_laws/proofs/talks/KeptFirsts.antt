@@ -11,32 +11,32 @@ use Rattle.svc_values.specs.declared.frame.Up.TheVariants as up
 use Rattle.svc_values.specs.declared.value.Value.{Value}
 use Rattle.pool_core.specs.declared.answers.Back.{Back}
 use Rattle.pool_core.specs.declared.answers.Back.TheVariants as back
-use Rattle.pool_core.specs.Slots.{give_back_answer}
+use Rattle.pool_core.specs.meaning.Slots.{give_back_answer}
 use Rattle.client_model.specs.declared.act.Hold.{Hold}
 use Rattle.client_model.specs.declared.act.Hold.TheVariants.{GiveBack, Drop}
 use Rattle.client_model.specs.declared.input.Input.TheVariants.{Took}
-use Rattle.client_model.specs.Talk.{Step, if_alive, on_hello, takes as taken_by}
-use Rattle.client_model.specs.Terms.{Phase, Greeting, Asked, Running, Replaying}
+use Rattle.client_model.specs.meaning.Talk.{Step, if_alive, on_hello, takes as taken_by}
+use Rattle.client_model.specs.meaning.Terms.{Phase, Greeting, Asked, Running, Replaying}
 use Rattle.outage_schedule.specs.declared.event.Event.{Event}
 use Rattle.outage_schedule.specs.declared.item.Served.{Served}
 use Rattle.outage_schedule.specs.declared.note.Note.{Note}
 use Rattle.server_model.specs.Seen.{Seen}
-use Rattle.world_model.specs.Acting.{closing, sent_by, call_in}
+use Rattle.world_model.specs.meaning.Acting.{closing, sent_by, call_in}
 use Rattle.invariant_laws.specs.FirstBegins.{is_call_by, begins_new, begin_new, begins_once, begin_once}
-use Rattle.world_model.specs.Frames.{Owner, Sent}
+use Rattle.world_model.specs.meaning.Frames.{Owner, Sent}
 use Rattle.world_model.specs.records.Hold.{is_awaited}
 use Rattle.world_model.specs.Orderly.{Orderly}
-use Rattle.world_model.specs.Links.{Link, new_link, sends, takes}
-use Rattle.world_model.specs.Machines.{Machine}
+use Rattle.world_model.specs.meaning.Links.{Link, new_link, sends, takes}
+use Rattle.world_model.specs.meaning.Machines.{Machine}
 use Rattle.world_model.specs.OneEvent.{OneEvent}
-use Rattle.world_model.specs.Outside.{closed_by_drain}
+use Rattle.world_model.specs.meaning.Outside.{closed_by_drain}
 use Rattle.world_model.specs.Parts.{is_answered, is_out}
 use Rattle.world_model.specs.Reached.{Begins as BeginsRun, GoesOn}
 use Rattle.world_model.specs.RunLaws.{RunsAreOrderly}
 use Rattle.invariant_laws.specs.SameLaws.{HoldsAtEnds, HoldsInRuns}
 use Rattle.world_model.specs.Sames.{is_of, owned_by, same_owners}
-use Rattle.world_model.specs.Serving.{after_front}
-use Rattle.world_model.specs.Settings.{Setting}
+use Rattle.world_model.specs.meaning.Serving.{after_front}
+use Rattle.world_model.specs.meaning.Settings.{Setting}
 use Rattle.invariant_laws.specs.Shown.{is_call}
 use Rattle.world_model.specs.Traced.{Traced}
 use Rattle.world_model.proofs.Offered.{KeepsServed, weaker_all, handled_alike, cut_case, fallen_case, Followed, follow_happens, at_event, held_now, keeps_grammar, finishing_reached, Spoken, Quiet, SayingFails as Fails, Ends, SayingAsks as Asks, Calls, Marks, begun_in, has_next, is_hushed, opening, said, said_lent, awaits, spoken_by, KeepsSent, sent_keep, sends_more}

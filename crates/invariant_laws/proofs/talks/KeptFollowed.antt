@@ -10,22 +10,22 @@ use Rattle.svc_values.specs.declared.frame.Up.TheVariants as up
 use Rattle.svc_values.specs.declared.value.Value.{Value}
 use Rattle.pool_core.specs.declared.answers.Back.{Back}
 use Rattle.pool_core.specs.declared.answers.Back.TheVariants as back
-use Rattle.pool_core.specs.Slots.{give_back_answer}
+use Rattle.pool_core.specs.meaning.Slots.{give_back_answer}
 use Rattle.client_model.specs.declared.act.Hold.{Hold}
 use Rattle.client_model.specs.declared.act.Hold.TheVariants.{GiveBack, Drop}
 use Rattle.client_model.specs.declared.input.Input.TheVariants.{Took}
-use Rattle.client_model.specs.Talk.{Step, if_alive, on_hello, takes as taken_by}
-use Rattle.client_model.specs.Terms.{Phase, Greeting}
-use Rattle.world_model.specs.Acting.{closing, sent_by, call_in}
+use Rattle.client_model.specs.meaning.Talk.{Step, if_alive, on_hello, takes as taken_by}
+use Rattle.client_model.specs.meaning.Terms.{Phase, Greeting}
+use Rattle.world_model.specs.meaning.Acting.{closing, sent_by, call_in}
 use Rattle.invariant_laws.specs.Begins.{are_followed, begin_in, begins_followed, follows_begin, followed_at_once}
-use Rattle.world_model.specs.Frames.{Owner, Sent}
+use Rattle.world_model.specs.meaning.Frames.{Owner, Sent}
 use Rattle.invariant_laws.specs.KeptLaws.{StaysTrue}
-use Rattle.world_model.specs.Links.{Link, new_link, sends, takes}
-use Rattle.world_model.specs.Machines.{Machine}
-use Rattle.world_model.specs.Outside.{closed_by_drain}
+use Rattle.world_model.specs.meaning.Links.{Link, new_link, sends, takes}
+use Rattle.world_model.specs.meaning.Machines.{Machine}
+use Rattle.world_model.specs.meaning.Outside.{closed_by_drain}
 use Rattle.world_model.specs.Sames.{same_owners}
-use Rattle.world_model.specs.Serving.{after_front}
-use Rattle.world_model.specs.Settings.{Setting}
+use Rattle.world_model.specs.meaning.Serving.{after_front}
+use Rattle.world_model.specs.meaning.Settings.{Setting}
 use Rattle.world_model.proofs.Offered.{KeepsServed, every_all, handled_alike, cut_case, fallen_case, Followed, follow_happens, at_event, held_now, no_test, owner_self, Spoken, Quiet, SayingFails as Fails, Ends, SayingAsks as Asks, Calls, Marks, begun_in, has_next, is_hushed, opening, said, said_lent, spoken_by, KeepsSent, sent_keep, sends_more, eq_to}
 
 -- FRAMES ------------------------------------------------------------------------------------------

@@ -5,19 +5,19 @@ use Rattle.std.specs.List.{list_all}
 use Rattle.outage_schedule.specs.declared.document.Request.{Request}
 use Rattle.pool_core.specs.declared.answers.Back.{Back}
 use Rattle.pool_core.specs.declared.answers.Back.TheVariants as back
-use Rattle.pool_core.specs.Slots.{give_back_answer}
+use Rattle.pool_core.specs.meaning.Slots.{give_back_answer}
 use Rattle.client_model.specs.declared.act.Act.{Act}
 use Rattle.client_model.specs.declared.act.Hold.{Hold}
 use Rattle.client_model.specs.declared.act.Hold.TheVariants.{GiveBack}
-use Rattle.world_model.specs.Acting.{closing, frames_of, call_in}
+use Rattle.world_model.specs.meaning.Acting.{closing, frames_of, call_in}
 use Rattle.invariant_laws.specs.Begins.{carries_settings, carry_settings}
 use Rattle.world_model.specs.records.Conversing.{AllTalk}
-use Rattle.world_model.specs.Frames.{Sent}
+use Rattle.world_model.specs.meaning.Frames.{Sent}
 use Rattle.invariant_laws.specs.KeptLaws.{StaysTrue}
-use Rattle.world_model.specs.Machines.{Machine}
+use Rattle.world_model.specs.meaning.Machines.{Machine}
 use Rattle.world_model.specs.Parts.{implies}
 use Rattle.world_model.specs.Sames.{owned_by}
-use Rattle.world_model.specs.Settings.{Setting}
+use Rattle.world_model.specs.meaning.Settings.{Setting}
 use Rattle.world_model.specs.Traced.{Course}
 use Rattle.world_model.proofs.Offered.{append_all, HasStepped, StepPasses, frames_start, frames_event, at_event, first_step, first_doing, request_after}
 use Rattle.invariant_laws.proofs.talks.BeginsStep.{IsRule, begins_rightly, rule_of}

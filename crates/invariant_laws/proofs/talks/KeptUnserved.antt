@@ -11,29 +11,29 @@ use Rattle.std.proofs.lemmas.List.Sums.{fold-append, length-filter}
 use Rattle.svc_values.specs.declared.frame.Up.{Up}
 use Rattle.svc_values.specs.declared.frame.Up.TheVariants as up
 use Rattle.client_model.specs.declared.input.Input.TheVariants.{Took}
-use Rattle.client_model.specs.Talk.{Step, on_hello, takes as taken_by}
-use Rattle.client_model.specs.Terms.{Phase}
+use Rattle.client_model.specs.meaning.Talk.{Step, on_hello, takes as taken_by}
+use Rattle.client_model.specs.meaning.Terms.{Phase}
 use Rattle.outage_schedule.specs.declared.event.Event.{Event}
 use Rattle.outage_schedule.specs.declared.item.Served.{Served}
 use Rattle.outage_schedule.specs.declared.note.Note.{Note}
 use Rattle.server_model.specs.Seen.{Seen}
-use Rattle.world_model.specs.Acting.{call_in, frames_of, sent_by}
+use Rattle.world_model.specs.meaning.Acting.{call_in, frames_of, sent_by}
 use Rattle.invariant_laws.specs.Begins.{begin_in, begins_followed, followed_at_once, follows_begin, is_begin_frame}
-use Rattle.world_model.specs.Frames.{Owner, Sent, Handled, up_size, whole_front}
+use Rattle.world_model.specs.meaning.Frames.{Owner, Sent, Handled, up_size, whole_front}
 use Rattle.world_model.specs.records.Hold.{is_awaited, is_idle}
 use Rattle.invariant_laws.specs.Invariant.{Invariant}
 use Rattle.invariant_laws.specs.KeptLaws.{RunsKeepInvariant}
-use Rattle.world_model.specs.Links.{Link, new_link, sends, takes}
-use Rattle.world_model.specs.Machines.{Machine}
+use Rattle.world_model.specs.meaning.Links.{Link, new_link, sends, takes}
+use Rattle.world_model.specs.meaning.Machines.{Machine}
 use Rattle.world_model.specs.records.Number.{served_near}
 use Rattle.world_model.specs.OneEvent.{OneEvent}
-use Rattle.world_model.specs.Outside.{closed_by_drain}
+use Rattle.world_model.specs.meaning.Outside.{closed_by_drain}
 use Rattle.world_model.specs.Parts.{count_reps, implies, is_answered, is_closed, is_out, is_rep, served_reps}
 use Rattle.world_model.specs.Reached.{Begins as BeginsRun, GoesOn}
 use Rattle.invariant_laws.specs.SameLaws.{HoldsAtEnds, HoldsInRuns}
 use Rattle.world_model.specs.Sames.{is_front, owned_by, same_owners, same_sent, same_up}
-use Rattle.world_model.specs.Serving.{Front, after_front}
-use Rattle.world_model.specs.Settings.{Setting}
+use Rattle.world_model.specs.meaning.Serving.{Front, after_front}
+use Rattle.world_model.specs.meaning.Settings.{Setting}
 use Rattle.invariant_laws.specs.Shown.{is_call}
 use Rattle.world_model.specs.Traced.{Traced}
 use Rattle.invariant_laws.specs.UnservedBegins.{last_owner, is_of_last, begins_of_last, begin_last}

@@ -2,21 +2,21 @@
 use Rattle.std.proofs.Common.{◌≡◌, ◌≢◌, refl, sym, ap, subst, ◌∙◌, Bool, true, false, ℕ, suc, zero, List, [], ◌∷◌, fold, map, Option, Some, None, ◌⊎◌, inl, inr, if◌then◌else◌}
 use Rattle.std.proofs.lemmas.Bool.{and_parts}
 use Rattle.outage_schedule.specs.declared.item.Served.{Served}
-use Rattle.pool_core.specs.Slots.{Slots, after_take, after_opened}
+use Rattle.pool_core.specs.meaning.Slots.{Slots, after_take, after_opened}
 use Rattle.client_model.specs.declared.input.Input.{Input}
 use Rattle.client_model.specs.declared.input.Input.TheVariants.{Waiting, Lent, Opened, TryFailed, Took}
-use Rattle.world_model.specs.Frames.{Sent, Reply}
-use Rattle.world_model.specs.Links.{Link, link_at, with_link, changed, sends, takes}
-use Rattle.world_model.specs.Clients.{Doing, heard, doing_at}
-use Rattle.world_model.specs.Acting.{sent_by, owner_at, call_in, frames_of, act_at, connection_of}
-use Rattle.world_model.specs.Machines.{Machine}
-use Rattle.world_model.specs.Outside.{closed_by_drain}
-use Rattle.world_model.specs.Matching.{Noted, Went}
-use Rattle.world_model.specs.Settings.{Setting}
-use Rattle.world_model.specs.Going.{lost_at_once}
-use Rattle.world_model.specs.Serving.{Front, front_at, is_of_front, is_ordinary, after_front, handled}
-use Rattle.world_model.specs.Cutting.{cut_link, reaped_link}
-use Rattle.world_model.specs.Crashing.{is_stopped, is_over, fallen_link, falls}
+use Rattle.world_model.specs.meaning.Frames.{Sent, Reply}
+use Rattle.world_model.specs.meaning.Links.{Link, link_at, with_link, changed, sends, takes}
+use Rattle.world_model.specs.meaning.Clients.{Doing, heard, doing_at}
+use Rattle.world_model.specs.meaning.Acting.{sent_by, owner_at, call_in, frames_of, act_at, connection_of}
+use Rattle.world_model.specs.meaning.Machines.{Machine}
+use Rattle.world_model.specs.meaning.Outside.{closed_by_drain}
+use Rattle.world_model.specs.meaning.Matching.{Noted, Went}
+use Rattle.world_model.specs.meaning.Settings.{Setting}
+use Rattle.world_model.specs.meaning.Going.{lost_at_once}
+use Rattle.world_model.specs.meaning.Serving.{Front, front_at, is_of_front, is_ordinary, after_front, handled}
+use Rattle.world_model.specs.meaning.Cutting.{cut_link, reaped_link}
+use Rattle.world_model.specs.meaning.Crashing.{is_stopped, is_over, fallen_link, falls}
 use Rattle.world_model.proofs.Offered.{front_is, open_is, get_mapped, with_others, with_own, changed_own, new_others, changed_others, moves_next_number as next_number, takes_one, Goes, Rests, Waits, Lends, Opens, MovesFails as Fails, Takes, Loses, ServesLast, LastNone, LastStopped, LastServed, Happens, Nothing, IsStep, Serves, Cuts, Reaps, Crashes, OpensUp, StopsOpening, Ticks, RunsOutside, MovesAsks as Asks, Drains, some_same, either}
 
 -- the connection of this number is there, and stands so to this one

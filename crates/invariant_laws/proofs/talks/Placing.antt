@@ -8,19 +8,19 @@ use Rattle.std.proofs.lemmas.List.Sums.{sum_by_push}
 use Rattle.svc_values.specs.declared.entry.Ltxid.{Ltxid}
 use Rattle.outage_schedule.specs.declared.item.Served.{Served}
 use Rattle.client_model.specs.declared.input.Input.TheVariants.{Lent}
-use Rattle.world_model.specs.Acting.{sent_by, owner_at, call_in, frames_of}
-use Rattle.world_model.specs.Clients.{heard, step_at}
+use Rattle.world_model.specs.meaning.Acting.{sent_by, owner_at, call_in, frames_of}
+use Rattle.world_model.specs.meaning.Clients.{heard, step_at}
 use Rattle.world_model.specs.records.Conversing.{connected}
-use Rattle.world_model.specs.Crashing.{fallen_link, falls}
-use Rattle.world_model.specs.Cutting.{cut_link}
-use Rattle.world_model.specs.Frames.{Sent}
-use Rattle.world_model.specs.Links.{Link, link_at, changed, sends}
-use Rattle.world_model.specs.Machines.{Machine}
-use Rattle.world_model.specs.Matching.{Noted, Went}
-use Rattle.world_model.specs.Outside.{closed_by_drain}
+use Rattle.world_model.specs.meaning.Crashing.{fallen_link, falls}
+use Rattle.world_model.specs.meaning.Cutting.{cut_link}
+use Rattle.world_model.specs.meaning.Frames.{Sent}
+use Rattle.world_model.specs.meaning.Links.{Link, link_at, changed, sends}
+use Rattle.world_model.specs.meaning.Machines.{Machine}
+use Rattle.world_model.specs.meaning.Matching.{Noted, Went}
+use Rattle.world_model.specs.meaning.Outside.{closed_by_drain}
 use Rattle.world_model.specs.Parts.{is_rep, count_reps, out_frame}
-use Rattle.world_model.specs.Settings.{Setting}
-use Rattle.world_model.specs.Serving.{handled}
+use Rattle.world_model.specs.meaning.Settings.{Setting}
+use Rattle.world_model.specs.meaning.Serving.{handled}
 use Rattle.world_model.proofs.Offered.{HasStepped, goes_steps, sends_alike, LookupsIsSaid as IsSaid, handled_said, fallen_said, cut_said, changed_own, changed_others, ServesLast, LastNone, LastStopped, LastServed, Happens, Nothing, IsStep, Serves, Cuts, Reaps, Crashes, OpensUp, StopsOpening, Ticks, RunsOutside, MovesAsks as Asks, Drains}
 use Rattle.invariant_laws.proofs.talks.LinksStay.{Stays, is_went, stay_same, others_stay, each_stay}
 

@@ -13,19 +13,19 @@ use Rattle.svc_values.specs.declared.frame.Up.TheVariants as up
 use Rattle.svc_values.specs.declared.value.Value.{Value}
 use Rattle.pool_core.specs.declared.answers.Back.{Back}
 use Rattle.pool_core.specs.declared.answers.Back.TheVariants as back
-use Rattle.pool_core.specs.Slots.{give_back_answer}
+use Rattle.pool_core.specs.meaning.Slots.{give_back_answer}
 use Rattle.client_model.specs.declared.act.Hold.{Hold}
 use Rattle.client_model.specs.declared.act.Hold.TheVariants as hold
 use Rattle.client_model.specs.declared.input.Input.{Input}
 use Rattle.client_model.specs.declared.input.Input.TheVariants.{Opened, Took}
-use Rattle.world_model.specs.Acting.{closing, sent_by, call_in}
-use Rattle.world_model.specs.Clients.{Doing, Step}
+use Rattle.world_model.specs.meaning.Acting.{closing, sent_by, call_in}
+use Rattle.world_model.specs.meaning.Clients.{Doing, Step}
 use Rattle.world_model.specs.records.Conversing.{connected}
-use Rattle.world_model.specs.Frames.{Owner, Sent}
+use Rattle.world_model.specs.meaning.Frames.{Owner, Sent}
 use Rattle.world_model.specs.records.Hold.{is_idle}
 use Rattle.world_model.specs.Orderly.{Orderly}
-use Rattle.world_model.specs.Links.{Link, link_at, sends, takes}
-use Rattle.world_model.specs.Machines.{Machine}
+use Rattle.world_model.specs.meaning.Links.{Link, link_at, sends, takes}
+use Rattle.world_model.specs.meaning.Machines.{Machine}
 use Rattle.invariant_laws.specs.Once.{are_apart, has_commit_out}
 use Rattle.world_model.specs.Parts.{is_rep, count_reps, is_commit_call, is_unmarked_frame}
 use Rattle.world_model.specs.Traced.{Traced}

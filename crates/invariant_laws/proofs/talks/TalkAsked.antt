@@ -21,17 +21,18 @@ use Rattle.client_model.specs.declared.act.Failed.TheVariants.{Disabled, PoolWai
 use Rattle.client_model.specs.declared.act.Shown.{Shown}
 use Rattle.client_model.specs.declared.input.Input.{Input}
 use Rattle.client_model.specs.declared.input.Input.TheVariants.{Start, Waiting, Lent, Opened, TryFailed, Took, Gone}
-use Rattle.client_model.specs.Conversation.{steps_of, talk_after, talk_at}
-use Rattle.client_model.specs.States.{Living, Losing, Asking, Repeating, resumed, next_of}
-use Rattle.client_model.specs.Told as told
-use Rattle.client_model.specs.Told.{over, completed_on, repeated, is_late, uncommitted, told_of}
-use Rattle.client_model.specs.Terms.{Terms, Talk, Phase, Idle, Unbegun, Queued, Seeking, Greeting, Asked, Running, Replaying, unsubmitted}
-use Rattle.client_model.specs.Talk.{Step, if_alive, stands, quiet, fails, with_tried, lost_of, loses, talk_shown, with_shown, sends_call, sends_or_ends, next_call, begin_of, on_hello, on_reply, sends_marked, on_compared, on_repeated, after_completed, on_completed, on_told, takes, on_waiting, waits_from, on_try_failed, talk_step}
-use Rattle.client_model.specs.Verifying.{verified_more, mismatch, submitted}
-use Rattle.world_model.specs.Clients.{Step as Stepped}
+use Rattle.client_model.specs.meaning.Conversation.{talk_at}
+use Rattle.client_model.specs.Conversation.{steps_of, talk_after}
+use Rattle.client_model.specs.meaning.States.{Living, Losing, Asking, Repeating, resumed, next_of}
+use Rattle.client_model.specs.meaning.Told as told
+use Rattle.client_model.specs.meaning.Told.{over, completed_on, repeated, is_late, uncommitted, told_of}
+use Rattle.client_model.specs.meaning.Terms.{Terms, Talk, Phase, Idle, Unbegun, Queued, Seeking, Greeting, Asked, Running, Replaying, unsubmitted}
+use Rattle.client_model.specs.meaning.Talk.{Step, if_alive, stands, quiet, fails, with_tried, lost_of, loses, talk_shown, with_shown, sends_call, sends_or_ends, next_call, begin_of, on_hello, on_reply, sends_marked, on_compared, on_repeated, after_completed, on_completed, on_told, takes, on_waiting, waits_from, on_try_failed, talk_step}
+use Rattle.client_model.specs.meaning.Verifying.{verified_more, mismatch, submitted}
+use Rattle.world_model.specs.meaning.Clients.{Step as Stepped}
 use Rattle.world_model.specs.records.Conversing.{timed, inputs_of}
 use Rattle.world_model.specs.records.Hold.{same_held}
-use Rattle.world_model.specs.Links.{told_by}
+use Rattle.world_model.specs.meaning.Links.{told_by}
 use Rattle.world_model.specs.Parts.{Scan, scanned, is_unmarked_frame}
 use Rattle.world_model.specs.Words.{dones_of}
 use Rattle.world_model.proofs.Offered.{ltxid_self}

@@ -8,21 +8,21 @@ use Rattle.svc_values.specs.declared.frame.Up.TheVariants as up
 use Rattle.svc_values.specs.declared.frame.Down.{Down}
 use Rattle.svc_values.specs.declared.frame.Down.TheVariants as down
 use Rattle.svc_values.specs.declared.value.Value.{Value}
-use Rattle.svc_values.specs.Identifiers.{same_ltxid}
+use Rattle.svc_values.specs.meaning.Identifiers.{same_ltxid}
 use Rattle.svc_values.specs.SameLaws.{same_ltxid_decides}
 use Rattle.pool_core.specs.declared.answers.Back.{Back}
 use Rattle.pool_core.specs.declared.answers.Back.TheVariants as back
-use Rattle.pool_core.specs.Slots.{Slots, give_back_answer}
+use Rattle.pool_core.specs.meaning.Slots.{Slots, give_back_answer}
 use Rattle.client_model.specs.declared.act.Failed.TheVariants.{Retries, PoolWait}
 use Rattle.client_model.specs.declared.act.Hold.{Hold}
 use Rattle.client_model.specs.declared.act.Hold.TheVariants as hold
 use Rattle.client_model.specs.declared.input.Input.{Input}
 use Rattle.client_model.specs.declared.input.Input.TheVariants.{Start, Waiting, Lent, Opened, TryFailed, Took, Gone}
-use Rattle.client_model.specs.States.{Losing}
-use Rattle.client_model.specs.Terms.{Terms, Talk, Phase, Idle, Unbegun, Queued, Seeking, Greeting, Asked, Running, Replaying}
-use Rattle.client_model.specs.Talk.{Step, stands, quiet, fails, with_tried, lost_of, on_hello, on_waiting, waits_from, on_try_failed, takes, talk_step}
+use Rattle.client_model.specs.meaning.States.{Losing}
+use Rattle.client_model.specs.meaning.Terms.{Terms, Talk, Phase, Idle, Unbegun, Queued, Seeking, Greeting, Asked, Running, Replaying}
+use Rattle.client_model.specs.meaning.Talk.{Step, stands, quiet, fails, with_tried, lost_of, on_hello, on_waiting, waits_from, on_try_failed, takes, talk_step}
 use Rattle.std.proofs.lemmas.Bool.{and_from}
-use Rattle.world_model.specs.Acting.{closing, frames_of}
+use Rattle.world_model.specs.meaning.Acting.{closing, frames_of}
 use Rattle.world_model.specs.Wanted.{Wanted, wanted_in}
 use Rattle.world_model.proofs.Offered.{append_all, Spoken, Quiet, SayingFails as Fails, Ends, SayingAsks as Asks, Calls, Marks, begun_in, opening, may_ask, has_next, said, said_lent, is_hushed}
 

@@ -5,10 +5,10 @@ use Rattle.svc_values.specs.declared.call.Call.{Call}
 use Rattle.svc_values.specs.declared.frame.Down.TheVariants as down
 use Rattle.client_model.specs.declared.act.Shown.{Shown}
 use Rattle.client_model.specs.declared.input.Input.TheVariants.{Took}
-use Rattle.client_model.specs.States.{Asking, Living, resumed}
-use Rattle.client_model.specs.Talk.{talk_shown, with_shown, on_completed, takes, next_call, talk_step}
-use Rattle.client_model.specs.Terms.{Terms, Talk, Phase, Asked}
-use Rattle.client_model.specs.Told.{completed_on}
+use Rattle.client_model.specs.meaning.States.{Asking, Living, resumed}
+use Rattle.client_model.specs.meaning.Talk.{talk_shown, with_shown, on_completed, takes, next_call, talk_step}
+use Rattle.client_model.specs.meaning.Terms.{Terms, Talk, Phase, Asked}
+use Rattle.client_model.specs.meaning.Told.{completed_on}
 use Rattle.invariant_laws.proofs.talks.TalkShows.{behind_shows}
 
 -- that it is committed is all that is known of its answers

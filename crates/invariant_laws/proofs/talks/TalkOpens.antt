@@ -19,13 +19,13 @@ use Rattle.client_model.specs.declared.act.Failed.TheVariants.{Disabled, PoolWai
 use Rattle.client_model.specs.declared.act.Shown.{Shown}
 use Rattle.client_model.specs.declared.input.Input.{Input}
 use Rattle.client_model.specs.declared.input.Input.TheVariants.{Start, Waiting, Lent, Opened, TryFailed, Took, Gone}
-use Rattle.client_model.specs.States.{Living, Losing, Asking, Repeating, resumed, next_of}
-use Rattle.client_model.specs.Talk.{Step, fails, talk_shown, with_shown, recorded_as, sends_call, sends_or_ends, next_call, begin_of, on_hello, on_reply, sends_marked, on_compared, on_repeated, after_completed, on_completed, on_told, quiet, stands, takes, talk_step, waits_from, with_tried, lost_of}
-use Rattle.client_model.specs.Terms.{Terms, Talk, Phase, Queued, Seeking, Greeting, Asked, Running, Replaying, unsubmitted}
-use Rattle.client_model.specs.Told.{over, completed_on, repeated, is_late, uncommitted, told_of}
-use Rattle.client_model.specs.Told as told
-use Rattle.client_model.specs.Verifying.{verified_more, mismatch, submitted}
-use Rattle.world_model.specs.Acting.{call_in}
+use Rattle.client_model.specs.meaning.States.{Living, Losing, Asking, Repeating, resumed, next_of}
+use Rattle.client_model.specs.meaning.Talk.{Step, fails, talk_shown, with_shown, recorded_as, sends_call, sends_or_ends, next_call, begin_of, on_hello, on_reply, sends_marked, on_compared, on_repeated, after_completed, on_completed, on_told, quiet, stands, takes, talk_step, waits_from, with_tried, lost_of}
+use Rattle.client_model.specs.meaning.Terms.{Terms, Talk, Phase, Queued, Seeking, Greeting, Asked, Running, Replaying, unsubmitted}
+use Rattle.client_model.specs.meaning.Told.{over, completed_on, repeated, is_late, uncommitted, told_of}
+use Rattle.client_model.specs.meaning.Told as told
+use Rattle.client_model.specs.meaning.Verifying.{verified_more, mismatch, submitted}
+use Rattle.world_model.specs.meaning.Acting.{call_in}
 use Rattle.invariant_laws.specs.Begins.{is_begin_frame}
 use Rattle.world_model.proofs.Offered.{replied_call}
 

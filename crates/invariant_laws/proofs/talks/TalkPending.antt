@@ -7,17 +7,17 @@ use Rattle.svc_values.specs.declared.frame.Ahead.TheVariants as ahead
 use Rattle.svc_values.specs.declared.frame.Down.{Down}
 use Rattle.svc_values.specs.declared.frame.Down.TheVariants as down
 use Rattle.outage_schedule.specs.declared.request.Outcome.{Outcome}
-use Rattle.request_bounds.specs.Limits.{has_waited}
-use Rattle.run_clauses.specs.Reports.{failure_of}
+use Rattle.request_bounds.specs.meaning.Limits.{has_waited}
+use Rattle.run_clauses.specs.meaning.Reports.{failure_of}
 use Rattle.client_model.specs.declared.act.Failed.TheVariants as failed
 use Rattle.client_model.specs.declared.act.Hold.TheVariants as hold
 use Rattle.client_model.specs.declared.input.Input.{Input}
 use Rattle.client_model.specs.declared.input.Input.TheVariants.{Start, Waiting, Lent, Opened, TryFailed, Took, Gone}
 use Rattle.client_model.specs.declared.input.Wants.TheVariants as wants
 use Rattle.client_model.specs.Conversation.{is_wanted}
-use Rattle.client_model.specs.States.{next_of}
-use Rattle.client_model.specs.Talk.{Step, stands, quiet, fails, with_tried, lost_of, loses, next_call, takes, talk_step, wants_in, wants_of}
-use Rattle.client_model.specs.Terms.{Terms, Talk, Phase, Seeking, Greeting, Asked, Running, Replaying}
+use Rattle.client_model.specs.meaning.States.{next_of}
+use Rattle.client_model.specs.meaning.Talk.{Step, stands, quiet, fails, with_tried, lost_of, loses, next_call, takes, talk_step, wants_in, wants_of}
+use Rattle.client_model.specs.meaning.Terms.{Terms, Talk, Phase, Seeking, Greeting, Asked, Running, Replaying}
 use Rattle.world_model.specs.records.Hold.{goes_by}
 use Rattle.invariant_laws.specs.Lost.{ends_unknown}
 use Rattle.world_model.specs.Wanted.{Wanted, wanted_in}

@@ -3,16 +3,17 @@ use Rattle.std.proofs.Common.{◌≡◌, refl, ap, ◌∙◌, Bool, true, false,
 use Rattle.std.specs.Prelude.{nat_le, option_and_then}
 use Rattle.std.specs.List.{last_or}
 use Rattle.svc_values.specs.declared.frame.Up.{Up}
-use Rattle.run_clauses.specs.Reports.{failed_in}
+use Rattle.run_clauses.specs.meaning.Reports.{failed_in}
 use Rattle.client_model.specs.declared.act.Failed.TheVariants.{Retries, PoolWait}
 use Rattle.client_model.specs.declared.act.Hold.{Hold}
 use Rattle.client_model.specs.declared.act.Hold.TheVariants as hold
 use Rattle.client_model.specs.declared.input.Input.{Input}
 use Rattle.client_model.specs.declared.input.Input.TheVariants.{Start, Waiting, Lent, Opened, TryFailed, Took, Gone}
-use Rattle.client_model.specs.Conversation.{Done, Timed, done_at, talk_at, talk_after, steps_of}
-use Rattle.client_model.specs.Terms.{Terms, Talk, Phase, Idle, Queued, Seeking, Greeting}
-use Rattle.client_model.specs.Talk.{Step, stands, quiet, fails, with_tried, lost_of, on_hello, on_waiting, waits_from, on_try_failed, takes, talk_step}
-use Rattle.world_model.specs.Clients.{Doing}
+use Rattle.client_model.specs.meaning.Conversation.{Done, Timed, done_at, talk_at}
+use Rattle.client_model.specs.Conversation.{talk_after, steps_of}
+use Rattle.client_model.specs.meaning.Terms.{Terms, Talk, Phase, Idle, Queued, Seeking, Greeting}
+use Rattle.client_model.specs.meaning.Talk.{Step, stands, quiet, fails, with_tried, lost_of, on_hello, on_waiting, waits_from, on_try_failed, takes, talk_step}
+use Rattle.world_model.specs.meaning.Clients.{Doing}
 use Rattle.world_model.specs.records.Conversing.{Talks, inputs_of, first_talk}
 use Rattle.world_model.specs.Words.{dones_of}
 use Rattle.invariant_laws.proofs.losses.KeptEvents.{kept_unfailed}

@@ -20,7 +20,8 @@ use Rattle.request_bounds.specs.declared.rule.Why.TheVariants as why
 use Rattle.request_bounds.specs.declared.rule.After.{After}
 use Rattle.request_bounds.specs.declared.rule.After.TheVariants as after
 use Rattle.call_recorder.specs.declared.recorded.Recorded.{Recorded}
-use Rattle.client_model.specs.Conversation.{Timed, done_at, is_gone, is_gone_next, is_wanted, MayCome, talk_after, talk_at}
+use Rattle.client_model.specs.meaning.Conversation.{Timed, done_at, talk_at}
+use Rattle.client_model.specs.Conversation.{is_gone, is_gone_next, is_wanted, MayCome, talk_after}
 use Rattle.client_model.specs.declared.act.Failed.TheVariants.{Disabled, PoolWait, Retries}
 use Rattle.client_model.specs.declared.act.Hold.{Hold}
 use Rattle.client_model.specs.declared.act.Hold.TheVariants.{Keep}
@@ -29,12 +30,12 @@ use Rattle.client_model.specs.declared.input.Input.{Input}
 use Rattle.client_model.specs.declared.input.Input.TheVariants.{Start, Waiting, Lent, Opened, TryFailed, Took, Gone}
 use Rattle.client_model.specs.declared.track.Track.{Track}
 use Rattle.client_model.specs.Laws.{track_of}
-use Rattle.client_model.specs.States.{Living, Losing, Asking, Repeating, resumed, next_of}
-use Rattle.client_model.specs.Talk.{Step, fails, is_set, lost_of, next_call, on_compared, on_completed, on_hello, on_repeated, on_reply, on_told, on_try_failed, on_waiting, after_completed, begin_of, loses, quiet, recorded_as, sends_call, sends_marked, sends_or_ends, stands, takes, talk_shown, talk_step, waits_from, wants_of, with_recorded, with_reply, with_shown, with_submitted, with_tried}
-use Rattle.client_model.specs.Terms.{Terms, Talk, Phase, Idle, Unbegun, Queued, Seeking, Greeting, Asked, Running, Replaying, requested, unsubmitted}
-use Rattle.client_model.specs.Told.{over, completed_on, repeated, is_late, uncommitted, told_of}
-use Rattle.client_model.specs.Told as told
-use Rattle.client_model.specs.Verifying.{verified_more, mismatch, submitted}
+use Rattle.client_model.specs.meaning.States.{Living, Losing, Asking, Repeating, resumed, next_of}
+use Rattle.client_model.specs.meaning.Talk.{Step, fails, is_set, lost_of, next_call, on_compared, on_completed, on_hello, on_repeated, on_reply, on_told, on_try_failed, on_waiting, after_completed, begin_of, loses, quiet, recorded_as, sends_call, sends_marked, sends_or_ends, stands, takes, talk_shown, talk_step, waits_from, wants_of, with_recorded, with_reply, with_shown, with_submitted, with_tried}
+use Rattle.client_model.specs.meaning.Terms.{Terms, Talk, Phase, Idle, Unbegun, Queued, Seeking, Greeting, Asked, Running, Replaying, requested, unsubmitted}
+use Rattle.client_model.specs.meaning.Told.{over, completed_on, repeated, is_late, uncommitted, told_of}
+use Rattle.client_model.specs.meaning.Told as told
+use Rattle.client_model.specs.meaning.Verifying.{verified_more, mismatch, submitted}
 use Rattle.world_model.specs.Parts.{implies}
 use Rattle.world_model.proofs.Offered.{Spoken, Quiet, SayingFails as Fails, Ends, SayingAsks as Asks, Calls, Marks, has_next, is_hushed, said, implied_by, met, none_some}
 

@@ -16,11 +16,11 @@ use Rattle.client_model.specs.declared.act.Failed.TheVariants.{Disabled, Retries
 use Rattle.client_model.specs.declared.act.Shown.{Shown}
 use Rattle.client_model.specs.declared.input.Input.{Input}
 use Rattle.client_model.specs.declared.input.Input.TheVariants.{Start, Waiting, Lent, Opened, TryFailed, Took, Gone}
-use Rattle.client_model.specs.States.{Living, Losing, Asking, next_of, resumed}
-use Rattle.client_model.specs.Told.{over, completed_on, repeated, is_late, uncommitted, told_of}
-use Rattle.client_model.specs.Told as told
-use Rattle.client_model.specs.Terms.{Terms, Talk, Phase, Queued, Seeking, Greeting, Asked, Running, Replaying, unsubmitted}
-use Rattle.client_model.specs.Talk.{stands, quiet, fails, with_tried, lost_of, talk_shown, with_shown, sends_call, sends_or_ends, next_call, begin_of, on_hello, on_reply, after_completed, on_completed, on_told, takes, on_waiting, waits_from, on_try_failed, talk_step}
+use Rattle.client_model.specs.meaning.States.{Living, Losing, Asking, next_of, resumed}
+use Rattle.client_model.specs.meaning.Told.{over, completed_on, repeated, is_late, uncommitted, told_of}
+use Rattle.client_model.specs.meaning.Told as told
+use Rattle.client_model.specs.meaning.Terms.{Terms, Talk, Phase, Queued, Seeking, Greeting, Asked, Running, Replaying, unsubmitted}
+use Rattle.client_model.specs.meaning.Talk.{stands, quiet, fails, with_tried, lost_of, talk_shown, with_shown, sends_call, sends_or_ends, next_call, begin_of, on_hello, on_reply, after_completed, on_completed, on_told, takes, on_waiting, waits_from, on_try_failed, talk_step}
 use Rattle.invariant_laws.proofs.rows.RowCourses.{marked_shows, replay_shows}
 
 -- why it is shown

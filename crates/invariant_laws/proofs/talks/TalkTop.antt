@@ -16,12 +16,13 @@ use Rattle.client_model.specs.declared.act.Hold.{Hold}
 use Rattle.client_model.specs.declared.act.Hold.TheVariants.{Keep}
 use Rattle.client_model.specs.declared.input.Input.{Input}
 use Rattle.client_model.specs.declared.input.Input.TheVariants.{Start, Waiting, Lent, Opened, TryFailed, Took, Gone}
-use Rattle.client_model.specs.Conversation.{Done, MayCome, steps_of, talk_after, talk_at, done_at, is_wanted, is_gone, is_gone_next}
-use Rattle.client_model.specs.Talk.{Step, stands, quiet, fails, with_tried, lost_of, loses, on_hello, on_waiting, waits_from, on_try_failed, takes, talk_step, wants_of}
-use Rattle.client_model.specs.Terms.{Terms, Talk, Phase, Idle, Unbegun, Queued, Seeking, Greeting, Asked, Running, Replaying}
-use Rattle.world_model.specs.Clients.{Step as Stepped}
+use Rattle.client_model.specs.meaning.Conversation.{Done, talk_at, done_at}
+use Rattle.client_model.specs.Conversation.{MayCome, steps_of, talk_after, is_wanted, is_gone, is_gone_next}
+use Rattle.client_model.specs.meaning.Talk.{Step, stands, quiet, fails, with_tried, lost_of, loses, on_hello, on_waiting, waits_from, on_try_failed, takes, talk_step, wants_of}
+use Rattle.client_model.specs.meaning.Terms.{Terms, Talk, Phase, Idle, Unbegun, Queued, Seeking, Greeting, Asked, Running, Replaying}
+use Rattle.world_model.specs.meaning.Clients.{Step as Stepped}
 use Rattle.world_model.specs.records.Conversing.{timed, inputs_of, gone_due}
-use Rattle.world_model.specs.Links.{told_by}
+use Rattle.world_model.specs.meaning.Links.{told_by}
 use Rattle.world_model.specs.Parts.{Sending, Scan, scanned, answered, sent_on}
 use Rattle.world_model.specs.Words.{brought, dones_of}
 use Rattle.world_model.proofs.Offered.{Spoken, Quiet, SayingFails as Fails, Ends, SayingAsks as Asks, Calls, Marks, begun_in, opening, has_next, said, said_lent, is_hushed, is_running, IsAt, told_so, scan_step, eq_to, not_both}

@@ -15,26 +15,26 @@ use Rattle.svc_values.specs.declared.frame.Up.{Up}
 use Rattle.svc_values.specs.declared.frame.Up.TheVariants as up
 use Rattle.svc_values.specs.declared.frame.Down.{Down}
 use Rattle.svc_values.specs.declared.frame.Down.TheVariants as down
-use Rattle.svc_values.specs.Identifiers.{same_session, session_of}
-use Rattle.svc_values.specs.Same.{same_answers, same_bool, same_call}
+use Rattle.svc_values.specs.meaning.Identifiers.{same_session, session_of}
+use Rattle.svc_values.specs.meaning.Same.{same_answers, same_bool, same_call}
 use Rattle.svc_values.specs.SameLaws.{same_answers_decide, same_bool_decides, same_call_decides}
 use Rattle.outage_schedule.specs.declared.item.Item.{Item}
 use Rattle.outage_schedule.specs.declared.item.Item.TheVariants as item
-use Rattle.server_model.specs.Base.{Base}
+use Rattle.server_model.specs.meaning.Base.{Base}
 use Rattle.server_model.specs.Core.{Core}
-use Rattle.server_model.specs.Outcomes.{Telling, Says, Stopped, telling_of}
+use Rattle.server_model.specs.meaning.Outcomes.{Telling, Says, Stopped, telling_of}
 use Rattle.server_model.specs.Runs.{Happened, Served, Asked, Server, Moves, Makes, Answers, Halts, Loses, AnswersAsk, HaltsInAsk, Reaps, Falls, Opens, StopsOpening, Runs, Start, Then}
 use Rattle.server_model.specs.Serve.{Calls, Serve, Connects, Begins, Ends, Closes, Asks, Runs as Serves, Refuses}
 use Rattle.server_model.specs.Sessions.{Sess}
 use Rattle.world_model.specs.records.Basic.{first_is_connect, is_named}
-use Rattle.world_model.specs.Crashing.{is_crashed_item}
-use Rattle.world_model.specs.Frames.{Handled}
+use Rattle.world_model.specs.meaning.Crashing.{is_crashed_item}
+use Rattle.world_model.specs.meaning.Frames.{Handled}
 use Rattle.world_model.specs.Orderly.{Orderly}
-use Rattle.world_model.specs.Links.{Link}
+use Rattle.world_model.specs.meaning.Links.{Link}
 use Rattle.world_model.specs.Parts.{implies}
 use Rattle.world_model.specs.RunLaws.{RunsAreOrderly}
 use Rattle.invariant_laws.specs.SameLaws.{HoldsAtEnds, HoldsInRuns, RunsServe}
-use Rattle.world_model.specs.Serving.{is_item_of, reply_of, identifier}
+use Rattle.world_model.specs.meaning.Serving.{is_item_of, reply_of, identifier}
 use Rattle.invariant_laws.specs.SessionHistory.{served_in, told_with, told_of}
 use Rattle.world_model.specs.Traced.{Traced}
 use Rattle.world_model.specs.records.Wire.{is_handled, counted_with, handled_from, same_replies}

@@ -2,7 +2,7 @@
 use Rattle.std.proofs.Common.{◌≡◌, refl, sym, ap, ◌∙◌, arith, Bool, true, false, ℕ, suc, zero, ◌+◌, ◌-◌, ◌<◌, ◌≤◌, cond, filter, List, [], ◌∷◌, Some, ◌⊎◌, inl, inr}
 use Rattle.std.specs.Prelude.{◌==◌, slice_get}
 use Rattle.std.proofs.lemmas.Bool.{and_parts}
-use Rattle.world_model.specs.Frames.{Sent}
+use Rattle.world_model.specs.meaning.Frames.{Sent}
 use Rattle.invariant_laws.specs.Shown.{in_row}
 use Rattle.world_model.proofs.Offered.{eq_from}
 

@@ -8,13 +8,13 @@ use Rattle.svc_values.specs.declared.frame.Up.{Up}
 use Rattle.svc_values.specs.declared.frame.Up.TheVariants as up
 use Rattle.outage_schedule.specs.declared.item.Item.{Item}
 use Rattle.outage_schedule.specs.declared.item.Item.TheVariants as item
-use Rattle.world_model.specs.Crashing.{is_crashed_item}
-use Rattle.world_model.specs.Frames.{Owner, Sent, Handled}
+use Rattle.world_model.specs.meaning.Crashing.{is_crashed_item}
+use Rattle.world_model.specs.meaning.Frames.{Owner, Sent, Handled}
 use Rattle.invariant_laws.specs.Invariant.{Invariant}
-use Rattle.world_model.specs.Links.{Link, link_at}
+use Rattle.world_model.specs.meaning.Links.{Link, link_at}
 use Rattle.world_model.specs.Sames.{is_front, is_of, owned_by, same_owner, same_owners, same_sent, same_up}
 use Rattle.world_model.specs.records.Script.{is_held_by}
-use Rattle.world_model.specs.Serving.{is_item_of}
+use Rattle.world_model.specs.meaning.Serving.{is_item_of}
 use Rattle.invariant_laws.specs.Shown.{is_call, in_row, first_of, calls_on, is_row, is_current, rows_on}
 use Rattle.once_laws.specs.StoredOnce.{is_call as is_call_item}
 use Rattle.world_model.specs.Traced.{Traced, Course, courses_of}

@@ -11,23 +11,23 @@ use Rattle.svc_values.specs.declared.call.Call.{Call}
 use Rattle.svc_values.specs.declared.draw.Draw.{Draw}
 use Rattle.svc_values.specs.declared.frame.Up.{Up}
 use Rattle.svc_values.specs.declared.frame.Up.TheVariants as up
-use Rattle.svc_values.specs.Calls.{is_lone_commit}
-use Rattle.svc_values.specs.Endings.{ends_transaction}
-use Rattle.svc_values.specs.Same.{same_answers, same_bool, same_call, same_draws}
+use Rattle.svc_values.specs.meaning.Calls.{is_lone_commit}
+use Rattle.svc_values.specs.meaning.Endings.{ends_transaction}
+use Rattle.svc_values.specs.meaning.Same.{same_answers, same_bool, same_call, same_draws}
 use Rattle.svc_values.specs.SameLaws.{same_answers_decide, same_bool_decides, same_call_decides}
 use Rattle.outage_schedule.specs.declared.item.Item.{Item}
 use Rattle.outage_schedule.specs.declared.item.Item.TheVariants as item
 use Rattle.outage_schedule.specs.declared.request.ShownCall.{ShownCall}
-use Rattle.server_model.specs.Walk.{ends}
+use Rattle.server_model.specs.meaning.Walk.{ends}
 use Rattle.world_model.specs.records.Basic.{none_behind, lives_rightly}
 use Rattle.once_laws.specs.CallEndings.{is_rollback, ends_rolled_back, fit_call, ends_fittingly, all_end_fittingly, end_fittingly}
-use Rattle.world_model.specs.Frames.{Sent, Handled}
+use Rattle.world_model.specs.meaning.Frames.{Sent, Handled}
 use Rattle.invariant_laws.specs.Invariant.{Invariant}
-use Rattle.world_model.specs.Links.{Link, link_at}
+use Rattle.world_model.specs.meaning.Links.{Link, link_at}
 use Rattle.world_model.specs.Parts.{implies, is_rep, is_unmarked, is_unmarked_frame, count_reps}
 use Rattle.world_model.specs.Sames.{is_of, owned_by, same_up}
 use Rattle.world_model.specs.records.Script.{recorded_from}
-use Rattle.world_model.specs.Serving.{is_item_of}
+use Rattle.world_model.specs.meaning.Serving.{is_item_of}
 use Rattle.once_laws.specs.Showing.{shows_taken, show_replies}
 use Rattle.invariant_laws.specs.Shown.{is_call, is_marked, calls_on, in_row, first_of, is_scripts, is_row, is_current, has_unmarked, first_unmarked, marked_from, unmarked_first, is_shown_item, item_shows, link_shows, has_completed, is_from, all_from, rows_on, shows_commit}
 use Rattle.world_model.specs.Traced.{Traced, Course, courses_of}

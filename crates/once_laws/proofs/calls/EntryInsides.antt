@@ -12,16 +12,16 @@ use Rattle.svc_values.specs.declared.entry.Entry.{Entry}
 use Rattle.svc_values.specs.declared.entry.Ltxid.{Ltxid}
 use Rattle.svc_values.specs.declared.entry.Piece.{Piece}
 use Rattle.svc_values.specs.declared.entry.SessionId.{SessionId}
-use Rattle.svc_values.specs.Endings.{ends_committed, ends_transaction}
-use Rattle.svc_values.specs.Identifiers.{is_of_session, same_ltxid, session_of}
-use Rattle.svc_values.specs.Same.{same_answers, same_piece}
+use Rattle.svc_values.specs.meaning.Endings.{ends_committed, ends_transaction}
+use Rattle.svc_values.specs.meaning.Identifiers.{is_of_session, same_ltxid, session_of}
+use Rattle.svc_values.specs.meaning.Same.{same_answers, same_piece}
 use Rattle.svc_values.specs.SameLaws.{same_ltxid_decides, same_piece_decides, same_session_decides}
 use Rattle.outage_schedule.specs.declared.request.ShownCall.{ShownCall}
-use Rattle.run_clauses.specs.EntryEvents.{entries_of}
+use Rattle.run_clauses.specs.meaning.EntryEvents.{entries_of}
 use Rattle.invariant_laws.specs.EntryParts.{answered_from, first_of, goes_on, has_its_calls, inside_answered, of_entries}
 use Rattle.invariant_laws.specs.Invariant.{Invariant}
 use Rattle.invariant_laws.specs.KeptLaws.{RunsKeepInvariant}
-use Rattle.world_model.specs.Links.{Link, link_at}
+use Rattle.world_model.specs.meaning.Links.{Link, link_at}
 use Rattle.invariant_laws.specs.Once.{is_on_link, is_open_or_committed}
 use Rattle.world_model.specs.Parts.{Sending, commit_sendings, implies}
 use Rattle.invariant_laws.specs.Same.{ServedCall, are_pieces, first_call, has_script_calls, is_ran, is_scripts, is_started, ran_by, runs_script_calls, scripts_from, test_at}

@@ -7,10 +7,10 @@ use Rattle.std.proofs.lemmas.Bool.{and_parts, or_left, or_right}
 use Rattle.std.proofs.lemmas.List.{length_push}
 use Rattle.std.proofs.lemmas.List.Folds.{list_any-append}
 use Rattle.svc_values.specs.declared.entry.Entry.{Entry}
-use Rattle.svc_values.specs.Identifiers.{same_ltxid}
+use Rattle.svc_values.specs.meaning.Identifiers.{same_ltxid}
 use Rattle.invariant_laws.specs.EntryParts.{first_of, of_entries}
 use Rattle.invariant_laws.specs.Invariant.{Invariant}
-use Rattle.world_model.specs.Links.{Link, link_at}
+use Rattle.world_model.specs.meaning.Links.{Link, link_at}
 use Rattle.invariant_laws.specs.Once.{is_on_link, is_open_or_committed}
 use Rattle.world_model.specs.Parts.{Sending, commit_sendings, implies}
 use Rattle.invariant_laws.specs.Same.{ServedCall, first_call, is_scripts, runs_script_calls, scripts_from, test_at}

@@ -7,12 +7,12 @@ use Rattle.std.proofs.lemmas.List.Elements.{filter_map-append}
 use Rattle.std.proofs.lemmas.List.Sums.{sum_by-append, sum_by-cons}
 use Rattle.svc_values.specs.declared.frame.Down.{Down}
 use Rattle.world_model.specs.records.Basic.{is_stopped, ends_life, none_behind}
-use Rattle.world_model.specs.Frames.{Sent, Reply, Handled}
-use Rattle.world_model.specs.Links.{Link}
+use Rattle.world_model.specs.meaning.Frames.{Sent, Reply, Handled}
+use Rattle.world_model.specs.meaning.Links.{Link}
 use Rattle.world_model.specs.records.Number.{last_told}
 use Rattle.world_model.specs.Parts.{is_rep, held_number}
 use Rattle.world_model.specs.Sames.{same_reply, same_sent, is_front}
-use Rattle.world_model.specs.Serving.{is_last}
+use Rattle.world_model.specs.meaning.Serving.{is_last}
 use Rattle.world_model.specs.records.Wire.{up_of, reply_to, replies_of, is_handled, counted_with, handled_from}
 use Rattle.once_laws.proofs.calls.CallRows.{more_if, rank}
 use Rattle.world_model.proofs.Offered.{front_begun, told_same, Known, commits_all, commits_behind, is_commit_of, behind_is, rep_of, all_told, alike_told, handled_replied, same_reps, number_in, few_replies}

@@ -13,8 +13,8 @@ use Rattle.svc_values.specs.declared.frame.Up.{Up}
 use Rattle.svc_values.specs.declared.frame.Up.TheVariants as up
 use Rattle.svc_values.specs.declared.frame.Down.{Down}
 use Rattle.svc_values.specs.declared.frame.Down.TheVariants as down
-use Rattle.svc_values.specs.Identifiers.{same_ltxid}
-use Rattle.svc_values.specs.Same.{same_answers, same_draws}
+use Rattle.svc_values.specs.meaning.Identifiers.{same_ltxid}
+use Rattle.svc_values.specs.meaning.Same.{same_answers, same_draws}
 use Rattle.svc_values.specs.SameLaws.{same_answers_decide, same_draws_decide}
 use Rattle.outage_schedule.specs.declared.document.Request.{Request}
 use Rattle.outage_schedule.specs.declared.event.Event.{Event}
@@ -24,21 +24,21 @@ use Rattle.outage_schedule.specs.declared.request.ShownCall.{ShownCall}
 use Rattle.client_model.specs.declared.act.Shown.{Shown}
 use Rattle.client_model.specs.declared.input.Input.{Input}
 use Rattle.client_model.specs.declared.input.Input.TheVariants.{Took}
-use Rattle.client_model.specs.States.{Living}
-use Rattle.client_model.specs.Talk.{talk_step, takes as taken_by, next_call, on_reply, talk_shown}
-use Rattle.client_model.specs.Terms.{Terms, Phase, Talk, Running}
+use Rattle.client_model.specs.meaning.States.{Living}
+use Rattle.client_model.specs.meaning.Talk.{talk_step, takes as taken_by, next_call, on_reply, talk_shown}
+use Rattle.client_model.specs.meaning.Terms.{Terms, Phase, Talk, Running}
 use Rattle.client_model.proofs.Offered.{Fits}
-use Rattle.run_clauses.specs.Reports.{shown_call}
+use Rattle.run_clauses.specs.meaning.Reports.{shown_call}
 use Rattle.server_model.specs.Seen.{Seen}
-use Rattle.world_model.specs.Acting.{sent_by}
-use Rattle.world_model.specs.Clients.{Client, Doing, Step, begun, past_of}
-use Rattle.world_model.specs.Frames.{Owner, Sent}
+use Rattle.world_model.specs.meaning.Acting.{sent_by}
+use Rattle.world_model.specs.meaning.Clients.{Client, Doing, Step, begun, past_of}
+use Rattle.world_model.specs.meaning.Frames.{Owner, Sent}
 use Rattle.invariant_laws.specs.Invariant.{Invariant}
 use Rattle.world_model.specs.Orderly.{Orderly}
 use Rattle.invariant_laws.specs.KeptLaws.{RunsKeepInvariant}
-use Rattle.world_model.specs.Links.{Link, new_link, link_at, sends}
-use Rattle.world_model.specs.Machines.{Machine}
-use Rattle.world_model.specs.Matching.{Noted}
+use Rattle.world_model.specs.meaning.Links.{Link, new_link, link_at, sends}
+use Rattle.world_model.specs.meaning.Machines.{Machine}
+use Rattle.world_model.specs.meaning.Matching.{Noted}
 use Rattle.invariant_laws.specs.Once.{are_apart}
 use Rattle.world_model.specs.OneEvent.{OneEvent}
 use Rattle.world_model.specs.Parts.{is_unmarked_frame}

@@ -15,21 +15,21 @@ use Rattle.svc_values.specs.declared.draw.Draw.{Draw}
 use Rattle.svc_values.specs.declared.entry.Entry.{Entry}
 use Rattle.svc_values.specs.declared.entry.Ltxid.{Ltxid}
 use Rattle.svc_values.specs.declared.entry.Piece.{Piece}
-use Rattle.svc_values.specs.Calls.{is_lone_commit}
-use Rattle.svc_values.specs.Endings.{ends_committed}
-use Rattle.svc_values.specs.Identifiers.{is_of_session, same_ltxid, session_of}
-use Rattle.svc_values.specs.Same.{same_answers, same_call, same_draws, same_piece}
+use Rattle.svc_values.specs.meaning.Calls.{is_lone_commit}
+use Rattle.svc_values.specs.meaning.Endings.{ends_committed}
+use Rattle.svc_values.specs.meaning.Identifiers.{is_of_session, same_ltxid, session_of}
+use Rattle.svc_values.specs.meaning.Same.{same_answers, same_call, same_draws, same_piece}
 use Rattle.svc_values.specs.SameLaws.{same_answers_decide, same_draws_decide, same_ltxid_decides, same_piece_decides}
 use Rattle.outage_schedule.specs.declared.item.Item.{Item}
 use Rattle.outage_schedule.specs.declared.item.Item.TheVariants as item
 use Rattle.outage_schedule.specs.declared.request.ShownCall.{ShownCall}
-use Rattle.run_clauses.specs.Tried.{holds}
+use Rattle.run_clauses.specs.meaning.Tried.{holds}
 use Rattle.world_model.specs.records.Basic.{sessions_of}
 use Rattle.once_laws.specs.CallEndings.{end_fittingly}
 use Rattle.once_laws.specs.CommitAnswers.{commits_alone, store_alone, stores_alone}
-use Rattle.world_model.specs.Frames.{Handled, Sent}
+use Rattle.world_model.specs.meaning.Frames.{Handled, Sent}
 use Rattle.invariant_laws.specs.Invariant.{Invariant}
-use Rattle.world_model.specs.Links.{Link, link_at}
+use Rattle.world_model.specs.meaning.Links.{Link, link_at}
 use Rattle.invariant_laws.specs.Once.{all_but_last, are_known, is_foreign, is_known, is_of_link, is_open_or_committed, is_untold, shows_at, tells_completed, transaction_at}
 use Rattle.world_model.specs.Parts.{commit_sendings, has_entry, implies}
 use Rattle.invariant_laws.specs.Same.{ServedCall, are_pieces, is_piece_of, is_stopped_piece, ran_by}

@@ -6,12 +6,12 @@ use Rattle.std.specs.Option.{option_map_or}
 use Rattle.std.proofs.lemmas.Bool.{and_parts, and_from}
 use Rattle.svc_values.specs.declared.frame.Up.{Up}
 use Rattle.svc_values.specs.declared.frame.Up.TheVariants as up
-use Rattle.svc_values.specs.SettingsList.{NamedValues, same_settings}
+use Rattle.svc_values.specs.meaning.SettingsList.{NamedValues, same_settings}
 use Rattle.outage_schedule.specs.declared.document.Request.{Request}
 use Rattle.invariant_laws.specs.Begins.{are_followed, begin_in, begins_followed, carries_on, carries_settings, carry_settings, followed_at_once, follows_begin, is_begin_frame, next_on, session_stands, sessions_stand, settings_before, starts_rightly, transactions_start}
-use Rattle.world_model.specs.Frames.{Owner, Sent}
+use Rattle.world_model.specs.meaning.Frames.{Owner, Sent}
 use Rattle.world_model.specs.Orderly.{Orderly}
-use Rattle.world_model.specs.Links.{Link}
+use Rattle.world_model.specs.meaning.Links.{Link}
 use Rattle.world_model.specs.Parts.{implies}
 use Rattle.invariant_laws.specs.Same.{ran_by, test_at}
 use Rattle.world_model.specs.Sames.{is_front, is_of, owned_by, same_owners, same_sent, same_up}

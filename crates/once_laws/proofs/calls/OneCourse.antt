@@ -3,11 +3,11 @@ use Rattle.std.proofs.Common.{◌≡◌, refl, sym, ap, ◌∙◌, arith, Bool, 
 use Rattle.std.specs.Prelude.{◌==◌, not, nat_le, slice_get}
 use Rattle.std.specs.List.{list_all, list_any}
 use Rattle.std.proofs.lemmas.Bool.{and_parts, and_from, or_cases, not-true}
-use Rattle.world_model.specs.Clients.{Client, Doing, Past}
-use Rattle.world_model.specs.Frames.{Owner}
+use Rattle.world_model.specs.meaning.Clients.{Client, Doing, Past}
+use Rattle.world_model.specs.meaning.Frames.{Owner}
 use Rattle.world_model.specs.Sames.{all_with, each_pair, same_owner}
 use Rattle.world_model.specs.records.Script.{is_held_by}
-use Rattle.world_model.specs.Settings.{Setting}
+use Rattle.world_model.specs.meaning.Settings.{Setting}
 use Rattle.world_model.specs.Traced.{Traced, Course, course_now, course_over, courses_from, courses_of, courses_of_clients}
 use Rattle.world_model.specs.Words.{held_in}
 use Rattle.world_model.proofs.Offered.{append_all, at_all, weaker_all, pair_from, owner_self, same_owner_is, eq_from, eq_to, le_from, le_to, ne_to, not_both}

@@ -8,15 +8,15 @@ use Rattle.svc_values.specs.declared.call.Call.{Call}
 use Rattle.svc_values.specs.declared.draw.Draw.{Draw}
 use Rattle.svc_values.specs.declared.frame.Up.{Up}
 use Rattle.svc_values.specs.declared.frame.Up.TheVariants as up
-use Rattle.svc_values.specs.Endings.{ends_committed}
+use Rattle.svc_values.specs.meaning.Endings.{ends_committed}
 use Rattle.outage_schedule.specs.declared.item.Item.{Item}
 use Rattle.outage_schedule.specs.declared.item.Item.TheVariants as item
-use Rattle.server_model.specs.Walk.{ends}
+use Rattle.server_model.specs.meaning.Walk.{ends}
 use Rattle.world_model.specs.records.Basic.{is_stopped, ends_life, none_behind}
-use Rattle.world_model.specs.Crashing.{is_crashed_item}
-use Rattle.world_model.specs.Frames.{Sent, Handled}
+use Rattle.world_model.specs.meaning.Crashing.{is_crashed_item}
+use Rattle.world_model.specs.meaning.Frames.{Sent, Handled}
 use Rattle.world_model.specs.Parts.{is_unmarked, is_unmarked_frame}
-use Rattle.world_model.specs.Serving.{is_item_of, is_last, reply_of}
+use Rattle.world_model.specs.meaning.Serving.{is_item_of, is_last, reply_of}
 use Rattle.invariant_laws.specs.Shown.{is_call, is_marked, in_row, has_unmarked, first_unmarked}
 use Rattle.world_model.specs.Traced.{Course}
 use Rattle.world_model.specs.records.Wire.{is_handled, same_replies}

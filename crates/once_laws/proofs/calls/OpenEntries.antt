@@ -12,17 +12,17 @@ use Rattle.svc_values.specs.declared.call.Call.{Call}
 use Rattle.svc_values.specs.declared.entry.Entry.{Entry}
 use Rattle.svc_values.specs.declared.entry.Ltxid.{Ltxid}
 use Rattle.svc_values.specs.declared.entry.Piece.{Piece}
-use Rattle.svc_values.specs.Calls.{has_commit}
-use Rattle.svc_values.specs.Identifiers.{same_ltxid, session_of}
-use Rattle.svc_values.specs.Same.{same_call, same_calls}
+use Rattle.svc_values.specs.meaning.Calls.{has_commit}
+use Rattle.svc_values.specs.meaning.Identifiers.{same_ltxid, session_of}
+use Rattle.svc_values.specs.meaning.Same.{same_call, same_calls}
 use Rattle.svc_values.specs.SameLaws.{same_call_decides, same_calls_decide, same_ltxid_decides}
-use Rattle.svc_values.specs.SettingsList.{NamedValues, same_settings}
-use Rattle.run_clauses.specs.EntryEvents.{entries_of}
+use Rattle.svc_values.specs.meaning.SettingsList.{NamedValues, same_settings}
+use Rattle.run_clauses.specs.meaning.EntryEvents.{entries_of}
 use Rattle.world_model.specs.records.Basic.{lives_rightly, none_behind}
 use Rattle.invariant_laws.specs.Begins.{has_start, have_starts, settings_before, starts_rightly}
-use Rattle.world_model.specs.Frames.{Owner, Sent}
+use Rattle.world_model.specs.meaning.Frames.{Owner, Sent}
 use Rattle.invariant_laws.specs.Invariant.{Invariant}
-use Rattle.world_model.specs.Links.{Link, link_at}
+use Rattle.world_model.specs.meaning.Links.{Link, link_at}
 use Rattle.world_model.specs.records.Number.{ahead_rightly, cond_held, is_ahead, is_counted, is_near, last_served_made}
 use Rattle.invariant_laws.specs.Once.{is_placed, are_placed}
 use Rattle.world_model.specs.Parts.{Sending, commit_sendings, held_number, is_commit_call, is_out, number_of, sendings_of}

@@ -8,12 +8,12 @@ use Rattle.std.proofs.lemmas.List.Folds.{list_all-append}
 use Rattle.svc_values.specs.declared.entry.Ltxid.{Ltxid}
 use Rattle.svc_values.specs.declared.frame.Down.TheVariants as down
 use Rattle.svc_values.specs.declared.entry.SessionId.{SessionId}
-use Rattle.svc_values.specs.Identifiers.{same_ltxid}
-use Rattle.svc_values.specs.Same.{same_bool}
+use Rattle.svc_values.specs.meaning.Identifiers.{same_ltxid}
+use Rattle.svc_values.specs.meaning.Same.{same_bool}
 use Rattle.svc_values.specs.SameLaws.{same_ltxid_decides, same_bool_decides}
-use Rattle.ltxid_book.specs.Journal.{is_blocked}
-use Rattle.ltxid_book.specs.Outcomes.{verdict_of}
-use Rattle.ltxid_book.specs.Sessions.{known_from}
+use Rattle.ltxid_book.specs.meaning.Journal.{is_blocked}
+use Rattle.ltxid_book.specs.meaning.Outcomes.{verdict_of}
+use Rattle.ltxid_book.specs.meaning.Sessions.{known_from}
 use Rattle.ltxid_book.specs.declared.verdict.Verdict.{Verdict}
 use Rattle.ltxid_book.specs.declared.verdict.Verdict.TheVariants as verdict
 use Rattle.outage_schedule.specs.declared.document.Document.{Document}
@@ -26,19 +26,19 @@ use Rattle.outage_schedule.specs.declared.note.AskResult.TheVariants as told
 use Rattle.outage_schedule.specs.declared.note.Note.{Note}
 use Rattle.outage_schedule.specs.declared.request.Outcome.{Outcome}
 use Rattle.outage_schedule.specs.declared.request.RequestReport.{RequestReport}
-use Rattle.run_clauses.specs.Moments.{HappenedAt, ServedItem, moments_of_notes, moment_of_item, before_event, from_event, in_order}
-use Rattle.run_clauses.specs.Outcomes.{completed_of, has_committed, told_of, is_told}
-use Rattle.run_clauses.specs.Stored.{Kept, kept_by, has_entry, has_block, blocked_or_entry, is_answer, is_rightly_forgotten, is_right_at, horizon_before, next_at}
+use Rattle.run_clauses.specs.meaning.Moments.{HappenedAt, ServedItem, moments_of_notes, moment_of_item, before_event, from_event, in_order}
+use Rattle.run_clauses.specs.meaning.Outcomes.{completed_of, has_committed, told_of, is_told}
+use Rattle.run_clauses.specs.meaning.Stored.{Kept, kept_by, has_entry, has_block, blocked_or_entry, is_answer, is_rightly_forgotten, is_right_at, horizon_before, next_at}
 use Rattle.server_model.specs.Seen.{Seen}
-use Rattle.world_model.specs.Clients.{Client, Doing, Past, reports_of}
-use Rattle.world_model.specs.Finishing.{Place}
+use Rattle.world_model.specs.meaning.Clients.{Client, Doing, Past, reports_of}
+use Rattle.world_model.specs.meaning.Finishing.{Place}
 use Rattle.world_model.specs.Orderly.{Orderly}
 use Rattle.world_model.specs.OrderlyLaws.{OrderlyIsKept}
 use Rattle.world_model.specs.OneEvent.{OneEvent}
 use Rattle.world_model.specs.Reached.{traced_start, Reached, Begins, GoesOn, IsFinishing, Scheduled, Finishes}
 use Rattle.world_model.specs.records.Ready.{all_requests_right}
-use Rattle.world_model.specs.Serving.{outcome_frame}
-use Rattle.world_model.specs.Settings.{Setting, setting_of}
+use Rattle.world_model.specs.meaning.Serving.{outcome_frame}
+use Rattle.world_model.specs.meaning.Settings.{Setting, setting_of}
 use Rattle.run_laws.specs.StoredLaws.{AnswersAreRight, BlocksStayApart}
 use Rattle.once_laws.specs.OnceLaws.{OutcomesAreStored}
 use Rattle.world_model.specs.Traced.{Traced, Course, courses_from, courses_of, courses_of_clients}

@@ -15,10 +15,10 @@ use Rattle.svc_values.specs.declared.statement.Statement.{Statement}
 use Rattle.svc_values.specs.declared.tables.PlainRow.{PlainRow}
 use Rattle.svc_values.specs.declared.value.Value.{Value}
 use Rattle.svc_values.specs.declared.value.Value.TheVariants as value
-use Rattle.svc_values.specs.Endings.{is_committed, is_rolled_back, ends_committed, ends_with}
-use Rattle.svc_values.specs.SettingsList.{NamedValues}
-use Rattle.svc_values.specs.Tables.{with_writes}
-use Rattle.svc_values.specs.Tests.{selected}
+use Rattle.svc_values.specs.meaning.Endings.{is_committed, is_rolled_back, ends_committed, ends_with}
+use Rattle.svc_values.specs.meaning.SettingsList.{NamedValues}
+use Rattle.svc_values.specs.meaning.Tables.{with_writes}
+use Rattle.svc_values.specs.meaning.Tests.{selected}
 use Rattle.stmt_meaning.specs.declared.effect.Effect.{Effect}
 use Rattle.stmt_meaning.specs.declared.plan.Plan.{Plan}
 use Rattle.stmt_meaning.specs.declared.plan.Plan.TheVariants as plan
@@ -26,10 +26,10 @@ use Rattle.stmt_meaning.specs.declared.plan.RowWork.{RowWork}
 use Rattle.stmt_meaning.specs.declared.plan.RowWork.TheVariants as row_work
 use Rattle.stmt_meaning.specs.declared.plan.TableWork.{TableWork}
 use Rattle.stmt_meaning.specs.declared.plan.TableWork.TheVariants as table_work
-use Rattle.stmt_meaning.specs.Effects.{fits_i64, number_at, total, wrote, refused, row_effect, table_answer, first_of, effect}
-use Rattle.stmt_meaning.specs.Meaning.{seen_at, OneDone, done_at, mean1, AllDone, after_first, ended_by, and_on, statements_done, is_refusal, commit_answer, Meant, worked, mean}
-use Rattle.stmt_meaning.specs.Operands.{Reading}
-use Rattle.stmt_meaning.specs.Plans.{plan_of, place_of}
+use Rattle.stmt_meaning.specs.meaning.Effects.{fits_i64, number_at, total, wrote, refused, row_effect, table_answer, first_of, effect}
+use Rattle.stmt_meaning.specs.meaning.Meaning.{seen_at, OneDone, done_at, mean1, AllDone, after_first, ended_by, and_on, statements_done, is_refusal, commit_answer, Meant, worked, mean}
+use Rattle.stmt_meaning.specs.meaning.Operands.{Reading}
+use Rattle.stmt_meaning.specs.meaning.Plans.{plan_of, place_of}
 use Rattle.once_laws.specs.CallEndings.{ends_rolled_back}
 use Rattle.invariant_laws.specs.Same.{is_no_commit}
 use Rattle.world_model.proofs.Offered.{append_all, weaker_all, not_both}

@@ -9,17 +9,17 @@ use Rattle.svc_values.specs.declared.answer.Answer.{Answer}
 use Rattle.svc_values.specs.declared.draw.Draw.{Draw}
 use Rattle.svc_values.specs.declared.frame.Up.{Up}
 use Rattle.svc_values.specs.declared.frame.Up.TheVariants as up
-use Rattle.svc_values.specs.Endings.{ends_committed}
+use Rattle.svc_values.specs.meaning.Endings.{ends_committed}
 use Rattle.outage_schedule.specs.declared.item.Item.{Item}
 use Rattle.outage_schedule.specs.declared.item.Item.TheVariants as item
 use Rattle.outage_schedule.specs.declared.request.ShownCall.{ShownCall}
-use Rattle.world_model.specs.Crashing.{is_crashed_item}
-use Rattle.world_model.specs.Frames.{Sent, Handled}
-use Rattle.world_model.specs.Links.{Link}
+use Rattle.world_model.specs.meaning.Crashing.{is_crashed_item}
+use Rattle.world_model.specs.meaning.Frames.{Sent, Handled}
+use Rattle.world_model.specs.meaning.Links.{Link}
 use Rattle.world_model.specs.Parts.{implies}
 use Rattle.invariant_laws.specs.Same.{Ran, ServedCall, did_all, ends_on_server, is_scripts, ran_by, ran_item, scripts_from, with_call}
 use Rattle.world_model.specs.Sames.{is_front, owned_by, same_sent}
-use Rattle.world_model.specs.Serving.{is_item_of, reply_of}
+use Rattle.world_model.specs.meaning.Serving.{is_item_of, reply_of}
 use Rattle.invariant_laws.specs.Shown.{calls_on, first_of, in_row, is_call}
 use Rattle.world_model.specs.Traced.{Course}
 use Rattle.invariant_laws.specs.Verified.{all_but_last, gone_behind}

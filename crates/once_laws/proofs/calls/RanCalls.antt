@@ -8,9 +8,9 @@ use Rattle.svc_values.specs.declared.call.Call.{Call}
 use Rattle.svc_values.specs.declared.draw.Draw.{Draw}
 use Rattle.svc_values.specs.declared.frame.Up.{Up}
 use Rattle.svc_values.specs.declared.frame.Up.TheVariants as up
-use Rattle.svc_values.specs.Same.{same_bool, same_call, same_draws}
+use Rattle.svc_values.specs.meaning.Same.{same_bool, same_call, same_draws}
 use Rattle.svc_values.specs.SameLaws.{same_bool_decides, same_call_decides}
-use Rattle.world_model.specs.Frames.{Owner, Sent}
+use Rattle.world_model.specs.meaning.Frames.{Owner, Sent}
 use Rattle.world_model.specs.Parts.{implies}
 use Rattle.world_model.specs.Sames.{is_of, owned_by, same_owners, same_up, same_sent, is_front}
 use Rattle.invariant_laws.specs.Shown.{in_row, is_call, is_scripts}

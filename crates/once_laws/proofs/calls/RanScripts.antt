@@ -13,21 +13,21 @@ use Rattle.svc_values.specs.declared.entry.Ltxid.{Ltxid}
 use Rattle.svc_values.specs.declared.frame.Up.{Up}
 use Rattle.svc_values.specs.declared.frame.Up.TheVariants as up
 use Rattle.svc_values.specs.declared.value.Value.{Value}
-use Rattle.svc_values.specs.Endings.{ends_committed}
-use Rattle.svc_values.specs.Same.{same_bool, same_call}
+use Rattle.svc_values.specs.meaning.Endings.{ends_committed}
+use Rattle.svc_values.specs.meaning.Same.{same_bool, same_call}
 use Rattle.svc_values.specs.SameLaws.{same_call_decides}
 use Rattle.outage_schedule.specs.declared.item.Item.{Item}
 use Rattle.outage_schedule.specs.declared.item.Item.TheVariants as item
 use Rattle.outage_schedule.specs.declared.note.AskResult.{AskResult}
 use Rattle.world_model.specs.records.Basic.{is_stopped, none_behind}
-use Rattle.world_model.specs.Crashing.{is_crashed_item}
-use Rattle.world_model.specs.Frames.{Owner, Sent, Handled}
+use Rattle.world_model.specs.meaning.Crashing.{is_crashed_item}
+use Rattle.world_model.specs.meaning.Frames.{Owner, Sent, Handled}
 use Rattle.invariant_laws.specs.Invariant.{Invariant}
-use Rattle.world_model.specs.Links.{Link}
+use Rattle.world_model.specs.meaning.Links.{Link}
 use Rattle.world_model.specs.Parts.{implies}
 use Rattle.invariant_laws.specs.Same.{ServedCall, Ran, did_all, ends_on_server, first_call, has_script_calls, ran_item, run_script_calls, runs_script_calls, is_scripts, scripts_from, with_call}
 use Rattle.world_model.specs.Sames.{is_of, owned_by}
-use Rattle.world_model.specs.Serving.{is_item_of, is_last}
+use Rattle.world_model.specs.meaning.Serving.{is_item_of, is_last}
 use Rattle.invariant_laws.specs.Shown.{in_row, is_call, is_scripts as is_script_frame}
 use Rattle.world_model.specs.Traced.{Traced, Course}
 use Rattle.world_model.specs.records.Wire.{Stage, New, Greeted, Told, Repeated, Begun, Rested, Shut, Wrong, counted_with, handled_from, is_handled, next_stage, is_right}

@@ -12,20 +12,20 @@ use Rattle.svc_values.specs.declared.draw.Draw.{Draw}
 use Rattle.svc_values.specs.declared.frame.Up.{Up}
 use Rattle.svc_values.specs.declared.frame.Up.TheVariants as up
 use Rattle.svc_values.specs.declared.value.Value.{Value}
-use Rattle.svc_values.specs.Endings.{ends_committed}
-use Rattle.svc_values.specs.Same.{same_call}
+use Rattle.svc_values.specs.meaning.Endings.{ends_committed}
+use Rattle.svc_values.specs.meaning.Same.{same_call}
 use Rattle.svc_values.specs.SameLaws.{same_call_decides}
-use Rattle.svc_values.specs.SettingsList.{NamedValues, same_settings, with_set, with_sets}
+use Rattle.svc_values.specs.meaning.SettingsList.{NamedValues, same_settings, with_set, with_sets}
 use Rattle.outage_schedule.specs.declared.document.Request.{Request}
 use Rattle.outage_schedule.specs.declared.item.Item.{Item}
 use Rattle.outage_schedule.specs.declared.item.Item.TheVariants as item
 use Rattle.world_model.specs.records.Basic.{is_stopped, none_behind}
 use Rattle.invariant_laws.specs.Begins.{begin_in, carries_settings, follows_begin, has_start, have_starts, is_begin_frame, next_behind, settings_before, stands_before}
-use Rattle.world_model.specs.Frames.{Owner, Sent, Handled}
+use Rattle.world_model.specs.meaning.Frames.{Owner, Sent, Handled}
 use Rattle.world_model.specs.Parts.{implies}
 use Rattle.invariant_laws.specs.Same.{ServedCall, Ran, begins, did_all, ends_on_server, first_call, ran_item, with_call}
 use Rattle.world_model.specs.Sames.{is_of, owned_by, same_owners}
-use Rattle.world_model.specs.Serving.{is_last}
+use Rattle.world_model.specs.meaning.Serving.{is_last}
 use Rattle.invariant_laws.specs.Shown.{in_row, is_call, is_scripts as is_script_frame}
 use Rattle.world_model.specs.Traced.{Course}
 use Rattle.world_model.specs.records.Wire.{Stage, New, Greeted, Told, Repeated, Begun, Rested, Shut, Wrong, counted_with, handled_from, is_handled, next_stage, is_right}

@@ -8,12 +8,12 @@ use Rattle.std.proofs.lemmas.List.Elements.{filter-append}
 use Rattle.std.proofs.lemmas.Bool.{or_parts}
 use Rattle.outage_schedule.specs.declared.event.Event.TheVariants as event
 use Rattle.outage_schedule.specs.declared.request.RequestReport.{RequestReport}
-use Rattle.world_model.specs.Clients.{Client, Doing, Past, is_unfinished, reports_of}
-use Rattle.world_model.specs.Finishing.{Place, AtServer, AtOrphans, AtRound, AtClients, AtLinks, Next, first_behind, goes_or_serves, next_finish, next_round, opens_or_reaps, reaps_or_goes, serves_or_ticks}
-use Rattle.world_model.specs.Links.{is_orphan}
-use Rattle.world_model.specs.Machines.{Machine}
-use Rattle.world_model.specs.Serving.{front_of}
-use Rattle.world_model.specs.Settings.{Setting}
+use Rattle.world_model.specs.meaning.Clients.{Client, Doing, Past, is_unfinished, reports_of}
+use Rattle.world_model.specs.meaning.Finishing.{Place, AtServer, AtOrphans, AtRound, AtClients, AtLinks, Next, first_behind, goes_or_serves, next_finish, next_round, opens_or_reaps, reaps_or_goes, serves_or_ticks}
+use Rattle.world_model.specs.meaning.Links.{is_orphan}
+use Rattle.world_model.specs.meaning.Machines.{Machine}
+use Rattle.world_model.specs.meaning.Serving.{front_of}
+use Rattle.world_model.specs.meaning.Settings.{Setting}
 use Rattle.world_model.specs.Traced.{Course, course_now, course_over, courses_from, courses_of_clients}
 use Rattle.world_model.proofs.Offered.{append_all, eq_to, ne_back, ne_to}
 

@@ -8,10 +8,10 @@ use Rattle.svc_values.specs.declared.call.Call.{Call}
 use Rattle.svc_values.specs.declared.draw.Draw.{Draw}
 use Rattle.svc_values.specs.declared.frame.Up.{Up}
 use Rattle.svc_values.specs.declared.frame.Up.TheVariants as up
-use Rattle.svc_values.specs.Same.{same_bool, same_call, same_draws}
+use Rattle.svc_values.specs.meaning.Same.{same_bool, same_call, same_draws}
 use Rattle.svc_values.specs.SameLaws.{same_bool_decides, same_call_decides, same_draws_decide}
-use Rattle.world_model.specs.Frames.{Sent, Handled}
-use Rattle.world_model.specs.Links.{Link}
+use Rattle.world_model.specs.meaning.Frames.{Sent, Handled}
+use Rattle.world_model.specs.meaning.Links.{Link}
 use Rattle.world_model.specs.Parts.{implies}
 use Rattle.world_model.specs.Sames.{is_of, owned_by, same_owners, same_sent, same_up, is_front}
 use Rattle.world_model.specs.records.Script.{has_shown_draws}

@@ -3,8 +3,8 @@ use Rattle.std.proofs.Common.{◌≡◌, ap, subst, arith, sym, Bool, true, ℕ,
 use Rattle.std.specs.Prelude.{◌==◌, length, slice_get}
 use Rattle.std.proofs.lemmas.Bool.{and_parts}
 use Rattle.svc_values.specs.declared.answer.Answer.TheVariants as answer
-use Rattle.svc_values.specs.Endings.{ends_committed}
-use Rattle.svc_values.specs.Same.{same_answers}
+use Rattle.svc_values.specs.meaning.Endings.{ends_committed}
+use Rattle.svc_values.specs.meaning.Same.{same_answers}
 use Rattle.svc_values.specs.SameLaws.{same_answers_decide}
 use Rattle.outage_schedule.specs.declared.request.ShownCall.{ShownCall}
 use Rattle.invariant_laws.specs.Shown.{all_from, is_from, shows_commit}

@@ -5,10 +5,10 @@ use Rattle.std.specs.List.{last_or}
 use Rattle.std.specs.Option.{option_map_or}
 use Rattle.svc_values.specs.declared.answer.Answer.{Answer}
 use Rattle.svc_values.specs.declared.answer.Answer.TheVariants as answer
-use Rattle.svc_values.specs.Endings.{is_committed, is_conflict, is_rolled_back, ends_transaction}
-use Rattle.request_bounds.specs.Replies.{ends_decided}
+use Rattle.svc_values.specs.meaning.Endings.{is_committed, is_conflict, is_rolled_back, ends_transaction}
+use Rattle.request_bounds.specs.meaning.Replies.{ends_decided}
 use Rattle.outage_schedule.specs.declared.request.ShownCall.{ShownCall}
-use Rattle.server_model.specs.Walk.{ends, is_ending}
+use Rattle.server_model.specs.meaning.Walk.{ends, is_ending}
 use Rattle.once_laws.specs.CallEndings.{ends_rolled_back}
 use Rattle.invariant_laws.specs.Once.{transaction_at}
 use Rattle.world_model.specs.records.Script.{behind_decided, recorded_from}

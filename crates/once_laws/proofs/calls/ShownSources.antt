@@ -9,17 +9,17 @@ use Rattle.svc_values.specs.declared.answer.Answer.{Answer}
 use Rattle.svc_values.specs.declared.answer.Answer.TheVariants as answer
 use Rattle.svc_values.specs.declared.call.Call.{Call}
 use Rattle.svc_values.specs.declared.draw.Draw.{Draw}
-use Rattle.svc_values.specs.Calls.{is_lone_commit}
-use Rattle.svc_values.specs.Endings.{ends_with}
-use Rattle.svc_values.specs.Same.{same_answers, same_call, same_draws}
+use Rattle.svc_values.specs.meaning.Calls.{is_lone_commit}
+use Rattle.svc_values.specs.meaning.Endings.{ends_with}
+use Rattle.svc_values.specs.meaning.Same.{same_answers, same_call, same_draws}
 use Rattle.svc_values.specs.SameLaws.{same_answers_decide}
 use Rattle.outage_schedule.specs.declared.item.Item.{Item}
 use Rattle.outage_schedule.specs.declared.item.Item.TheVariants as item
 use Rattle.outage_schedule.specs.declared.request.ShownCall.{ShownCall}
 use Rattle.once_laws.specs.CommitAnswers.{all_commit_fittingly, commit_fittingly, commits_fittingly, fit_commit}
-use Rattle.world_model.specs.Frames.{Handled}
+use Rattle.world_model.specs.meaning.Frames.{Handled}
 use Rattle.invariant_laws.specs.Invariant.{Invariant}
-use Rattle.world_model.specs.Links.{Link, link_at}
+use Rattle.world_model.specs.meaning.Links.{Link, link_at}
 use Rattle.world_model.specs.Parts.{implies}
 use Rattle.invariant_laws.specs.Same.{is_no_commit}
 use Rattle.world_model.specs.Sames.{owned_by}

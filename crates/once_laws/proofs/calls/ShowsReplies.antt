@@ -9,13 +9,13 @@ use Rattle.svc_values.specs.declared.frame.Up.{Up}
 use Rattle.svc_values.specs.declared.frame.Up.TheVariants as up
 use Rattle.svc_values.specs.declared.frame.Down.{Down}
 use Rattle.svc_values.specs.declared.frame.Down.TheVariants as down
-use Rattle.svc_values.specs.Same.{same_bool}
+use Rattle.svc_values.specs.meaning.Same.{same_bool}
 use Rattle.outage_schedule.specs.declared.request.ShownCall.{ShownCall}
-use Rattle.client_model.specs.States.{Living}
-use Rattle.client_model.specs.Terms.{Phase, Greeting, Asked, Running, Replaying}
-use Rattle.world_model.specs.Frames.{Owner, Sent, Reply}
+use Rattle.client_model.specs.meaning.States.{Living}
+use Rattle.client_model.specs.meaning.Terms.{Phase, Greeting, Asked, Running, Replaying}
+use Rattle.world_model.specs.meaning.Frames.{Owner, Sent, Reply}
 use Rattle.world_model.specs.records.Hold.{is_awaited, is_ask, is_connect, is_call}
-use Rattle.world_model.specs.Links.{Link}
+use Rattle.world_model.specs.meaning.Links.{Link}
 use Rattle.world_model.specs.Parts.{implies, is_rep, is_unmarked, is_unmarked_frame}
 use Rattle.world_model.specs.Sames.{is_of, owned_by, same_owners, same_sent, same_up}
 use Rattle.once_laws.specs.Showing.{is_as_told, shows_reply, is_shown_reply, shows_taken}

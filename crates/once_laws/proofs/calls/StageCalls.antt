@@ -4,7 +4,7 @@ use Rattle.std.specs.Prelude.{not, is_none, is_some, slice_get}
 use Rattle.std.proofs.lemmas.Bool.{and_parts}
 use Rattle.svc_values.specs.declared.frame.Up.{Up}
 use Rattle.svc_values.specs.declared.frame.Up.TheVariants as up
-use Rattle.world_model.specs.Frames.{Owner, Sent}
+use Rattle.world_model.specs.meaning.Frames.{Owner, Sent}
 use Rattle.world_model.specs.Parts.{is_unmarked_frame}
 use Rattle.world_model.specs.Sames.{same_owners}
 use Rattle.invariant_laws.specs.Shown.{is_call, is_marked}

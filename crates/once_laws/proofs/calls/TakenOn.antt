@@ -5,12 +5,12 @@ use Rattle.std.proofs.lemmas.List.Sums.{length-filter}
 use Rattle.client_model.specs.declared.act.Hold.{Hold}
 use Rattle.client_model.specs.declared.input.Input.{Input}
 use Rattle.client_model.specs.declared.input.Input.TheVariants.{Took}
-use Rattle.world_model.specs.Clients.{Doing}
+use Rattle.world_model.specs.meaning.Clients.{Doing}
 use Rattle.world_model.specs.records.Conversing.{connected}
-use Rattle.world_model.specs.Frames.{Sent, Reply}
+use Rattle.world_model.specs.meaning.Frames.{Sent, Reply}
 use Rattle.world_model.specs.Orderly.{Orderly}
-use Rattle.world_model.specs.Links.{Link, link_at, sends, takes}
-use Rattle.world_model.specs.Machines.{Machine}
+use Rattle.world_model.specs.meaning.Links.{Link, link_at, sends, takes}
+use Rattle.world_model.specs.meaning.Machines.{Machine}
 use Rattle.invariant_laws.specs.Once.{are_apart}
 use Rattle.world_model.specs.Parts.{is_out, is_rep, out_frame, count_reps}
 use Rattle.world_model.specs.Sames.{same_sent, is_front}

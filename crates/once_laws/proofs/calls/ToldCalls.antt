@@ -12,19 +12,19 @@ use Rattle.svc_values.specs.declared.frame.Up.{Up}
 use Rattle.svc_values.specs.declared.frame.Up.TheVariants as up
 use Rattle.svc_values.specs.declared.frame.Down.{Down}
 use Rattle.svc_values.specs.declared.frame.Down.TheVariants as down
-use Rattle.svc_values.specs.Identifiers.{same_ltxid}
-use Rattle.svc_values.specs.Same.{same_answers, same_draws}
+use Rattle.svc_values.specs.meaning.Identifiers.{same_ltxid}
+use Rattle.svc_values.specs.meaning.Same.{same_answers, same_draws}
 use Rattle.svc_values.specs.SameLaws.{same_answers_decide}
 use Rattle.outage_schedule.specs.declared.item.Item.{Item}
 use Rattle.outage_schedule.specs.declared.item.Item.TheVariants as item
 use Rattle.outage_schedule.specs.declared.request.ShownCall.{ShownCall}
-use Rattle.world_model.specs.Crashing.{is_crashed_item}
-use Rattle.world_model.specs.Frames.{Sent, Reply, Handled}
+use Rattle.world_model.specs.meaning.Crashing.{is_crashed_item}
+use Rattle.world_model.specs.meaning.Frames.{Sent, Reply, Handled}
 use Rattle.invariant_laws.specs.Invariant.{Invariant}
-use Rattle.world_model.specs.Links.{Link}
+use Rattle.world_model.specs.meaning.Links.{Link}
 use Rattle.world_model.specs.Parts.{is_rep, is_unmarked_frame}
 use Rattle.world_model.specs.Sames.{is_front, is_of, owned_by, same_down, same_reply, same_sent, same_up}
-use Rattle.world_model.specs.Serving.{is_item_of, reply_of, identifier}
+use Rattle.world_model.specs.meaning.Serving.{is_item_of, reply_of, identifier}
 use Rattle.invariant_laws.specs.Shown.{calls_on, in_row, is_call}
 use Rattle.once_laws.specs.Showing.{is_as_told, shows_reply, is_shown_reply, shows_taken}
 use Rattle.world_model.specs.Traced.{Traced, Course}

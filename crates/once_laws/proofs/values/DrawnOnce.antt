@@ -3,10 +3,10 @@ use Rattle.std.proofs.Common.{◌≡◌, refl, sym, ap, ◌∙◌, subst, arith,
 use Rattle.std.specs.List.{list_any}
 use Rattle.std.proofs.lemmas.Bool.{and_parts, and_from, or_parts, not-true}
 use Rattle.svc_values.specs.declared.draw.Draw.{Draw}
-use Rattle.svc_values.specs.Same.{same_draw}
+use Rattle.svc_values.specs.meaning.Same.{same_draw}
 use Rattle.svc_values.specs.SameLaws.{same_draw_decides}
-use Rattle.server_model.specs.Fresh.{is_single, stands_again, none_twice}
-use Rattle.server_model.specs.NewValues.{new_among}
+use Rattle.server_model.specs.meaning.Fresh.{is_single, stands_again, none_twice}
+use Rattle.server_model.specs.meaning.NewValues.{new_among}
 
 abbrev one_if : Bool → ℕ
 one_if test = cond test 1 0

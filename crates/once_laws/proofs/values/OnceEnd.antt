@@ -9,7 +9,7 @@ use Rattle.std.proofs.lemmas.List.Folds.{flat_map-map, list_all-append, list_any
 use Rattle.svc_values.specs.declared.entry.Entry.{Entry}
 use Rattle.svc_values.specs.declared.entry.Ltxid.{Ltxid}
 use Rattle.svc_values.specs.declared.entry.SessionId.{SessionId}
-use Rattle.svc_values.specs.Identifiers.{is_of_session, same_ltxid}
+use Rattle.svc_values.specs.meaning.Identifiers.{is_of_session, same_ltxid}
 use Rattle.svc_values.specs.SameLaws.{same_ltxid_decides}
 use Rattle.outage_schedule.specs.declared.document.Client.{Client as Scripted}
 use Rattle.outage_schedule.specs.declared.document.Document.{Document}
@@ -17,26 +17,27 @@ use Rattle.outage_schedule.specs.declared.document.Request.{Request}
 use Rattle.outage_schedule.specs.declared.report.Report.{Report}
 use Rattle.outage_schedule.specs.declared.request.RequestReport.{RequestReport}
 use Rattle.outage_schedule.specs.declared.request.ShownCall.{ShownCall}
-use Rattle.run_clauses.specs.Before.{journal_before}
-use Rattle.run_clauses.specs.Copies.{Copies, copies_by_client, copies_of}
-use Rattle.run_clauses.specs.Once.{all_copies_have_one, all_tried, copies_have_one, count_in, entries_differ, entries_tried_once, is_tried_once, no_list_has_two, request_ends, requests_end}
-use Rattle.run_clauses.specs.Sessions.{is_foreign as is_of_outside, outside_sessions}
-use Rattle.run_clauses.specs.Transactions.{each_request, requests_in, txns}
-use Rattle.run_clauses.specs.Tried.{Sending as Tried, has_its_lists, holds, ids_differ, ids_tried, tried_differ, tried_fits, tried_from}
-use Rattle.server_model.specs.Base.{Base}
+use Rattle.run_clauses.specs.meaning.Before.{journal_before}
+use Rattle.run_clauses.specs.meaning.Copies.{Copies, copies_by_client, copies_of}
+use Rattle.run_clauses.specs.meaning.Once.{all_copies_have_one, all_tried, copies_have_one, count_in, entries_differ, entries_tried_once, is_tried_once, no_list_has_two, request_ends, requests_end}
+use Rattle.run_clauses.specs.meaning.Sessions.{is_foreign as is_of_outside, outside_sessions}
+use Rattle.run_clauses.specs.meaning.Transactions.{each_request, requests_in, txns}
+use Rattle.run_clauses.specs.meaning.Tried.{has_its_lists, holds, ids_differ, ids_tried, tried_differ, tried_fits}
+use Rattle.run_clauses.specs.Tried.{Sending as Tried, tried_from}
+use Rattle.server_model.specs.meaning.Base.{Base}
 use Rattle.server_model.specs.Runs.{Server}
 use Rattle.server_model.specs.Seen.{Seen}
-use Rattle.world_model.specs.Clients.{Client, is_unfinished, reports_of, script_at}
+use Rattle.world_model.specs.meaning.Clients.{Client, is_unfinished, reports_of, script_at}
 use Rattle.world_model.specs.Coupled.{Coupled}
 use Rattle.world_model.specs.Orderly.{Orderly}
 use Rattle.invariant_laws.specs.KeptLaws.{WholeRunsKeepInvariant}
-use Rattle.world_model.specs.Links.{Link}
+use Rattle.world_model.specs.meaning.Links.{Link}
 use Rattle.world_model.specs.records.Number.{is_of_run, is_session}
 use Rattle.invariant_laws.specs.Once.{Once, copies_have, copies_once, has_sending, is_completed_rightly, is_foreign, is_of_link, is_on_link, reverse_onto, tells_tried, tried_one, with_now}
 use Rattle.once_laws.specs.OnceLaws.{ReportsAreOnce}
 use Rattle.world_model.specs.Parts.{commit_sendings, implies, sendings_of}
 use Rattle.world_model.specs.Reported.{IsReported}
-use Rattle.world_model.specs.Settings.{Setting, setting_of}
+use Rattle.world_model.specs.meaning.Settings.{Setting, setting_of}
 use Rattle.world_model.specs.Traced.{Traced, Course, courses_of}
 use Rattle.world_model.proofs.Offered.{weaker_all, implied, finishing_coupled, finishing_start, finishing_setting, eq_to, not_both}
 use Rattle.invariant_laws.proofs.Offered.{any_all, each_flat, numbered_differ, any_sent, both_all, flat_tried, holds_once, is_apart, later_copies, later_differ, later_ends, later_few, no_copies, flat_all, is_under, lists_of, sent_of_tried, tried_of_sent}

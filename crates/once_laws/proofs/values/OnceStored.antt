@@ -7,20 +7,20 @@ use Rattle.std.proofs.lemmas.Bool.{and_parts, and_from, or_cases}
 use Rattle.svc_values.specs.declared.entry.Ltxid.{Ltxid}
 use Rattle.svc_values.specs.declared.frame.Up.{Up}
 use Rattle.svc_values.specs.declared.frame.Up.TheVariants as up
-use Rattle.svc_values.specs.Identifiers.{is_of_session}
+use Rattle.svc_values.specs.meaning.Identifiers.{is_of_session}
 use Rattle.outage_schedule.specs.declared.item.Item.{Item}
 use Rattle.outage_schedule.specs.declared.item.Item.TheVariants as item
 use Rattle.once_laws.specs.CallEndings.{end_fittingly}
-use Rattle.world_model.specs.Crashing.{is_crashed_item}
-use Rattle.world_model.specs.Frames.{Owner, Sent, Handled}
+use Rattle.world_model.specs.meaning.Crashing.{is_crashed_item}
+use Rattle.world_model.specs.meaning.Frames.{Owner, Sent, Handled}
 use Rattle.invariant_laws.specs.Invariant.{Invariant}
 use Rattle.invariant_laws.specs.KeptLaws.{RunsKeepInvariant}
-use Rattle.world_model.specs.Links.{Link}
+use Rattle.world_model.specs.meaning.Links.{Link}
 use Rattle.invariant_laws.specs.Once.{all_but_last, transaction_at}
 use Rattle.world_model.specs.Parts.{commit_sendings, has_entry}
 use Rattle.invariant_laws.specs.SameLaws.{HoldsAtEnds, HoldsInRuns}
 use Rattle.world_model.specs.Sames.{is_of, owned_by, same_owner, same_owners, same_up}
-use Rattle.world_model.specs.Serving.{is_item_of, reply_of}
+use Rattle.world_model.specs.meaning.Serving.{is_item_of, reply_of}
 use Rattle.once_laws.specs.Showing.{show_replies}
 use Rattle.once_laws.specs.StoredOnce.{is_call as is_call_item, stood_in, are_stored_once}
 use Rattle.world_model.specs.Traced.{Traced, Course, courses_of}

@@ -4,11 +4,11 @@ use Rattle.std.specs.Prelude.{◌==◌, nat_lt}
 use Rattle.std.specs.List.{list_any}
 use Rattle.std.proofs.lemmas.Bool.{and_parts, and_from, or_cases, not-true}
 use Rattle.svc_values.specs.declared.draw.Draw.{Draw}
-use Rattle.svc_values.specs.Same.{same_draw}
+use Rattle.svc_values.specs.meaning.Same.{same_draw}
 use Rattle.svc_values.specs.SameLaws.{same_draw_decides}
 use Rattle.run_clauses.specs.Fresh.{is_given_again}
-use Rattle.server_model.specs.Fresh.{is_single}
-use Rattle.world_model.specs.Frames.{Owner}
+use Rattle.server_model.specs.meaning.Fresh.{is_single}
+use Rattle.world_model.specs.meaning.Frames.{Owner}
 use Rattle.invariant_laws.specs.Once.{Given, later_is_marked, have_one_owner}
 use Rattle.world_model.specs.Sames.{all_with, each_pair, same_owners}
 use Rattle.invariant_laws.proofs.Offered.{owners_are}

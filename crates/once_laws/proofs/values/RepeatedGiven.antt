@@ -8,7 +8,7 @@ use Rattle.svc_values.specs.declared.call.Call.{Call}
 use Rattle.svc_values.specs.declared.draw.Draw.{Draw}
 use Rattle.svc_values.specs.declared.frame.Up.{Up}
 use Rattle.svc_values.specs.declared.frame.Up.TheVariants as up
-use Rattle.svc_values.specs.Same.{same_bool, same_call, same_draws}
+use Rattle.svc_values.specs.meaning.Same.{same_bool, same_call, same_draws}
 use Rattle.svc_values.specs.SameLaws.{same_draws_decide}
 use Rattle.outage_schedule.specs.declared.event.Event.{Event}
 use Rattle.outage_schedule.specs.declared.item.Served.{Served}
@@ -16,14 +16,14 @@ use Rattle.outage_schedule.specs.declared.note.Note.{Note}
 use Rattle.outage_schedule.specs.declared.request.ShownCall.{ShownCall}
 use Rattle.server_model.specs.Seen.{Seen}
 use Rattle.world_model.specs.records.Basic.{item_events, is_named}
-use Rattle.world_model.specs.Frames.{Owner, Sent, Handled}
+use Rattle.world_model.specs.meaning.Frames.{Owner, Sent, Handled}
 use Rattle.world_model.specs.Orderly.{Orderly}
-use Rattle.world_model.specs.Links.{Link, link_at}
+use Rattle.world_model.specs.meaning.Links.{Link, link_at}
 use Rattle.world_model.specs.OneEvent.{OneEvent}
 use Rattle.world_model.specs.Parts.{implies}
 use Rattle.world_model.specs.Sames.{each_pair, same_owner, same_owners, is_of, owned_by, same_up, same_sent}
 use Rattle.world_model.specs.records.Script.{is_held_by, has_shown_draws, carries_draws}
-use Rattle.world_model.specs.Serving.{Front, front_at, is_of_front, is_served_by}
+use Rattle.world_model.specs.meaning.Serving.{Front, front_at, is_of_front, is_served_by}
 use Rattle.world_model.specs.Traced.{Traced, Course, courses_of}
 use Rattle.world_model.specs.records.Wire.{is_sent_front, is_alter, Stage, New, Greeted, Told, Repeated, Begun, Rested, Shut, Wrong, stage_if, next_stage, stage_of, is_right}
 use Rattle.world_model.specs.Words.{held_in}

@@ -7,7 +7,7 @@ use Rattle.std.proofs.lemmas.Bool.{and_parts, and_from, or_left, or_right}
 use Rattle.std.proofs.lemmas.List.{map-append, length-map}
 use Rattle.svc_values.specs.declared.call.Call.{Call}
 use Rattle.svc_values.specs.declared.draw.Draw.{Draw}
-use Rattle.svc_values.specs.Same.{same_answers, same_call, same_draws}
+use Rattle.svc_values.specs.meaning.Same.{same_answers, same_call, same_draws}
 use Rattle.outage_schedule.specs.declared.document.Document.{Document}
 use Rattle.outage_schedule.specs.declared.document.Request.{Request}
 use Rattle.outage_schedule.specs.declared.event.Event.{Event}
@@ -18,20 +18,20 @@ use Rattle.outage_schedule.specs.declared.note.Note.{Note}
 use Rattle.outage_schedule.specs.declared.request.ShownCall.{ShownCall}
 use Rattle.client_model.specs.declared.act.Shown.{Shown}
 use Rattle.client_model.specs.declared.input.Input.{Input}
-use Rattle.client_model.specs.Talk.{talk_step, takes}
-use Rattle.client_model.specs.Terms.{Phase}
+use Rattle.client_model.specs.meaning.Talk.{talk_step, takes}
+use Rattle.client_model.specs.meaning.Terms.{Phase}
 use Rattle.svc_values.specs.declared.frame.Down.TheVariants as down
-use Rattle.run_clauses.specs.Reports.{shown_call}
+use Rattle.run_clauses.specs.meaning.Reports.{shown_call}
 use Rattle.server_model.specs.Seen.{Seen}
-use Rattle.world_model.specs.Clients.{Doing, begun, past_of}
-use Rattle.world_model.specs.Frames.{Owner, Handled}
+use Rattle.world_model.specs.meaning.Clients.{Doing, begun, past_of}
+use Rattle.world_model.specs.meaning.Frames.{Owner, Handled}
 use Rattle.world_model.specs.Orderly.{Orderly}
-use Rattle.world_model.specs.Links.{Link, link_at}
-use Rattle.world_model.specs.Machines.{Machine}
+use Rattle.world_model.specs.meaning.Links.{Link, link_at}
+use Rattle.world_model.specs.meaning.Machines.{Machine}
 use Rattle.world_model.specs.OneEvent.{OneEvent}
 use Rattle.world_model.specs.Reached.{traced_start}
 use Rattle.world_model.specs.Sames.{owned_by}
-use Rattle.world_model.specs.Settings.{setting_of}
+use Rattle.world_model.specs.meaning.Settings.{setting_of}
 use Rattle.invariant_laws.specs.Shown.{is_shown_item, in_rows}
 use Rattle.world_model.specs.Traced.{Traced, Course, course_now, course_over, courses_of_clients, courses_of}
 use Rattle.world_model.proofs.Offered.{weaker_all, HasStepped, MayStep, Still, Closed, Stepped, happens_step, all_step, any_found, Followed, follow_happens, at_event, doing_course, resting_none, known_of, any_goes, at_any, account_now, first_step, first_doing, same_owner_is}

@@ -4,8 +4,8 @@ use Rattle.std.specs.Prelude.{◌==◌, drop, flat_map, slice_get}
 use Rattle.std.specs.List.{list_all}
 use Rattle.std.proofs.lemmas.Bool.{and_parts, and_from}
 use Rattle.svc_values.specs.declared.draw.Draw.{Draw}
-use Rattle.world_model.specs.Frames.{Handled}
-use Rattle.world_model.specs.Links.{Link}
+use Rattle.world_model.specs.meaning.Frames.{Handled}
+use Rattle.world_model.specs.meaning.Links.{Link}
 use Rattle.invariant_laws.specs.Once.{stopped_draws}
 use Rattle.world_model.specs.Sames.{all_with, each_pair, same_owners}
 use Rattle.once_laws.specs.StoredOnce.{is_call, is_stored_next, stored_of, StoredCall, stored_call, are_apart, stood_in, stored_on, are_stored_once}

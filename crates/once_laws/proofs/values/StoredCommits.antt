@@ -1,11 +1,11 @@
 -- A stored call's transaction has its commit on the connection, at its place or behind it: nothing that begins or ends a transaction stands before that.
 use Rattle.std.proofs.Common.{◌≡◌, refl, sym, ap, ◌∙◌, arith, ℕ, suc, zero, ◌<◌, ◌≤◌, ◌&&◌, not, Bool, true, false, List, [], ◌∷◌, Some, if◌then◌else◌}
 use Rattle.std.specs.Prelude.{drop, slice_get}
-use Rattle.svc_values.specs.Endings.{ends_committed}
+use Rattle.svc_values.specs.meaning.Endings.{ends_committed}
 use Rattle.outage_schedule.specs.declared.item.Item.{Item}
 use Rattle.outage_schedule.specs.declared.item.Item.TheVariants as item
-use Rattle.server_model.specs.Walk.{ends}
-use Rattle.world_model.specs.Frames.{Handled}
+use Rattle.server_model.specs.meaning.Walk.{ends}
+use Rattle.world_model.specs.meaning.Frames.{Handled}
 use Rattle.once_laws.specs.StoredOnce.{goes, is_stored_next}
 
 -- the call that stored its transaction

@@ -12,24 +12,24 @@ use Rattle.svc_values.specs.declared.call.Call.{Call}
 use Rattle.svc_values.specs.declared.draw.Draw.{Draw}
 use Rattle.svc_values.specs.declared.entry.Entry.{Entry}
 use Rattle.svc_values.specs.declared.entry.Ltxid.{Ltxid}
-use Rattle.svc_values.specs.Calls.{has_commit}
-use Rattle.svc_values.specs.Endings.{ends_committed}
-use Rattle.svc_values.specs.Identifiers.{is_of_session, same_ltxid, session_of}
-use Rattle.svc_values.specs.Same.{same_answers}
+use Rattle.svc_values.specs.meaning.Calls.{has_commit}
+use Rattle.svc_values.specs.meaning.Endings.{ends_committed}
+use Rattle.svc_values.specs.meaning.Identifiers.{is_of_session, same_ltxid, session_of}
+use Rattle.svc_values.specs.meaning.Same.{same_answers}
 use Rattle.svc_values.specs.SameLaws.{same_ltxid_decides}
 use Rattle.outage_schedule.specs.declared.item.Item.TheVariants as item
-use Rattle.run_clauses.specs.EntryEvents.{entries_of}
+use Rattle.run_clauses.specs.meaning.EntryEvents.{entries_of}
 use Rattle.world_model.specs.records.Basic.{is_named, sessions_of}
 use Rattle.once_laws.specs.CallEndings.{end_fittingly}
-use Rattle.world_model.specs.Frames.{Owner, Sent, Reply, Handled}
+use Rattle.world_model.specs.meaning.Frames.{Owner, Sent, Reply, Handled}
 use Rattle.invariant_laws.specs.Invariant.{Invariant}
-use Rattle.world_model.specs.Links.{Link, link_at}
+use Rattle.world_model.specs.meaning.Links.{Link, link_at}
 use Rattle.world_model.specs.records.Number.{is_counted, last_is_stopped_commit}
 use Rattle.invariant_laws.specs.Once.{all_sendings, answered_blocked, are_known, has_fate, has_sending, is_blocked_reply, is_frame_of, is_known, is_of_link, is_on_link, is_open_or_committed, is_untold, is_waiting_on, shows_at, under}
 use Rattle.world_model.specs.Parts.{Sending, commit_sendings, sendings_of, count_reps, has_entry, held_number, implies, is_commit_call, is_out, is_rep, is_unmarked, is_unmarked_frame, number_of, out_frame}
 use Rattle.world_model.specs.Sames.{is_of, owned_by}
 use Rattle.world_model.specs.records.Script.{are_sent, is_sending_of, sendings_on, sent_on}
-use Rattle.world_model.specs.Serving.{is_commit, is_item_of}
+use Rattle.world_model.specs.meaning.Serving.{is_commit, is_item_of}
 use Rattle.invariant_laws.specs.Shown.{calls_on, in_row, is_call}
 use Rattle.once_laws.specs.Showing.{show_replies}
 use Rattle.once_laws.specs.StoredOnce.{stood_in}

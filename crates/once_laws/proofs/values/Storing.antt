@@ -14,22 +14,22 @@ use Rattle.svc_values.specs.declared.frame.Up.{Up}
 use Rattle.svc_values.specs.declared.frame.Up.TheVariants as up
 use Rattle.svc_values.specs.declared.frame.Down.{Down}
 use Rattle.svc_values.specs.declared.frame.Down.TheVariants as down
-use Rattle.svc_values.specs.Calls.{has_commit}
-use Rattle.svc_values.specs.Endings.{ends_committed}
-use Rattle.svc_values.specs.Identifiers.{is_of_session, same_session, session_of}
-use Rattle.svc_values.specs.Same.{same_answers, same_bool}
+use Rattle.svc_values.specs.meaning.Calls.{has_commit}
+use Rattle.svc_values.specs.meaning.Endings.{ends_committed}
+use Rattle.svc_values.specs.meaning.Identifiers.{is_of_session, same_session, session_of}
+use Rattle.svc_values.specs.meaning.Same.{same_answers, same_bool}
 use Rattle.svc_values.specs.SameLaws.{same_answers_decide, same_call_decides}
 use Rattle.outage_schedule.specs.declared.item.Item.{Item}
 use Rattle.outage_schedule.specs.declared.item.Item.TheVariants as item
 use Rattle.outage_schedule.specs.declared.request.ShownCall.{ShownCall}
 use Rattle.world_model.specs.records.Basic.{first_is_connect, is_named}
 use Rattle.once_laws.specs.CallEndings.{ends_rolled_back, is_rollback, ends_fittingly}
-use Rattle.world_model.specs.Crashing.{is_crashed_item}
-use Rattle.world_model.specs.Frames.{Handled}
-use Rattle.world_model.specs.Links.{Link}
+use Rattle.world_model.specs.meaning.Crashing.{is_crashed_item}
+use Rattle.world_model.specs.meaning.Frames.{Handled}
+use Rattle.world_model.specs.meaning.Links.{Link}
 use Rattle.invariant_laws.specs.Once.{is_blocked_reply, shows_at}
 use Rattle.world_model.specs.Parts.{has_entry, implies, is_commit_frame}
-use Rattle.world_model.specs.Serving.{is_item_of, reply_of}
+use Rattle.world_model.specs.meaning.Serving.{is_item_of, reply_of}
 use Rattle.once_laws.specs.StoredOnce.{stood_in}
 use Rattle.world_model.specs.Traced.{Traced}
 use Rattle.world_model.specs.records.Wire.{is_handled, same_replies}

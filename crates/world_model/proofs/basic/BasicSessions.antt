@@ -4,10 +4,10 @@ use Rattle.std.specs.List.{list_all}
 use Rattle.std.proofs.lemmas.Bool.{and_parts, and_from}
 use Rattle.svc_values.specs.declared.entry.SessionId.{SessionId}
 use Rattle.outage_schedule.specs.declared.item.Served.{Served}
-use Rattle.world_model.specs.Settings.{Setting}
-use Rattle.world_model.specs.Links.{Link}
-use Rattle.world_model.specs.Machines.{Machine}
-use Rattle.world_model.specs.Matching.{Noted}
+use Rattle.world_model.specs.meaning.Settings.{Setting}
+use Rattle.world_model.specs.meaning.Links.{Link}
+use Rattle.world_model.specs.meaning.Machines.{Machine}
+use Rattle.world_model.specs.meaning.Matching.{Noted}
 use Rattle.world_model.specs.records.Basic.{is_named}
 use Rattle.world_model.specs.Sames.{each_pair}
 use Rattle.world_model.specs.records.Wire.{is_sent_front, is_reply_front, handled_from, stage_of, is_right}

@@ -3,15 +3,15 @@ use Rattle.std.proofs.Common.{◌≡◌, refl, Bool, true, ℕ, ◌+◌, ◌≤�
 use Rattle.std.specs.Prelude.{nat_le, unwrap_or, not, is_none}
 use Rattle.std.specs.List.{list_all}
 use Rattle.std.proofs.lemmas.Bool.{and_parts, and_from}
-use Rattle.svc_values.specs.Same.{same_bool}
+use Rattle.svc_values.specs.meaning.Same.{same_bool}
 use Rattle.client_model.specs.declared.input.Input.TheVariants.{Start}
-use Rattle.client_model.specs.Terms.{requested}
+use Rattle.client_model.specs.meaning.Terms.{requested}
 use Rattle.outage_schedule.specs.declared.document.Request.{Request}
 use Rattle.outage_schedule.specs.declared.item.Served.{Served}
-use Rattle.world_model.specs.Settings.{Setting}
-use Rattle.world_model.specs.Clients.{Doing, Client, step_at}
-use Rattle.world_model.specs.Machines.{Machine}
-use Rattle.world_model.specs.Matching.{Noted}
+use Rattle.world_model.specs.meaning.Settings.{Setting}
+use Rattle.world_model.specs.meaning.Clients.{Doing, Client, step_at}
+use Rattle.world_model.specs.meaning.Machines.{Machine}
+use Rattle.world_model.specs.meaning.Matching.{Noted}
 use Rattle.world_model.specs.records.Basic.{at_most}
 use Rattle.world_model.specs.Parts.{is_closed, implies}
 use Rattle.world_model.proofs.events.Tests.{le_from, le_to}

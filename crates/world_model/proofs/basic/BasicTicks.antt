@@ -4,14 +4,14 @@ use Rattle.std.specs.List.{list_all}
 use Rattle.std.proofs.lemmas.Bool.{and_parts, and_from}
 use Rattle.client_model.specs.declared.input.Input.TheVariants.{Start}
 use Rattle.client_model.specs.declared.track.Track.{Track}
-use Rattle.client_model.specs.Terms.{Phase, requested}
+use Rattle.client_model.specs.meaning.Terms.{Phase, requested}
 use Rattle.client_model.specs.Laws.{track_of}
 use Rattle.outage_schedule.specs.declared.document.Request.{Request}
 use Rattle.outage_schedule.specs.declared.item.Served.{Served}
-use Rattle.world_model.specs.Settings.{Setting}
-use Rattle.world_model.specs.Clients.{Doing, Past, Client, resting}
-use Rattle.world_model.specs.Machines.{Machine}
-use Rattle.world_model.specs.Matching.{Noted}
+use Rattle.world_model.specs.meaning.Settings.{Setting}
+use Rattle.world_model.specs.meaning.Clients.{Doing, Past, Client, resting}
+use Rattle.world_model.specs.meaning.Machines.{Machine}
+use Rattle.world_model.specs.meaning.Matching.{Noted}
 use Rattle.world_model.specs.records.Basic.{at_most, waits_from}
 use Rattle.world_model.specs.Wanted.{Wanted, wanted_in}
 use Rattle.world_model.proofs.events.Tests.{le_from, le_to}

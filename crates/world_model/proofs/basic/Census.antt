@@ -7,7 +7,7 @@ use Rattle.std.proofs.lemmas.Bool.Decides.{nat_tests}
 use Rattle.std.proofs.lemmas.List.Folds.{list_any-append}
 use Rattle.std.proofs.lemmas.List.Sums.{sum_by_push, sum_by-cons}
 use Rattle.svc_values.specs.declared.entry.SessionId.{SessionId}
-use Rattle.svc_values.specs.Identifiers.{same_session}
+use Rattle.svc_values.specs.meaning.Identifiers.{same_session}
 use Rattle.world_model.specs.Sames.{each_pair}
 use Rattle.world_model.proofs.events.Tests.{eq_from, eq_to}
 use Rattle.world_model.proofs.events.AllLists.{weaker_all, append_all, one_all}

@@ -3,11 +3,11 @@ use Rattle.std.proofs.Common.{◌≡◌, refl, Bool, true, false, ℕ, List, [],
 use Rattle.std.specs.List.{list_any}
 use Rattle.svc_values.specs.declared.frame.Down.{Down}
 use Rattle.outage_schedule.specs.declared.item.Served.{Served}
-use Rattle.world_model.specs.Frames.{Sent, up_size, down_size, whole_front}
-use Rattle.world_model.specs.Links.{Link, ends, sends, is_close}
-use Rattle.world_model.specs.Serving.{Front, after_front, handled, is_blocked, reply_of, commits_after}
-use Rattle.world_model.specs.Cutting.{cut_link}
-use Rattle.world_model.specs.Crashing.{fallen_link}
+use Rattle.world_model.specs.meaning.Frames.{Sent, up_size, down_size, whole_front}
+use Rattle.world_model.specs.meaning.Links.{Link, ends, sends, is_close}
+use Rattle.world_model.specs.meaning.Serving.{Front, after_front, handled, is_blocked, reply_of, commits_after}
+use Rattle.world_model.specs.meaning.Cutting.{cut_link}
+use Rattle.world_model.specs.meaning.Crashing.{fallen_link}
 use Rattle.world_model.proofs.events.Tests.{not_both}
 
 abbrev pub shut : ℕ → Link → Link

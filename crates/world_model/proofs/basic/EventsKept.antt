@@ -4,14 +4,14 @@ use Rattle.std.specs.Prelude.{◌==◌, not, nat_le, nat_lt}
 use Rattle.std.specs.List.{list_all}
 use Rattle.std.proofs.lemmas.Bool.{and_parts, not_from_false}
 use Rattle.outage_schedule.specs.declared.item.Served.{Served}
-use Rattle.world_model.specs.Settings.{Setting}
-use Rattle.world_model.specs.Links.{Link, with_link, sends}
-use Rattle.world_model.specs.Machines.{Machine}
-use Rattle.world_model.specs.Matching.{Noted}
-use Rattle.world_model.specs.Serving.{Front, is_ordinary, is_of_front, is_item_of, handled, after_front}
-use Rattle.world_model.specs.Cutting.{cut_link, reaped_link}
-use Rattle.world_model.specs.Crashing.{has_stored, falls}
-use Rattle.world_model.specs.Outside.{closed_by_drain}
+use Rattle.world_model.specs.meaning.Settings.{Setting}
+use Rattle.world_model.specs.meaning.Links.{Link, with_link, sends}
+use Rattle.world_model.specs.meaning.Machines.{Machine}
+use Rattle.world_model.specs.meaning.Matching.{Noted}
+use Rattle.world_model.specs.meaning.Serving.{Front, is_ordinary, is_of_front, is_item_of, handled, after_front}
+use Rattle.world_model.specs.meaning.Cutting.{cut_link, reaped_link}
+use Rattle.world_model.specs.meaning.Crashing.{has_stored, falls}
+use Rattle.world_model.specs.meaning.Outside.{closed_by_drain}
 use Rattle.world_model.specs.records.Basic.{item_events}
 use Rattle.world_model.specs.Sames.{each_pair}
 use Rattle.world_model.proofs.events.Tests.{le_from, ne_to, ne_back}

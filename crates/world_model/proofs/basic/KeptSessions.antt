@@ -8,8 +8,8 @@ use Rattle.outage_schedule.specs.declared.event.Event.TheVariants as event
 use Rattle.outage_schedule.specs.declared.note.Note.{Note}
 use Rattle.outage_schedule.specs.declared.note.Note.TheVariants as note
 use Rattle.outage_schedule.specs.declared.item.Served.{Served}
-use Rattle.world_model.specs.Noting.{only_if}
-use Rattle.world_model.specs.Matching.{Noted, Went, ServedOn, CutOff, Reaped, Opened, OpeningStopped, Ticked, RanOutside, Asked, Drained, matched}
+use Rattle.world_model.specs.meaning.Noting.{only_if}
+use Rattle.world_model.specs.meaning.Matching.{Noted, Went, ServedOn, CutOff, Reaped, Opened, OpeningStopped, Ticked, RanOutside, Asked, Drained, matched}
 use Rattle.world_model.specs.Traced.{Traced}
 use Rattle.world_model.specs.Orderly.{Orderly}
 use Rattle.world_model.specs.OneEvent.{OneEvent, session_outside}

@@ -1,6 +1,6 @@
 -- The steps of all requests rise, and what they keep is past, at the start and behind each event.
 use Rattle.std.proofs.Common.{sym, ◌∙◌}
-use Rattle.world_model.specs.Settings.{setting_of}
+use Rattle.world_model.specs.meaning.Settings.{setting_of}
 use Rattle.world_model.specs.Reached.{traced_start}
 use Rattle.world_model.specs.records.Basic.{have_risen, kept_ticks}
 use Rattle.world_model.specs.OrderlyLaws.{IsKept}

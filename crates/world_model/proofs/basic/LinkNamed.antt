@@ -8,17 +8,17 @@ use Rattle.svc_values.specs.declared.entry.SessionId.{SessionId}
 use Rattle.svc_values.specs.declared.entry.Ltxid.{Ltxid}
 use Rattle.svc_values.specs.declared.frame.Up.{Up}
 use Rattle.svc_values.specs.declared.frame.Up.TheVariants as up
-use Rattle.svc_values.specs.Identifiers.{same_session, session_of}
+use Rattle.svc_values.specs.meaning.Identifiers.{same_session, session_of}
 use Rattle.outage_schedule.specs.declared.item.Item.{Item}
 use Rattle.outage_schedule.specs.declared.item.Item.TheVariants as item
-use Rattle.world_model.specs.Frames.{Handled}
-use Rattle.world_model.specs.Links.{Link}
-use Rattle.world_model.specs.Machines.{Server}
-use Rattle.world_model.specs.Serving.{is_served_by, is_item_of}
+use Rattle.world_model.specs.meaning.Frames.{Handled}
+use Rattle.world_model.specs.meaning.Links.{Link}
+use Rattle.world_model.specs.meaning.Machines.{Server}
+use Rattle.world_model.specs.meaning.Serving.{is_served_by, is_item_of}
 use Rattle.world_model.specs.records.Basic.{is_connect, first_is_connect}
 use Rattle.world_model.specs.records.Hold as hold
 use Rattle.world_model.specs.Parts.{implies}
-use Rattle.svc_values.specs.Same.{same_bool}
+use Rattle.svc_values.specs.meaning.Same.{same_bool}
 use Rattle.world_model.proofs.events.Tests.{same_session_is, session_self}
 use Rattle.world_model.proofs.events.AllLists.{append_all, one_all}
 

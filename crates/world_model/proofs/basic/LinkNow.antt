@@ -8,12 +8,12 @@ use Rattle.svc_values.specs.declared.entry.SessionId.{SessionId}
 use Rattle.svc_values.specs.declared.frame.Up.{Up}
 use Rattle.svc_values.specs.declared.frame.Up.TheVariants as up
 use Rattle.svc_values.specs.declared.frame.Down.{Down}
-use Rattle.svc_values.specs.Identifiers.{same_session}
+use Rattle.svc_values.specs.meaning.Identifiers.{same_session}
 use Rattle.outage_schedule.specs.declared.item.Served.{Served}
-use Rattle.world_model.specs.Links.{Link}
-use Rattle.world_model.specs.Machines.{Server, Machine, next_session}
-use Rattle.world_model.specs.Serving.{Front, is_of_front, is_served_by, is_item_of, is_last, after_front}
-use Rattle.world_model.specs.Crashing.{fallen_link}
+use Rattle.world_model.specs.meaning.Links.{Link}
+use Rattle.world_model.specs.meaning.Machines.{Server, Machine, next_session}
+use Rattle.world_model.specs.meaning.Serving.{Front, is_of_front, is_served_by, is_item_of, is_last, after_front}
+use Rattle.world_model.specs.meaning.Crashing.{fallen_link}
 use Rattle.world_model.specs.Parts.{implies}
 use Rattle.world_model.proofs.basic.NamesKept.{serving}
 use Rattle.world_model.proofs.events.Tests.{eq_from, eq_to, same_session_is}

@@ -9,11 +9,11 @@ use Rattle.svc_values.specs.declared.frame.Down.{Down}
 use Rattle.outage_schedule.specs.declared.item.Item.{Item}
 use Rattle.outage_schedule.specs.declared.item.Item.TheVariants as item
 use Rattle.outage_schedule.specs.declared.item.Served.{Served}
-use Rattle.world_model.specs.Frames.{Handled}
-use Rattle.world_model.specs.Links.{Link}
-use Rattle.world_model.specs.Machines.{Machine}
-use Rattle.world_model.specs.Serving.{Front, is_of_front, is_served_by, is_item_of, after_front}
-use Rattle.world_model.specs.Crashing.{is_crashed_item}
+use Rattle.world_model.specs.meaning.Frames.{Handled}
+use Rattle.world_model.specs.meaning.Links.{Link}
+use Rattle.world_model.specs.meaning.Machines.{Machine}
+use Rattle.world_model.specs.meaning.Serving.{Front, is_of_front, is_served_by, is_item_of, after_front}
+use Rattle.world_model.specs.meaning.Crashing.{is_crashed_item}
 use Rattle.world_model.specs.records.Basic.{is_named, is_connect}
 use Rattle.world_model.specs.records.Hold as hold
 use Rattle.world_model.specs.records.Wire.{is_sent_front, is_reply_front, handled_from, stage_of, is_right}

@@ -7,16 +7,16 @@ use Rattle.outage_schedule.specs.declared.note.AskResult.{AskResult}
 use Rattle.outage_schedule.specs.declared.item.Item.{Item}
 use Rattle.outage_schedule.specs.declared.item.Item.TheVariants as item
 use Rattle.outage_schedule.specs.declared.item.Served.{Served}
-use Rattle.run_clauses.specs.Outcomes.{is_uncommitted}
-use Rattle.world_model.specs.Settings.{Setting}
-use Rattle.world_model.specs.Links.{Link}
-use Rattle.world_model.specs.Clients.{Doing, doing_at}
-use Rattle.world_model.specs.Machines.{Server, Machine}
-use Rattle.world_model.specs.Matching.{Noted}
-use Rattle.world_model.specs.Going.{lost_at_once}
-use Rattle.world_model.specs.Serving.{server_after}
-use Rattle.world_model.specs.Crashing.{with_doubt, fallen_link, falls}
-use Rattle.world_model.specs.Outside.{after_asked}
+use Rattle.run_clauses.specs.meaning.Outcomes.{is_uncommitted}
+use Rattle.world_model.specs.meaning.Settings.{Setting}
+use Rattle.world_model.specs.meaning.Links.{Link}
+use Rattle.world_model.specs.meaning.Clients.{Doing, doing_at}
+use Rattle.world_model.specs.meaning.Machines.{Server, Machine}
+use Rattle.world_model.specs.meaning.Matching.{Noted}
+use Rattle.world_model.specs.meaning.Going.{lost_at_once}
+use Rattle.world_model.specs.meaning.Serving.{server_after}
+use Rattle.world_model.specs.meaning.Crashing.{with_doubt, fallen_link, falls}
+use Rattle.world_model.specs.meaning.Outside.{after_asked}
 use Rattle.world_model.proofs.events.Kept.{IsSameServer}
 use Rattle.world_model.proofs.events.Tests.{le_from}
 use Rattle.world_model.proofs.events.Moves.{takes_one, Goes, Rests, Waits, Lends, Opens, Fails, Takes, Loses, ServesLast, LastNone, LastStopped, LastServed, Happens, Nothing, IsStep, Serves, Cuts, Reaps, Crashes, OpensUp, StopsOpening, Ticks, RunsOutside, Asks, Drains}

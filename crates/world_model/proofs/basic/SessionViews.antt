@@ -5,9 +5,9 @@ use Rattle.std.specs.List.{cons_option}
 use Rattle.std.proofs.lemmas.List.Elements.{filter_map-append}
 use Rattle.std.proofs.lemmas.Grind.{flat_map-append}
 use Rattle.svc_values.specs.declared.entry.SessionId.{SessionId}
-use Rattle.world_model.specs.Frames.{Handled}
-use Rattle.world_model.specs.Links.{Link, new_link}
-use Rattle.world_model.specs.Crashing.{fallen_link}
+use Rattle.world_model.specs.meaning.Frames.{Handled}
+use Rattle.world_model.specs.meaning.Links.{Link, new_link}
+use Rattle.world_model.specs.meaning.Crashing.{fallen_link}
 use Rattle.world_model.specs.records.Basic.{item_events}
 use Rattle.world_model.proofs.basic.Ends.{fallen_case}
 use Rattle.world_model.proofs.hold.Inserted.{found_same, flat_same}

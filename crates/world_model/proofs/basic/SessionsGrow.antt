@@ -9,14 +9,14 @@ use Rattle.outage_schedule.specs.declared.note.AskResult.{AskResult}
 use Rattle.outage_schedule.specs.declared.item.Item.{Item}
 use Rattle.outage_schedule.specs.declared.item.Item.TheVariants as item
 use Rattle.outage_schedule.specs.declared.item.Served.{Served}
-use Rattle.run_clauses.specs.Outcomes.{is_uncommitted}
-use Rattle.world_model.specs.Frames.{Handled}
-use Rattle.world_model.specs.Links.{Link, with_link}
-use Rattle.world_model.specs.Machines.{Server, Machine, next_session}
-use Rattle.world_model.specs.Matching.{Noted, RanOutside}
-use Rattle.world_model.specs.Serving.{Front, is_of_front, is_served_by, server_after, handled, after_front}
-use Rattle.world_model.specs.Crashing.{with_doubt}
-use Rattle.world_model.specs.Outside.{after_asked}
+use Rattle.run_clauses.specs.meaning.Outcomes.{is_uncommitted}
+use Rattle.world_model.specs.meaning.Frames.{Handled}
+use Rattle.world_model.specs.meaning.Links.{Link, with_link}
+use Rattle.world_model.specs.meaning.Machines.{Server, Machine, next_session}
+use Rattle.world_model.specs.meaning.Matching.{Noted, RanOutside}
+use Rattle.world_model.specs.meaning.Serving.{Front, is_of_front, is_served_by, server_after, handled, after_front}
+use Rattle.world_model.specs.meaning.Crashing.{with_doubt}
+use Rattle.world_model.specs.meaning.Outside.{after_asked}
 use Rattle.world_model.specs.records.Basic.{is_named, is_connect, item_events}
 use Rattle.world_model.specs.records.Hold as hold
 use Rattle.world_model.proofs.events.Tests.{same_session_is}

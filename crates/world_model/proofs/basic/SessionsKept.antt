@@ -9,14 +9,14 @@ use Rattle.svc_values.specs.declared.frame.Up.TheVariants as up
 use Rattle.outage_schedule.specs.declared.item.Item.{Item}
 use Rattle.outage_schedule.specs.declared.item.Item.TheVariants as item
 use Rattle.outage_schedule.specs.declared.item.Served.{Served}
-use Rattle.world_model.specs.Settings.{Setting}
-use Rattle.world_model.specs.Links.{Link, with_link, changed, sends}
-use Rattle.world_model.specs.Machines.{Server, Machine}
-use Rattle.world_model.specs.Matching.{Noted, RanOutside}
-use Rattle.world_model.specs.Serving.{Front, is_ordinary, is_of_front, is_item_of, server_after, handled, after_front}
-use Rattle.world_model.specs.Cutting.{cut_link, after_cut, reaped_link}
-use Rattle.world_model.specs.Crashing.{is_crashed_item, has_stored, with_doubt, falls}
-use Rattle.world_model.specs.Outside.{closed_by_drain, ticked, after_asked, drained}
+use Rattle.world_model.specs.meaning.Settings.{Setting}
+use Rattle.world_model.specs.meaning.Links.{Link, with_link, changed, sends}
+use Rattle.world_model.specs.meaning.Machines.{Server, Machine}
+use Rattle.world_model.specs.meaning.Matching.{Noted, RanOutside}
+use Rattle.world_model.specs.meaning.Serving.{Front, is_ordinary, is_of_front, is_item_of, server_after, handled, after_front}
+use Rattle.world_model.specs.meaning.Cutting.{cut_link, after_cut, reaped_link}
+use Rattle.world_model.specs.meaning.Crashing.{is_crashed_item, has_stored, with_doubt, falls}
+use Rattle.world_model.specs.meaning.Outside.{closed_by_drain, ticked, after_asked, drained}
 use Rattle.world_model.specs.records.Basic.{is_named, is_connect}
 use Rattle.world_model.specs.records.Hold as hold
 use Rattle.world_model.proofs.events.Kept.{IsSameServer}

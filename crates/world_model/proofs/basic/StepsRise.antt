@@ -5,7 +5,7 @@ use Rattle.std.specs.List.{list_all}
 use Rattle.std.proofs.lemmas.Bool.{and_parts, and_from}
 use Rattle.std.proofs.lemmas.List.{map-append}
 use Rattle.std.proofs.lemmas.List.Folds.{list_all-map}
-use Rattle.world_model.specs.Clients.{Step}
+use Rattle.world_model.specs.meaning.Clients.{Step}
 use Rattle.world_model.specs.Sames.{rise}
 use Rattle.world_model.proofs.events.Tests.{le_from, le_to, pair_more}
 use Rattle.world_model.proofs.events.AllLists.{weaker_all, append_all, one_all}

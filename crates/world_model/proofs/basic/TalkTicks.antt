@@ -18,18 +18,18 @@ use Rattle.request_bounds.specs.declared.rule.After.{After}
 use Rattle.request_bounds.specs.declared.rule.After.TheVariants as after
 use Rattle.call_recorder.specs.declared.recorded.Recorded.{Recorded}
 use Rattle.client_model.specs.declared.track.Track.{Track}
-use Rattle.client_model.specs.Told.{told_of}
-use Rattle.client_model.specs.Told as told
-use Rattle.client_model.specs.States.{Living, Losing, Asking, Repeating, asked_on, resumed, next_of}
-use Rattle.client_model.specs.Verifying.{submitted}
+use Rattle.client_model.specs.meaning.Told.{told_of}
+use Rattle.client_model.specs.meaning.Told as told
+use Rattle.client_model.specs.meaning.States.{Living, Losing, Asking, Repeating, asked_on, resumed, next_of}
+use Rattle.client_model.specs.meaning.Verifying.{submitted}
 use Rattle.client_model.specs.declared.input.Input.{Input}
 use Rattle.client_model.specs.declared.input.Input.TheVariants.{Start, Waiting, Lent, Opened, TryFailed, Took, Gone}
 use Rattle.client_model.specs.declared.act.Shown.{Shown}
 use Rattle.client_model.specs.declared.act.Failed.TheVariants.{Disabled, Retries, PoolWait}
-use Rattle.client_model.specs.Terms.{Terms, Talk, Phase, Idle, Unbegun, Queued, Seeking, Greeting, Asked, Running, Replaying, unsubmitted}
-use Rattle.client_model.specs.Talk.{stands, fails, begin_of, sends_call, sends_or_ends, goes_on, with_submitted, next_call, with_recorded, with_reply, with_shown, recorded_as, talk_shown, on_hello, on_reply, sends_marked, repeats, on_compared, on_repeated, after_completed, on_completed, on_told, takes, lost_of, loses, waits_from, with_tried, talk_step, quiet}
-use Rattle.client_model.specs.Told.{uncommitted, is_late, repeated, over, completed_on}
-use Rattle.client_model.specs.Verifying.{verified_more, mismatch}
+use Rattle.client_model.specs.meaning.Terms.{Terms, Talk, Phase, Idle, Unbegun, Queued, Seeking, Greeting, Asked, Running, Replaying, unsubmitted}
+use Rattle.client_model.specs.meaning.Talk.{stands, fails, begin_of, sends_call, sends_or_ends, goes_on, with_submitted, next_call, with_recorded, with_reply, with_shown, recorded_as, talk_shown, on_hello, on_reply, sends_marked, repeats, on_compared, on_repeated, after_completed, on_completed, on_told, takes, lost_of, loses, waits_from, with_tried, talk_step, quiet}
+use Rattle.client_model.specs.meaning.Told.{uncommitted, is_late, repeated, over, completed_on}
+use Rattle.client_model.specs.meaning.Verifying.{verified_more, mismatch}
 use Rattle.request_bounds.specs.declared.clocked.Clocked.{Clocked}
 use Rattle.client_model.specs.Laws.{track_of}
 use Rattle.world_model.specs.records.Basic.{at_most}

@@ -4,15 +4,15 @@ use Rattle.std.specs.Prelude.{slice_get, slice_set, unwrap_or}
 use Rattle.std.specs.Option.{option_map_or}
 use Rattle.client_model.specs.declared.input.Input.{Input}
 use Rattle.client_model.specs.declared.input.Input.TheVariants.{Waiting, Lent, Opened, TryFailed, Took, Gone}
-use Rattle.pool_core.specs.Slots.{after_take}
-use Rattle.world_model.specs.Settings.{Setting}
-use Rattle.world_model.specs.Frames.{Sent}
-use Rattle.world_model.specs.Links.{Link, new_link, link_at, with_link, changed, sends, takes}
-use Rattle.world_model.specs.Clients.{Doing, doing_at, heard}
-use Rattle.world_model.specs.Acting.{steps, act_at, sent_by, owner_at, call_in, frames_of, connection_of}
-use Rattle.world_model.specs.Machines.{Machine}
-use Rattle.world_model.specs.Going.{lost_at_once}
-use Rattle.world_model.specs.Cutting.{cut_link}
+use Rattle.pool_core.specs.meaning.Slots.{after_take}
+use Rattle.world_model.specs.meaning.Settings.{Setting}
+use Rattle.world_model.specs.meaning.Frames.{Sent}
+use Rattle.world_model.specs.meaning.Links.{Link, new_link, link_at, with_link, changed, sends, takes}
+use Rattle.world_model.specs.meaning.Clients.{Doing, doing_at, heard}
+use Rattle.world_model.specs.meaning.Acting.{steps, act_at, sent_by, owner_at, call_in, frames_of, connection_of}
+use Rattle.world_model.specs.meaning.Machines.{Machine}
+use Rattle.world_model.specs.meaning.Going.{lost_at_once}
+use Rattle.world_model.specs.meaning.Cutting.{cut_link}
 use Rattle.world_model.proofs.basic.Ends.{sends_alike, cut_case}
 use Rattle.world_model.proofs.events.Moves.{with_pool, with_new, next_number, takes_one, Goes, Rests, Waits, Lends, Opens, Fails, Takes, Loses}
 

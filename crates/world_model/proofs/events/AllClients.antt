@@ -8,8 +8,8 @@ use Rattle.std.proofs.lemmas.List.Folds.{list_all-append}
 use Rattle.client_model.specs.declared.act.Hold.{Hold}
 use Rattle.client_model.specs.declared.act.Hold.TheVariants as hold
 use Rattle.outage_schedule.specs.declared.document.Request.{Request}
-use Rattle.world_model.specs.Settings.{Setting}
-use Rattle.world_model.specs.Clients.{Step, Doing, Past, Client, client_at, with_client, after_hold, after_step, past_of, resting}
+use Rattle.world_model.specs.meaning.Settings.{Setting}
+use Rattle.world_model.specs.meaning.Clients.{Step, Doing, Past, Client, client_at, with_client, after_hold, after_step, past_of, resting}
 use Rattle.world_model.specs.Traced.{Course, courses_from, courses_of_clients}
 use Rattle.world_model.proofs.events.AllLists.{set_all, at_all, append_all, one_all}
 

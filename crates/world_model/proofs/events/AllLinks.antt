@@ -8,20 +8,20 @@ use Rattle.outage_schedule.specs.declared.item.Served.{Served}
 use Rattle.client_model.specs.declared.input.Input.{Input}
 use Rattle.client_model.specs.declared.input.Input.TheVariants.{Waiting, Lent, Opened, TryFailed, Took, Gone}
 use Rattle.client_model.specs.declared.act.Act.{Act}
-use Rattle.pool_core.specs.Slots.{after_take}
-use Rattle.world_model.specs.Settings.{Setting}
-use Rattle.world_model.specs.Frames.{Sent, Reply}
-use Rattle.world_model.specs.Links.{Link, new_link, link_at, with_link, changed, sends, takes, is_orphan}
-use Rattle.world_model.specs.Clients.{Doing, doing_at, heard}
-use Rattle.world_model.specs.Acting.{acts, steps, act_at, sent_by, owner_at, call_in, frames_of, connection_of}
-use Rattle.world_model.specs.Machines.{Machine}
-use Rattle.world_model.specs.Noting.{only_if}
-use Rattle.world_model.specs.Matching.{Noted}
-use Rattle.world_model.specs.Going.{lost_at_once}
-use Rattle.world_model.specs.Serving.{Front, first_of, front_of, front_at, is_ordinary, handled, after_front}
-use Rattle.world_model.specs.Cutting.{open_at, cut_link, reaped_link}
-use Rattle.world_model.specs.Crashing.{is_stopped, has_stored, fallen_link, falls}
-use Rattle.world_model.specs.Outside.{closed_by_drain, drained}
+use Rattle.pool_core.specs.meaning.Slots.{after_take}
+use Rattle.world_model.specs.meaning.Settings.{Setting}
+use Rattle.world_model.specs.meaning.Frames.{Sent, Reply}
+use Rattle.world_model.specs.meaning.Links.{Link, new_link, link_at, with_link, changed, sends, takes, is_orphan}
+use Rattle.world_model.specs.meaning.Clients.{Doing, doing_at, heard}
+use Rattle.world_model.specs.meaning.Acting.{acts, steps, act_at, sent_by, owner_at, call_in, frames_of, connection_of}
+use Rattle.world_model.specs.meaning.Machines.{Machine}
+use Rattle.world_model.specs.meaning.Noting.{only_if}
+use Rattle.world_model.specs.meaning.Matching.{Noted}
+use Rattle.world_model.specs.meaning.Going.{lost_at_once}
+use Rattle.world_model.specs.meaning.Serving.{Front, first_of, front_of, front_at, is_ordinary, handled, after_front}
+use Rattle.world_model.specs.meaning.Cutting.{open_at, cut_link, reaped_link}
+use Rattle.world_model.specs.meaning.Crashing.{is_stopped, has_stored, fallen_link, falls}
+use Rattle.world_model.specs.meaning.Outside.{closed_by_drain, drained}
 use Rattle.world_model.proofs.events.Kept.{only_is}
 use Rattle.world_model.proofs.events.AllLists.{set_all, at_all, map_all, append_all, one_all}
 use Rattle.world_model.proofs.events.Moves.{only_met, with_pool, with_new, next_number, takes_one, Goes, Rests, Waits, Lends, Opens, Fails, Takes, Loses, ServesLast, LastNone, LastStopped, LastServed, Happens, Nothing, IsStep, Serves, Cuts, Reaps, Crashes, OpensUp, StopsOpening, Ticks, RunsOutside, Asks, Drains}

@@ -13,16 +13,17 @@ use Rattle.outage_schedule.specs.declared.note.AskResult.{AskResult}
 use Rattle.outage_schedule.specs.declared.item.Item.{Item}
 use Rattle.outage_schedule.specs.declared.item.Item.TheVariants as item
 use Rattle.outage_schedule.specs.declared.item.Served.{Served}
-use Rattle.run_clauses.specs.Outcomes.{is_uncommitted}
-use Rattle.world_model.specs.Machines.{Server, Machine}
-use Rattle.world_model.specs.Matching.{Noted, Went, matched, is_go}
-use Rattle.world_model.specs.Noting.{only_if}
-use Rattle.world_model.specs.Settings.{Setting}
-use Rattle.world_model.specs.Serving.{server_after}
-use Rattle.world_model.specs.Crashing.{with_doubt, falls}
-use Rattle.world_model.specs.Opening.{may_open, opened, follow_up}
-use Rattle.world_model.specs.Outside.{after_asked}
-use Rattle.world_model.specs.Walking.{follow}
+use Rattle.run_clauses.specs.meaning.Outcomes.{is_uncommitted}
+use Rattle.world_model.specs.meaning.Machines.{Server, Machine}
+use Rattle.world_model.specs.meaning.Matching.{Noted, Went, matched}
+use Rattle.world_model.specs.Matching.{is_go}
+use Rattle.world_model.specs.meaning.Noting.{only_if}
+use Rattle.world_model.specs.meaning.Settings.{Setting}
+use Rattle.world_model.specs.meaning.Serving.{server_after}
+use Rattle.world_model.specs.meaning.Crashing.{with_doubt, falls}
+use Rattle.world_model.specs.meaning.Opening.{may_open, opened, follow_up}
+use Rattle.world_model.specs.meaning.Outside.{after_asked}
+use Rattle.world_model.specs.meaning.Walking.{follow}
 use Rattle.world_model.proofs.events.Kept.{only_is}
 use Rattle.world_model.proofs.basic.Servers.{goes_same, event_kept}
 use Rattle.world_model.proofs.events.Tests.{le_from}

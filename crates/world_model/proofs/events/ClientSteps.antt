@@ -6,7 +6,7 @@ use Rattle.svc_values.specs.declared.entry.Ltxid.{Ltxid}
 use Rattle.svc_values.specs.declared.frame.Up.{Up}
 use Rattle.outage_schedule.specs.declared.item.Served.{Served}
 use Rattle.pool_core.specs.declared.answers.Take.TheVariants as take
-use Rattle.pool_core.specs.Slots.{Slots, take_answer, after_take}
+use Rattle.pool_core.specs.meaning.Slots.{Slots, take_answer, after_take}
 use Rattle.client_model.specs.declared.act.Act.{Act}
 use Rattle.client_model.specs.declared.act.Hold.{Hold}
 use Rattle.client_model.specs.declared.act.Hold.TheVariants as hold
@@ -16,22 +16,22 @@ use Rattle.client_model.specs.declared.input.Wants.{Wants}
 use Rattle.client_model.specs.declared.input.Wants.TheVariants as wants
 use Rattle.client_model.specs.declared.act.Failed.TheVariants.{Retries, PoolWait}
 use Rattle.client_model.specs.Conversation.{may_come}
-use Rattle.client_model.specs.Talk.{wants_of, stands, quiet, fails, with_tried, lost_of, on_waiting, waits_from, on_try_failed}
-use Rattle.client_model.specs.Terms.{Talk, Queued, Seeking}
-use Rattle.world_model.specs.Settings.{Setting}
-use Rattle.world_model.specs.Frames.{Sent, Reply}
-use Rattle.world_model.specs.Links.{Link, new_link, link_at, with_link, changed, sends, takes, told_by}
-use Rattle.world_model.specs.Clients.{Doing, Client, client_at, with_client, doing_at, doing_of, heard, step_at, after_hold, after_step}
+use Rattle.client_model.specs.meaning.Talk.{wants_of, stands, quiet, fails, with_tried, lost_of, on_waiting, waits_from, on_try_failed}
+use Rattle.client_model.specs.meaning.Terms.{Talk, Queued, Seeking}
+use Rattle.world_model.specs.meaning.Settings.{Setting}
+use Rattle.world_model.specs.meaning.Frames.{Sent, Reply}
+use Rattle.world_model.specs.meaning.Links.{Link, new_link, link_at, with_link, changed, sends, takes, told_by}
+use Rattle.world_model.specs.meaning.Clients.{Doing, Client, client_at, with_client, doing_at, doing_of, heard, step_at, after_hold, after_step}
 use Rattle.world_model.specs.records.Conversing.{connected}
 use Rattle.world_model.specs.Words.{brought}
-use Rattle.world_model.specs.Machines.{Machine}
-use Rattle.world_model.specs.Matching.{Noted}
-use Rattle.world_model.specs.Acting.{frames_of, call_in, sent_by, owner_at}
-use Rattle.world_model.specs.Going.{lost_at_once}
-use Rattle.world_model.specs.Crashing.{falls, fallen_link}
-use Rattle.world_model.specs.Cutting.{cut_link, reaped_link}
-use Rattle.world_model.specs.Outside.{closed_by_drain}
-use Rattle.world_model.specs.Serving.{handled, after_front}
+use Rattle.world_model.specs.meaning.Machines.{Machine}
+use Rattle.world_model.specs.meaning.Matching.{Noted}
+use Rattle.world_model.specs.meaning.Acting.{frames_of, call_in, sent_by, owner_at}
+use Rattle.world_model.specs.meaning.Going.{lost_at_once}
+use Rattle.world_model.specs.meaning.Crashing.{falls, fallen_link}
+use Rattle.world_model.specs.meaning.Cutting.{cut_link, reaped_link}
+use Rattle.world_model.specs.meaning.Outside.{closed_by_drain}
+use Rattle.world_model.specs.meaning.Serving.{handled, after_front}
 use Rattle.world_model.proofs.events.AllClients.{stepped_client, client_set, client_twice}
 use Rattle.world_model.proofs.events.AllLinks.{front_is, open_is}
 use Rattle.world_model.proofs.events.Lookups.{handled_said, fallen_said, cut_said, with_others, with_own, changed_own, further}

@@ -7,16 +7,16 @@ use Rattle.client_model.specs.declared.input.Input.{Input}
 use Rattle.client_model.specs.declared.input.Input.TheVariants.{Waiting, Lent, Opened, TryFailed, Took, Gone}
 use Rattle.client_model.specs.declared.input.Wants.{Wants}
 use Rattle.client_model.specs.declared.input.Wants.TheVariants as wants
-use Rattle.pool_core.specs.Slots.{after_take}
+use Rattle.pool_core.specs.meaning.Slots.{after_take}
 use Rattle.outage_schedule.specs.declared.document.Request.{Request}
 use Rattle.outage_schedule.specs.declared.item.Served.{Served}
-use Rattle.world_model.specs.Settings.{Setting}
-use Rattle.world_model.specs.Links.{Link, link_at, with_link, takes}
-use Rattle.world_model.specs.Clients.{Doing, Past, Client, client_at, doing_at, heard, begun, past_of}
-use Rattle.world_model.specs.Acting.{steps, act_at}
-use Rattle.world_model.specs.Machines.{Machine}
-use Rattle.world_model.specs.Matching.{Noted}
-use Rattle.world_model.specs.Going.{lost_at_once}
+use Rattle.world_model.specs.meaning.Settings.{Setting}
+use Rattle.world_model.specs.meaning.Links.{Link, link_at, with_link, takes}
+use Rattle.world_model.specs.meaning.Clients.{Doing, Past, Client, client_at, doing_at, heard, begun, past_of}
+use Rattle.world_model.specs.meaning.Acting.{steps, act_at}
+use Rattle.world_model.specs.meaning.Machines.{Machine}
+use Rattle.world_model.specs.meaning.Matching.{Noted}
+use Rattle.world_model.specs.meaning.Going.{lost_at_once}
 use Rattle.world_model.proofs.events.AllClients.{client_passes, now_passes, step_passes, doing_passes}
 use Rattle.world_model.proofs.basic.Servers.{goes_same}
 use Rattle.world_model.proofs.events.Moves.{with_pool, with_new, next_number, takes_one, IsDoing, Goes, Rests, Waits, Lends, Opens, Fails, Takes, Loses, ServesLast, LastNone, LastStopped, LastServed, Happens, Nothing, IsStep, Serves, Cuts, Reaps, Crashes, OpensUp, StopsOpening, Ticks, RunsOutside, Asks, Drains}

@@ -5,9 +5,9 @@ use Rattle.std.specs.List.{list_all}
 use Rattle.std.specs.Option.{option_map_or}
 use Rattle.std.proofs.lemmas.Bool.{and_parts, and_from}
 use Rattle.std.proofs.lemmas.List.Sums.{sum_by-cons, sum_by-append}
-use Rattle.world_model.specs.Settings.{Setting}
-use Rattle.world_model.specs.Links.{Link, link_at}
-use Rattle.world_model.specs.Clients.{Past, Doing, Client, client_at}
+use Rattle.world_model.specs.meaning.Settings.{Setting}
+use Rattle.world_model.specs.meaning.Links.{Link, link_at}
+use Rattle.world_model.specs.meaning.Clients.{Past, Doing, Client, client_at}
 use Rattle.world_model.specs.Traced.{Traced, Course, course_over, course_now, courses_from, courses_of_clients, courses_of}
 use Rattle.world_model.specs.records.Hold.{holders_of, idle_of, is_had, are_had}
 use Rattle.world_model.proofs.events.Tests.{eq_from, eq_to, le_from}

@@ -9,14 +9,14 @@ use Rattle.std.proofs.lemmas.List.Folds.{list_any-append}
 use Rattle.outage_schedule.specs.declared.document.Request.{Request}
 use Rattle.client_model.specs.declared.act.Hold.{Hold}
 use Rattle.client_model.specs.declared.act.Hold.TheVariants as hold
-use Rattle.client_model.specs.Terms.{Terms}
-use Rattle.world_model.specs.Settings.{Setting}
-use Rattle.world_model.specs.Frames.{Owner}
-use Rattle.world_model.specs.Clients.{Step, Doing, Past, Client, client_at, with_client, begun, after_hold, past_of}
+use Rattle.client_model.specs.meaning.Terms.{Terms}
+use Rattle.world_model.specs.meaning.Settings.{Setting}
+use Rattle.world_model.specs.meaning.Frames.{Owner}
+use Rattle.world_model.specs.meaning.Clients.{Step, Doing, Past, Client, client_at, with_client, begun, after_hold, past_of}
 use Rattle.world_model.specs.Traced.{Course, course_over, courses_from, courses_of_clients}
 use Rattle.world_model.proofs.events.AllClients.{client_set}
 use Rattle.world_model.proofs.events.ClientSteps.{GoesOn, AtOnce, LostToo, HasStepped}
-use Rattle.world_model.specs.Machines.{Machine}
+use Rattle.world_model.specs.meaning.Machines.{Machine}
 
 -- STEPS -------------------------------------------------------------------------------------------
 

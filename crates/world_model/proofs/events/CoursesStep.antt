@@ -6,10 +6,10 @@ use Rattle.std.proofs.lemmas.Bool.{and_parts, and_from}
 use Rattle.std.proofs.lemmas.List.Folds.{list_all-append}
 use Rattle.client_model.specs.declared.act.Hold.{Hold}
 use Rattle.client_model.specs.declared.act.Hold.TheVariants as hold
-use Rattle.world_model.specs.Settings.{Setting}
-use Rattle.world_model.specs.Frames.{Owner}
-use Rattle.world_model.specs.Clients.{Doing, Past, Client, client_at, with_client, after_hold, past_of}
-use Rattle.world_model.specs.Machines.{Machine}
+use Rattle.world_model.specs.meaning.Settings.{Setting}
+use Rattle.world_model.specs.meaning.Frames.{Owner}
+use Rattle.world_model.specs.meaning.Clients.{Doing, Past, Client, client_at, with_client, after_hold, past_of}
+use Rattle.world_model.specs.meaning.Machines.{Machine}
 use Rattle.world_model.specs.Traced.{Course, course_over, course_now, courses_from, courses_of_clients}
 use Rattle.world_model.proofs.events.AllLists.{append_all}
 use Rattle.world_model.proofs.events.ClientSteps.{HasStepped}

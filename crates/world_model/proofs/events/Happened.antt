@@ -3,7 +3,7 @@ use Rattle.std.proofs.Common.{◌≡◌, refl, ap, subst, ◌∙◌, Bool, true,
 use Rattle.std.specs.Prelude.{option_and_then, not}
 use Rattle.std.proofs.lemmas.Bool.{and_parts, not-true}
 use Rattle.svc_values.specs.declared.entry.Ltxid.{Ltxid}
-use Rattle.svc_values.specs.Same.{same_bool}
+use Rattle.svc_values.specs.meaning.Same.{same_bool}
 use Rattle.outage_schedule.specs.declared.event.Event.{Event}
 use Rattle.outage_schedule.specs.declared.note.Note.{Note}
 use Rattle.outage_schedule.specs.declared.note.GoNote.{GoNote}
@@ -12,21 +12,21 @@ use Rattle.outage_schedule.specs.declared.note.Reached.{Reached}
 use Rattle.outage_schedule.specs.declared.note.AskResult.{AskResult}
 use Rattle.outage_schedule.specs.declared.note.OutsideNote.{OutsideNote}
 use Rattle.outage_schedule.specs.declared.item.Served.{Served}
-use Rattle.world_model.specs.Settings.{Setting}
-use Rattle.world_model.specs.Links.{Link, changed}
-use Rattle.world_model.specs.Machines.{Machine, next_session}
-use Rattle.world_model.specs.Noting.{only_if, same_name, name_of}
-use Rattle.world_model.specs.Matching.{Noted, Went, ServedOn, CutOff, Reaped, Crashed, Opened, OpeningStopped, Ticked, RanOutside, Asked, Drained, matched}
-use Rattle.world_model.specs.Going.{follow_go}
-use Rattle.world_model.specs.Serving.{Front, front_at, is_ordinary, serves, after_served, identifier}
-use Rattle.world_model.specs.Cutting.{open_at, cuts, follow_cut, after_cut, follow_reap, has_orphan, reaped_link}
-use Rattle.world_model.specs.Crashing.{is_stopped, is_over, serves_last, crashes, falls, after_stopped}
-use Rattle.world_model.specs.Opening.{may_open, follow_up, follow_upcrash}
-use Rattle.world_model.specs.Outside.{ticked, follow_outside, follow_ask, drained, follow_drain}
-use Rattle.world_model.specs.Noting.{same_reached}
-use Rattle.world_model.specs.Cutting.{reached_of}
-use Rattle.svc_values.specs.Identifiers.{same_ltxid}
-use Rattle.world_model.specs.Walking.{After, leaving, by_kind, follow}
+use Rattle.world_model.specs.meaning.Settings.{Setting}
+use Rattle.world_model.specs.meaning.Links.{Link, changed}
+use Rattle.world_model.specs.meaning.Machines.{Machine, next_session}
+use Rattle.world_model.specs.meaning.Noting.{only_if, same_name, name_of}
+use Rattle.world_model.specs.meaning.Matching.{Noted, Went, ServedOn, CutOff, Reaped, Crashed, Opened, OpeningStopped, Ticked, RanOutside, Asked, Drained, matched}
+use Rattle.world_model.specs.meaning.Going.{follow_go}
+use Rattle.world_model.specs.meaning.Serving.{Front, front_at, is_ordinary, serves, after_served, identifier}
+use Rattle.world_model.specs.meaning.Cutting.{open_at, cuts, follow_cut, after_cut, follow_reap, has_orphan, reaped_link}
+use Rattle.world_model.specs.meaning.Crashing.{is_stopped, is_over, serves_last, crashes, falls, after_stopped}
+use Rattle.world_model.specs.meaning.Opening.{may_open, follow_up, follow_upcrash}
+use Rattle.world_model.specs.meaning.Outside.{ticked, follow_outside, follow_ask, drained, follow_drain}
+use Rattle.world_model.specs.meaning.Noting.{same_reached}
+use Rattle.world_model.specs.meaning.Cutting.{reached_of}
+use Rattle.svc_values.specs.meaning.Identifiers.{same_ltxid}
+use Rattle.world_model.specs.meaning.Walking.{After, leaving, by_kind, follow}
 use Rattle.world_model.proofs.events.Items.{reaches, reaches_if, mapped}
 use Rattle.world_model.proofs.events.Kept.{only_is, pair_is, reached_is}
 use Rattle.world_model.proofs.events.Moves.{only_met, Goes, ServesLast, LastNone, LastStopped, LastServed, Happens, Nothing, IsStep, Serves, Cuts, Reaps, Crashes, OpensUp, StopsOpening, Ticks, RunsOutside, Asks, Drains}

@@ -4,22 +4,22 @@ use Rattle.std.specs.Prelude.{option_and_then}
 use Rattle.svc_values.specs.declared.entry.Ltxid.{Ltxid}
 use Rattle.pool_core.specs.declared.answers.Take.{Take}
 use Rattle.pool_core.specs.declared.answers.Take.TheVariants as take
-use Rattle.pool_core.specs.Slots.{take_answer, after_take}
+use Rattle.pool_core.specs.meaning.Slots.{take_answer, after_take}
 use Rattle.client_model.specs.declared.input.Wants.{Wants}
 use Rattle.client_model.specs.declared.input.Wants.TheVariants as wants
-use Rattle.client_model.specs.Talk.{wants_of}
+use Rattle.client_model.specs.meaning.Talk.{wants_of}
 use Rattle.outage_schedule.specs.declared.note.GoNote.{GoNote}
 use Rattle.outage_schedule.specs.declared.item.Served.{Served}
-use Rattle.world_model.specs.Settings.{Setting}
-use Rattle.world_model.specs.Frames.{Reply}
-use Rattle.world_model.specs.Links.{Link, link_at}
-use Rattle.world_model.specs.Clients.{Doing}
-use Rattle.world_model.specs.Machines.{Machine}
-use Rattle.world_model.specs.Noting.{only_if, same_did}
-use Rattle.world_model.specs.Going.{noted, tries_while, lends, takes_slot, lost_at_once, looks, looks_at, goes_by, goes}
-use Rattle.world_model.specs.Serving.{Front, after_served}
-use Rattle.world_model.specs.Crashing.{is_stopped, is_over, serves_last, after_stopped}
-use Rattle.world_model.specs.Walking.{After}
+use Rattle.world_model.specs.meaning.Settings.{Setting}
+use Rattle.world_model.specs.meaning.Frames.{Reply}
+use Rattle.world_model.specs.meaning.Links.{Link, link_at}
+use Rattle.world_model.specs.meaning.Clients.{Doing}
+use Rattle.world_model.specs.meaning.Machines.{Machine}
+use Rattle.world_model.specs.meaning.Noting.{only_if, same_did}
+use Rattle.world_model.specs.meaning.Going.{noted, tries_while, lends, takes_slot, lost_at_once, looks, looks_at, goes_by, goes}
+use Rattle.world_model.specs.meaning.Serving.{Front, after_served}
+use Rattle.world_model.specs.meaning.Crashing.{is_stopped, is_over, serves_last, after_stopped}
+use Rattle.world_model.specs.meaning.Walking.{After}
 use Rattle.world_model.proofs.events.Items.{reaches, reaches_if}
 
 -- where the test is met, it is that

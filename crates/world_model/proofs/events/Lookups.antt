@@ -5,11 +5,11 @@ use Rattle.std.specs.Option.{option_map_or}
 use Rattle.std.proofs.lemmas.Option.{slice_get_within}
 use Rattle.std.proofs.lemmas.List.Sums.{sum_by-cons}
 use Rattle.outage_schedule.specs.declared.item.Served.{Served}
-use Rattle.world_model.specs.Links.{Link, new_link, link_at, with_link, changed}
-use Rattle.world_model.specs.Machines.{Machine}
-use Rattle.world_model.specs.Serving.{Front, after_front, handled}
-use Rattle.world_model.specs.Cutting.{cut_link}
-use Rattle.world_model.specs.Crashing.{fallen_link, falls}
+use Rattle.world_model.specs.meaning.Links.{Link, new_link, link_at, with_link, changed}
+use Rattle.world_model.specs.meaning.Machines.{Machine}
+use Rattle.world_model.specs.meaning.Serving.{Front, after_front, handled}
+use Rattle.world_model.specs.meaning.Cutting.{cut_link}
+use Rattle.world_model.specs.meaning.Crashing.{fallen_link, falls}
 use Rattle.world_model.proofs.basic.Ends.{handled_alike, cut_case, fallen_case}
 use Rattle.world_model.proofs.events.Lists.{get_mapped}
 use Rattle.world_model.proofs.wire.SentLinks.{set_at}

@@ -2,32 +2,32 @@
 use Rattle.std.proofs.Common.{◌≡◌, refl, Bool, true, false, ℕ, ◌+◌, length, List, [], ◌∷◌, ◌++◌, Option, Some}
 use Rattle.svc_values.specs.declared.entry.Ltxid.{Ltxid}
 use Rattle.pool_core.specs.declared.answers.Take.TheVariants as take
-use Rattle.pool_core.specs.Slots.{Slots, take_answer, after_take, after_opened}
+use Rattle.pool_core.specs.meaning.Slots.{Slots, take_answer, after_take, after_opened}
 use Rattle.client_model.specs.declared.input.Input.TheVariants.{Waiting, Lent, Opened, TryFailed, Took}
 use Rattle.client_model.specs.declared.input.Wants.{Wants}
 use Rattle.client_model.specs.declared.input.Wants.TheVariants as wants
-use Rattle.client_model.specs.Talk.{wants_of}
+use Rattle.client_model.specs.meaning.Talk.{wants_of}
 use Rattle.outage_schedule.specs.declared.note.GoNote.{GoNote}
 use Rattle.outage_schedule.specs.declared.note.FrameName.{FrameName}
 use Rattle.outage_schedule.specs.declared.note.Reached.{Reached}
 use Rattle.outage_schedule.specs.declared.note.AskResult.{AskResult}
 use Rattle.outage_schedule.specs.declared.note.OutsideNote.{OutsideNote}
 use Rattle.outage_schedule.specs.declared.item.Served.{Served}
-use Rattle.world_model.specs.Settings.{Setting}
-use Rattle.world_model.specs.Frames.{Reply}
-use Rattle.world_model.specs.Links.{Link, new_link, link_at, with_link, changed, takes}
-use Rattle.world_model.specs.Clients.{Client, Doing, client_at, doing_of}
-use Rattle.world_model.specs.Machines.{Machine}
-use Rattle.world_model.specs.Acting.{steps, loses}
-use Rattle.world_model.specs.Noting.{only_if}
-use Rattle.world_model.specs.Matching.{Noted, Went, ServedOn, CutOff, Reaped, Crashed, OpeningStopped, Ticked, RanOutside, Asked, Drained}
-use Rattle.world_model.specs.Matching as noted_as
-use Rattle.world_model.specs.Going.{unless_open}
-use Rattle.world_model.specs.Serving.{Front, front_at, is_ordinary, after_served}
-use Rattle.world_model.specs.Cutting.{open_at, after_cut, has_orphan, reaped_link}
-use Rattle.world_model.specs.Crashing.{is_stopped, is_over, falls, after_stopped}
-use Rattle.world_model.specs.Opening.{may_open, opened}
-use Rattle.world_model.specs.Outside.{ticked, after_asked, drained}
+use Rattle.world_model.specs.meaning.Settings.{Setting}
+use Rattle.world_model.specs.meaning.Frames.{Reply}
+use Rattle.world_model.specs.meaning.Links.{Link, new_link, link_at, with_link, changed, takes}
+use Rattle.world_model.specs.meaning.Clients.{Client, Doing, client_at, doing_of}
+use Rattle.world_model.specs.meaning.Machines.{Machine}
+use Rattle.world_model.specs.meaning.Acting.{steps, loses}
+use Rattle.world_model.specs.meaning.Noting.{only_if}
+use Rattle.world_model.specs.meaning.Matching.{Noted, Went, ServedOn, CutOff, Reaped, Crashed, OpeningStopped, Ticked, RanOutside, Asked, Drained}
+use Rattle.world_model.specs.meaning.Matching as noted_as
+use Rattle.world_model.specs.meaning.Going.{unless_open}
+use Rattle.world_model.specs.meaning.Serving.{Front, front_at, is_ordinary, after_served}
+use Rattle.world_model.specs.meaning.Cutting.{open_at, after_cut, has_orphan, reaped_link}
+use Rattle.world_model.specs.meaning.Crashing.{is_stopped, is_over, falls, after_stopped}
+use Rattle.world_model.specs.meaning.Opening.{may_open, opened}
+use Rattle.world_model.specs.meaning.Outside.{ticked, after_asked, drained}
 
 -- where something is reached, the test is met
 pub only_met : {A : Type 0} (test : Bool) (a b : A) → only_if test a ≡ Some b → test ≡ true

@@ -3,9 +3,9 @@ use Rattle.std.proofs.Common.{◌≡◌, ◌≢◌, refl, ap, subst, ℕ, suc, z
 use Rattle.std.specs.Prelude.{slice_get, slice_set}
 use Rattle.std.specs.Option.{option_map_or}
 use Rattle.outage_schedule.specs.declared.note.Reached.{Reached}
-use Rattle.world_model.specs.Links.{Link, link_at, with_link, changed}
-use Rattle.world_model.specs.Machines.{Machine}
-use Rattle.world_model.specs.Cutting.{cuts}
+use Rattle.world_model.specs.meaning.Links.{Link, link_at, with_link, changed}
+use Rattle.world_model.specs.meaning.Machines.{Machine}
+use Rattle.world_model.specs.meaning.Cutting.{cuts}
 
 set_other : (links : List Link) (k j : ℕ) (link : Link) → j ≢ k → slice_get (slice_set links k link) j ≡ slice_get links j
 set_other [] k j link differ = refl

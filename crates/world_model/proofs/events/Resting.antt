@@ -4,23 +4,23 @@ use Rattle.std.specs.Prelude.{option_and_then}
 use Rattle.svc_values.specs.declared.entry.Ltxid.{Ltxid}
 use Rattle.pool_core.specs.declared.answers.Take.{Take}
 use Rattle.pool_core.specs.declared.answers.Take.TheVariants as take
-use Rattle.pool_core.specs.Slots.{Slots, take_answer, after_take}
+use Rattle.pool_core.specs.meaning.Slots.{Slots, take_answer, after_take}
 use Rattle.client_model.specs.declared.input.Wants.{Wants}
 use Rattle.client_model.specs.declared.input.Wants.TheVariants as wants
-use Rattle.client_model.specs.Talk.{wants_of}
+use Rattle.client_model.specs.meaning.Talk.{wants_of}
 use Rattle.outage_schedule.specs.declared.note.GoNote.{GoNote}
 use Rattle.outage_schedule.specs.declared.note.GoNote.TheVariants as go
-use Rattle.world_model.specs.Settings.{Setting}
-use Rattle.world_model.specs.Frames.{Reply}
-use Rattle.world_model.specs.Links.{Link, link_at}
-use Rattle.world_model.specs.Clients.{Client, Doing, client_at, doing_of}
-use Rattle.world_model.specs.Machines.{Machine}
-use Rattle.world_model.specs.Going.{noted, tries_while, lends, takes_slot, looks, looks_at, goes_by, goes, follow_go}
+use Rattle.world_model.specs.meaning.Settings.{Setting}
+use Rattle.world_model.specs.meaning.Frames.{Reply}
+use Rattle.world_model.specs.meaning.Links.{Link, link_at}
+use Rattle.world_model.specs.meaning.Clients.{Client, Doing, client_at, doing_of}
+use Rattle.world_model.specs.meaning.Machines.{Machine}
+use Rattle.world_model.specs.meaning.Going.{noted, tries_while, lends, takes_slot, looks, looks_at, goes_by, goes, follow_go}
 use Rattle.world_model.proofs.events.Kept.{only_is}
-use Rattle.world_model.specs.Acting.{steps, loses}
-use Rattle.world_model.specs.Noting.{same_did}
+use Rattle.world_model.specs.meaning.Acting.{steps, loses}
+use Rattle.world_model.specs.meaning.Noting.{same_did}
 use Rattle.client_model.specs.declared.input.Input.TheVariants.{Waiting, Lent, TryFailed}
-use Rattle.world_model.specs.Going.{unless_open}
+use Rattle.world_model.specs.meaning.Going.{unless_open}
 use Rattle.world_model.proofs.events.Moves as moves
 use Rattle.world_model.proofs.events.Moves.{IsDoing, with_pool, Tries, FromQueue, Again, Goes, IsOn, opens_one, takes_one}
 

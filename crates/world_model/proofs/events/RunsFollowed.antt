@@ -8,15 +8,15 @@ use Rattle.outage_schedule.specs.declared.item.Served.{Served}
 use Rattle.outage_schedule.specs.declared.note.Note.{Note}
 use Rattle.outage_schedule.specs.declared.request.RequestReport.{RequestReport}
 use Rattle.server_model.specs.Seen.{Seen}
-use Rattle.world_model.specs.Finishing.{Place, AtServer, Finished, walk_finish}
-use Rattle.world_model.specs.Followed.{run_of, transcripts_of, tells_steps, ends_so}
+use Rattle.world_model.specs.meaning.Finishing.{Place, AtServer, Finished, walk_finish}
+use Rattle.world_model.specs.meaning.Followed.{run_of, transcripts_of, tells_steps, ends_so}
 use Rattle.world_model.specs.OrderlyLaws.{OrderlyIsKept}
-use Rattle.world_model.specs.Machines.{start_of}
+use Rattle.world_model.specs.meaning.Machines.{start_of}
 use Rattle.world_model.specs.Reached.{Reached, Begins, GoesOn, IsFinishing, Scheduled, Finishes}
 use Rattle.world_model.specs.RunLaws.{RunsAreFollowed, RunsAreOrderly}
-use Rattle.world_model.specs.Settings.{Setting, setting_of}
+use Rattle.world_model.specs.meaning.Settings.{Setting, setting_of}
 use Rattle.world_model.specs.Traced.{Traced}
-use Rattle.world_model.specs.Walking.{Walked, follow, walk}
+use Rattle.world_model.specs.meaning.Walking.{Walked, follow, walk}
 use Rattle.world_model.proofs.events.Items.{walk_more, finish_step}
 use Rattle.world_model.proofs.wire.SameSelf.{each_self}
 use Rattle.world_model.proofs.script.TalkTests.{steps_self}

@@ -5,15 +5,16 @@ use Rattle.std.proofs.lemmas.List.{map-append}
 use Rattle.std.proofs.lemmas.List.Sums.{fold-append}
 use Rattle.svc_values.specs.declared.call.Call.{Call}
 use Rattle.outage_schedule.specs.declared.document.Request.{Request}
-use Rattle.client_model.specs.Account.{Account, account_of, unheard, after_step}
-use Rattle.client_model.specs.Conversation.{Done, is_gone_next, talk_after}
-use Rattle.client_model.specs.Terms.{Terms, Talk, Phase}
+use Rattle.client_model.specs.meaning.Account.{Account, account_of, unheard, after_step}
+use Rattle.client_model.specs.meaning.Conversation.{Done}
+use Rattle.client_model.specs.Conversation.{is_gone_next, talk_after}
+use Rattle.client_model.specs.meaning.Terms.{Terms, Talk, Phase}
 use Rattle.client_model.proofs.Offered.{Fits, first_talks, last_fits}
-use Rattle.world_model.specs.Settings.{Setting}
-use Rattle.world_model.specs.Acting.{owner_at}
-use Rattle.world_model.specs.Clients.{Step, Doing, Client, heard, step_at}
+use Rattle.world_model.specs.meaning.Settings.{Setting}
+use Rattle.world_model.specs.meaning.Acting.{owner_at}
+use Rattle.world_model.specs.meaning.Clients.{Step, Doing, Client, heard, step_at}
 use Rattle.world_model.specs.records.Conversing.{AllTalk, Talks, inputs_of, first_talk}
-use Rattle.world_model.specs.Machines.{Machine}
+use Rattle.world_model.specs.meaning.Machines.{Machine}
 use Rattle.world_model.specs.Words.{dones_of}
 use Rattle.world_model.proofs.events.ClientSteps.{HasStepped, same_request_after}
 use Rattle.world_model.proofs.events.CoursesGrow.{HasMore, more_after}

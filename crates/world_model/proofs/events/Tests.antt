@@ -6,7 +6,7 @@ use Rattle.std.proofs.lemmas.Bool.{and_parts, and_from}
 use Rattle.std.proofs.lemmas.Bool.Decides.{nat_tests}
 use Rattle.std.proofs.lemmas.List.Sums.{sum_by_push}
 use Rattle.svc_values.specs.declared.entry.SessionId.{SessionId}
-use Rattle.svc_values.specs.Identifiers.{same_session}
+use Rattle.svc_values.specs.meaning.Identifiers.{same_session}
 use Rattle.world_model.specs.Parts.{implies}
 use Rattle.world_model.specs.Sames.{all_with, each_pair}
 

@@ -6,22 +6,22 @@ use Rattle.std.specs.Option.{option_map_or}
 use Rattle.std.proofs.lemmas.Bool.{and_parts}
 use Rattle.svc_values.specs.declared.frame.Up.TheVariants as up
 use Rattle.client_model.specs.declared.input.Input.TheVariants.{Took}
-use Rattle.client_model.specs.Talk.{on_hello, waits_from, takes as taken_by}
-use Rattle.pool_core.specs.Slots.{after_take}
+use Rattle.client_model.specs.meaning.Talk.{on_hello, waits_from, takes as taken_by}
+use Rattle.pool_core.specs.meaning.Slots.{after_take}
 use Rattle.outage_schedule.specs.declared.note.FrameName.{FrameName}
 use Rattle.outage_schedule.specs.declared.item.Served.{Served}
-use Rattle.world_model.specs.Settings.{Setting}
-use Rattle.world_model.specs.Frames.{Owner, Sent, Reply}
-use Rattle.world_model.specs.Links.{Link, new_link, link_at, with_link, changed, sends, takes}
-use Rattle.world_model.specs.Clients.{Doing, doing_at}
-use Rattle.world_model.specs.Acting.{sent_by, owner_at, connection_of}
-use Rattle.world_model.specs.Machines.{Machine}
-use Rattle.world_model.specs.Matching.{Noted, ServedOn, Reaped, Crashed}
-use Rattle.world_model.specs.Going.{lost_at_once}
-use Rattle.world_model.specs.Serving.{Front, front_at, is_ordinary, after_front, handled}
-use Rattle.world_model.specs.Cutting.{cut_link, reaped_link}
-use Rattle.world_model.specs.Crashing.{is_stopped, is_over, fallen_link, falls}
-use Rattle.world_model.specs.Outside.{closed_by_drain}
+use Rattle.world_model.specs.meaning.Settings.{Setting}
+use Rattle.world_model.specs.meaning.Frames.{Owner, Sent, Reply}
+use Rattle.world_model.specs.meaning.Links.{Link, new_link, link_at, with_link, changed, sends, takes}
+use Rattle.world_model.specs.meaning.Clients.{Doing, doing_at}
+use Rattle.world_model.specs.meaning.Acting.{sent_by, owner_at, connection_of}
+use Rattle.world_model.specs.meaning.Machines.{Machine}
+use Rattle.world_model.specs.meaning.Matching.{Noted, ServedOn, Reaped, Crashed}
+use Rattle.world_model.specs.meaning.Going.{lost_at_once}
+use Rattle.world_model.specs.meaning.Serving.{Front, front_at, is_ordinary, after_front, handled}
+use Rattle.world_model.specs.meaning.Cutting.{cut_link, reaped_link}
+use Rattle.world_model.specs.meaning.Crashing.{is_stopped, is_over, fallen_link, falls}
+use Rattle.world_model.specs.meaning.Outside.{closed_by_drain}
 use Rattle.world_model.specs.records.Hold.{is_idle}
 use Rattle.world_model.specs.Parts.{is_out}
 use Rattle.world_model.specs.Sames.{all_with, each_pair}

@@ -4,7 +4,7 @@ use Rattle.std.specs.Prelude.{max, nat_lt, filter}
 use Rattle.std.proofs.lemmas.Bool.Decides.{nat_tests}
 use Rattle.outage_schedule.specs.declared.note.Note.{Note}
 use Rattle.outage_schedule.specs.declared.note.Note.TheVariants as notes
-use Rattle.run_clauses.specs.Horizons.{Ended, Openings, end_at, after_note, wanted_horizon}
+use Rattle.run_clauses.specs.meaning.Horizons.{Ended, Openings, end_at, after_note, wanted_horizon}
 use Rattle.world_model.specs.Forgets.{openings_of}
 
 -- OF A LIST ---------------------------------------------------------------------------------------

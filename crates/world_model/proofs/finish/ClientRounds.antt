@@ -5,13 +5,13 @@ use Rattle.std.specs.Option.{option_map_or}
 use Rattle.std.proofs.lemmas.Bool.{or_left, or_right}
 use Rattle.std.proofs.lemmas.Bool.Decides.{nat_tests}
 use Rattle.outage_schedule.specs.declared.document.Request.{Request}
-use Rattle.client_model.specs.Terms.{Terms, Talk, Phase, Idle, Unbegun, Queued, Seeking, Greeting, Asked, Running, Replaying}
-use Rattle.world_model.specs.Settings.{Setting}
-use Rattle.world_model.specs.Frames.{Owner}
-use Rattle.world_model.specs.Links.{Link, link_at}
-use Rattle.world_model.specs.Clients.{Doing}
-use Rattle.world_model.specs.Machines.{Machine}
-use Rattle.world_model.specs.Serving.{front_of}
+use Rattle.client_model.specs.meaning.Terms.{Terms, Talk, Phase, Idle, Unbegun, Queued, Seeking, Greeting, Asked, Running, Replaying}
+use Rattle.world_model.specs.meaning.Settings.{Setting}
+use Rattle.world_model.specs.meaning.Frames.{Owner}
+use Rattle.world_model.specs.meaning.Links.{Link, link_at}
+use Rattle.world_model.specs.meaning.Clients.{Doing}
+use Rattle.world_model.specs.meaning.Machines.{Machine}
+use Rattle.world_model.specs.meaning.Serving.{front_of}
 use Rattle.world_model.proofs.hold.HeldKept.{HasIt, HasNone, HasOne}
 use Rattle.world_model.specs.records.Basic.{at_most, waits_from}
 use Rattle.world_model.specs.RoundsLeft.{slot_wait, try_wait, awaits_tick, rounds_in, talk_rounds}

@@ -6,7 +6,7 @@ use Rattle.std.proofs.lemmas.Bool.{and_parts}
 use Rattle.std.proofs.lemmas.Bool.Decides.{nat_tests}
 use Rattle.outage_schedule.specs.declared.document.Request.{Request}
 use Rattle.outage_schedule.specs.declared.request.RequestReport.{RequestReport}
-use Rattle.run_clauses.specs.Copies.{Copies, may_be_repeated, is_last_uncommitted, is_repeated, with_copy, further_copies, copies_of, are_all_copies, is_over, next_of}
+use Rattle.run_clauses.specs.meaning.Copies.{Copies, may_be_repeated, is_last_uncommitted, is_repeated, with_copy, further_copies, copies_of, are_all_copies, is_over, next_of}
 use Rattle.world_model.specs.Remaining.{copies_left, all_left}
 use Rattle.world_model.proofs.events.Tests.{or_second}
 use Rattle.world_model.proofs.finish.FirstBehind.{position_any}

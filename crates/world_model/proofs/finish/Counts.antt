@@ -3,8 +3,8 @@ use Rattle.std.proofs.Common.{◌≡◌, sym, refl, ap, ◌∙◌, Bool, true, f
 use Rattle.std.specs.Prelude.{slice_get, slice_set}
 use Rattle.std.specs.Option.{option_map_or}
 use Rattle.std.proofs.lemmas.List.Sums.{sum_by-cons, sum_by-append}
-use Rattle.world_model.specs.Settings.{Setting}
-use Rattle.world_model.specs.Clients.{Past, Doing, Client, client_at, with_client}
+use Rattle.world_model.specs.meaning.Settings.{Setting}
+use Rattle.world_model.specs.meaning.Clients.{Past, Doing, Client, client_at, with_client}
 use Rattle.world_model.specs.Traced.{Course, course_over, course_now, courses_from, courses_of_clients}
 
 -- the request in course passes

@@ -12,20 +12,20 @@ use Rattle.outage_schedule.specs.declared.note.Note.{Note}
 use Rattle.outage_schedule.specs.declared.note.Note.TheVariants as note
 use Rattle.outage_schedule.specs.declared.item.Served.{Served}
 use Rattle.client_model.specs.declared.input.Wants.TheVariants as wants
-use Rattle.client_model.specs.Terms.{Terms, Phase}
-use Rattle.client_model.specs.Talk.{wants_of, wants_in}
-use Rattle.world_model.specs.Settings.{Setting}
-use Rattle.world_model.specs.Frames.{Sent}
-use Rattle.world_model.specs.Links.{Link, link_at, is_orphan}
-use Rattle.world_model.specs.Clients.{Doing, Client, client_at, with_client, begun, script_at, is_unfinished}
-use Rattle.world_model.specs.Machines.{Machine}
-use Rattle.world_model.specs.Noting.{only_if}
-use Rattle.world_model.specs.Matching.{Went as StepOf}
-use Rattle.world_model.specs.Walking.{by_kind, follow}
-use Rattle.world_model.specs.Cutting.{has_orphan}
-use Rattle.world_model.specs.Serving.{Front, first_of, front_of, front_at}
+use Rattle.client_model.specs.meaning.Terms.{Terms, Phase}
+use Rattle.client_model.specs.meaning.Talk.{wants_of, wants_in}
+use Rattle.world_model.specs.meaning.Settings.{Setting}
+use Rattle.world_model.specs.meaning.Frames.{Sent}
+use Rattle.world_model.specs.meaning.Links.{Link, link_at, is_orphan}
+use Rattle.world_model.specs.meaning.Clients.{Doing, Client, client_at, with_client, begun, script_at, is_unfinished}
+use Rattle.world_model.specs.meaning.Machines.{Machine}
+use Rattle.world_model.specs.meaning.Noting.{only_if}
+use Rattle.world_model.specs.meaning.Matching.{Went as StepOf}
+use Rattle.world_model.specs.meaning.Walking.{by_kind, follow}
+use Rattle.world_model.specs.meaning.Cutting.{has_orphan}
+use Rattle.world_model.specs.meaning.Serving.{Front, first_of, front_of, front_at}
 use Rattle.world_model.specs.Orderly.{Orderly}
-use Rattle.world_model.specs.Finishing.{Place, AtServer, AtOrphans, AtRound, AtClients, AtLinks, first_behind, serves_or_ticks, goes_or_serves, next_round, reaps_or_goes, next_finish}
+use Rattle.world_model.specs.meaning.Finishing.{Place, AtServer, AtOrphans, AtRound, AtClients, AtLinks, first_behind, serves_or_ticks, goes_or_serves, next_round, reaps_or_goes, next_finish}
 use Rattle.world_model.specs.FinishEnds.{is_at_server, FinishFalls}
 use Rattle.world_model.specs.RoundsLeft.{awaits_tick}
 use Rattle.world_model.specs.Remaining.{once_if, may_serve, doing_rounds, rounds_with, client_rounds, requests_left, has_stepped, rounds_from, links_work, round_work, remaining}

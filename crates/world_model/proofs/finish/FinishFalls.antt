@@ -7,22 +7,22 @@ use Rattle.std.proofs.lemmas.Bool.{and_parts}
 use Rattle.outage_schedule.specs.declared.event.Event.TheVariants as event
 use Rattle.outage_schedule.specs.declared.note.Note.{Note}
 use Rattle.outage_schedule.specs.declared.item.Served.{Served}
-use Rattle.client_model.specs.Terms.{Phase}
-use Rattle.world_model.specs.Frames.{Owner}
-use Rattle.world_model.specs.Links.{Link, link_at, with_link, changed, is_orphan}
-use Rattle.world_model.specs.Clients.{Doing, Client, client_at, script_at, is_unfinished}
+use Rattle.client_model.specs.meaning.Terms.{Phase}
+use Rattle.world_model.specs.meaning.Frames.{Owner}
+use Rattle.world_model.specs.meaning.Links.{Link, link_at, with_link, changed, is_orphan}
+use Rattle.world_model.specs.meaning.Clients.{Doing, Client, client_at, script_at, is_unfinished}
 use Rattle.outage_schedule.specs.declared.document.Request.{Request}
 use Rattle.outage_schedule.specs.declared.item.Item.{Item}
 use Rattle.outage_schedule.specs.declared.item.Item.TheVariants as item
-use Rattle.run_clauses.specs.Outcomes.{is_uncommitted}
-use Rattle.world_model.specs.Machines.{Server, Machine}
-use Rattle.world_model.specs.Walking.{follow}
-use Rattle.world_model.specs.Opening.{opened}
-use Rattle.world_model.specs.Cutting.{has_orphan, reaped_link}
-use Rattle.world_model.specs.Serving.{Front, front_of, front_at, is_of_front, is_item_of, handled, server_after, after_served}
-use Rattle.world_model.specs.Outside.{ticked}
+use Rattle.run_clauses.specs.meaning.Outcomes.{is_uncommitted}
+use Rattle.world_model.specs.meaning.Machines.{Server, Machine}
+use Rattle.world_model.specs.meaning.Walking.{follow}
+use Rattle.world_model.specs.meaning.Opening.{opened}
+use Rattle.world_model.specs.meaning.Cutting.{has_orphan, reaped_link}
+use Rattle.world_model.specs.meaning.Serving.{Front, front_of, front_at, is_of_front, is_item_of, handled, server_after, after_served}
+use Rattle.world_model.specs.meaning.Outside.{ticked}
 use Rattle.world_model.specs.records.Basic.{keeps_ticks, at_most, waits_from}
-use Rattle.world_model.specs.Finishing.{Place, AtServer, AtOrphans, AtRound, AtLinks}
+use Rattle.world_model.specs.meaning.Finishing.{Place, AtServer, AtOrphans, AtRound, AtLinks}
 use Rattle.world_model.specs.Orderly.{Orderly}
 use Rattle.world_model.specs.RoundsLeft.{awaits_tick, talk_rounds}
 use Rattle.world_model.specs.Remaining.{requests_left, once_if, on_open, may_serve, doing_rounds, rounds_with, has_stepped, rounds_from, link_work, links_work, round_work, remaining}

@@ -8,20 +8,20 @@ use Rattle.std.proofs.lemmas.Bool.{and_parts}
 use Rattle.std.proofs.lemmas.Bool.Decides.{nat_tests}
 use Rattle.std.proofs.lemmas.List.{map-append}
 use Rattle.svc_values.specs.declared.call.Call.{Call}
-use Rattle.svc_values.specs.Same.{same_call, same_calls}
-use Rattle.request_bounds.specs.Limits.{has_waited}
+use Rattle.svc_values.specs.meaning.Same.{same_call, same_calls}
+use Rattle.request_bounds.specs.meaning.Limits.{has_waited}
 use Rattle.outage_schedule.specs.declared.document.Request.{Request}
 use Rattle.outage_schedule.specs.declared.request.RequestReport.{RequestReport}
-use Rattle.run_clauses.specs.Copies.{copies_of, next_of, next_place}
+use Rattle.run_clauses.specs.meaning.Copies.{copies_of, next_of, next_place}
 use Rattle.client_model.specs.declared.act.Hold.{Hold}
 use Rattle.client_model.specs.declared.act.Hold.TheVariants as hold
 use Rattle.client_model.specs.declared.input.Wants.TheVariants as wants
-use Rattle.client_model.specs.Terms.{Terms, Talk, Phase, Idle, Unbegun, Queued, Seeking, Greeting, Asked, Running, Replaying}
-use Rattle.client_model.specs.States.{Losing}
-use Rattle.client_model.specs.Talk.{wants_in}
-use Rattle.world_model.specs.Settings.{Setting}
-use Rattle.world_model.specs.Clients.{Doing, Past, Client, reports_of, script_at, begun, after_hold, past_of}
-use Rattle.world_model.specs.Machines.{Machine}
+use Rattle.client_model.specs.meaning.Terms.{Terms, Talk, Phase, Idle, Unbegun, Queued, Seeking, Greeting, Asked, Running, Replaying}
+use Rattle.client_model.specs.meaning.States.{Losing}
+use Rattle.client_model.specs.meaning.Talk.{wants_in}
+use Rattle.world_model.specs.meaning.Settings.{Setting}
+use Rattle.world_model.specs.meaning.Clients.{Doing, Past, Client, reports_of, script_at, begun, after_hold, past_of}
+use Rattle.world_model.specs.meaning.Machines.{Machine}
 use Rattle.world_model.specs.records.Script.{same_request}
 use Rattle.world_model.specs.RoundsLeft.{try_wait, awaits_tick, replays_left, attempt, rounds_by, talk_rounds}
 use Rattle.world_model.specs.Remaining.{once_if, calls_in, rounds_of_one, all_left, requests_left, on_open, may_serve, doing_rounds, rounds_with, client_rounds}

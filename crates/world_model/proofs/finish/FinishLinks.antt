@@ -3,22 +3,22 @@ use Rattle.std.proofs.Common.{◌≡◌, refl, sym, ap, subst, ◌∙◌, Bool, 
 use Rattle.std.specs.Prelude.{◌==◌, option_map, option_and_then}
 use Rattle.std.specs.Option.{option_map_or}
 use Rattle.std.proofs.lemmas.Bool.{and_parts}
-use Rattle.svc_values.specs.Same.{same_bool}
+use Rattle.svc_values.specs.meaning.Same.{same_bool}
 use Rattle.outage_schedule.specs.declared.event.Event.TheVariants as event
 use Rattle.outage_schedule.specs.declared.note.Note.{Note}
 use Rattle.outage_schedule.specs.declared.note.Note.TheVariants as note
 use Rattle.outage_schedule.specs.declared.note.FrameName.{FrameName}
 use Rattle.outage_schedule.specs.declared.item.Served.{Served}
-use Rattle.world_model.specs.Settings.{Setting}
-use Rattle.world_model.specs.Links.{changed}
-use Rattle.world_model.specs.Machines.{Machine}
-use Rattle.world_model.specs.Noting.{only_if, same_name, name_of}
-use Rattle.world_model.specs.Matching.{Reaped, ServedOn}
-use Rattle.world_model.specs.Walking.{leaving, by_kind, follow}
-use Rattle.world_model.specs.Opening.{opened}
-use Rattle.world_model.specs.Cutting.{has_orphan, reaped_link}
-use Rattle.world_model.specs.Serving.{Front, front_at, is_ordinary, serves, after_served}
-use Rattle.world_model.specs.Outside.{ticked}
+use Rattle.world_model.specs.meaning.Settings.{Setting}
+use Rattle.world_model.specs.meaning.Links.{changed}
+use Rattle.world_model.specs.meaning.Machines.{Machine}
+use Rattle.world_model.specs.meaning.Noting.{only_if, same_name, name_of}
+use Rattle.world_model.specs.meaning.Matching.{Reaped, ServedOn}
+use Rattle.world_model.specs.meaning.Walking.{leaving, by_kind, follow}
+use Rattle.world_model.specs.meaning.Opening.{opened}
+use Rattle.world_model.specs.meaning.Cutting.{has_orphan, reaped_link}
+use Rattle.world_model.specs.meaning.Serving.{Front, front_at, is_ordinary, serves, after_served}
+use Rattle.world_model.specs.meaning.Outside.{ticked}
 use Rattle.world_model.proofs.events.Happened.{at_event}
 
 -- NUMBERS -----------------------------------------------------------------------------------------

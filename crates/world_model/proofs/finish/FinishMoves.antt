@@ -8,18 +8,18 @@ use Rattle.svc_values.specs.declared.frame.Up.TheVariants as up
 use Rattle.svc_values.specs.declared.call.Call.{Call}
 use Rattle.pool_core.specs.declared.answers.Back.{Back}
 use Rattle.pool_core.specs.declared.answers.Take.TheVariants as take
-use Rattle.pool_core.specs.Slots.{Slots, take_answer, after_take, give_back_answer}
+use Rattle.pool_core.specs.meaning.Slots.{Slots, take_answer, after_take, give_back_answer}
 use Rattle.client_model.specs.declared.act.Hold.TheVariants as hold
 use Rattle.client_model.specs.declared.act.Failed.TheVariants.{PoolWait}
 use Rattle.client_model.specs.declared.input.Input.TheVariants.{Waiting, Lent, Opened}
 use Rattle.client_model.specs.declared.input.Wants.{Wants}
 use Rattle.client_model.specs.declared.input.Wants.TheVariants as wants
-use Rattle.client_model.specs.Terms.{Terms, Talk, Phase, Idle, Queued, Greeting}
-use Rattle.client_model.specs.Talk.{Step, stands, quiet, fails, on_waiting, waits_from, on_hello, lost_of, next_call, wants_in}
-use Rattle.world_model.specs.Links.{Link, new_link, link_at, sends}
-use Rattle.world_model.specs.Clients.{Doing, Client, client_at, heard}
-use Rattle.world_model.specs.Acting.{closing, sent_by, owner_at, connection_of, call_in}
-use Rattle.world_model.specs.Machines.{Machine}
+use Rattle.client_model.specs.meaning.Terms.{Terms, Talk, Phase, Idle, Queued, Greeting}
+use Rattle.client_model.specs.meaning.Talk.{Step, stands, quiet, fails, on_waiting, waits_from, on_hello, lost_of, next_call, wants_in}
+use Rattle.world_model.specs.meaning.Links.{Link, new_link, link_at, sends}
+use Rattle.world_model.specs.meaning.Clients.{Doing, Client, client_at, heard}
+use Rattle.world_model.specs.meaning.Acting.{closing, sent_by, owner_at, connection_of, call_in}
+use Rattle.world_model.specs.meaning.Machines.{Machine}
 use Rattle.world_model.specs.Orderly.{Orderly}
 use Rattle.world_model.specs.RoundsLeft.{rounds_by, talk_rounds}
 use Rattle.world_model.specs.Remaining.{on_open, doing_rounds, links_work}
@@ -35,10 +35,10 @@ use Rattle.world_model.proofs.wire.SentLinks.{awaits}
 use Rattle.world_model.proofs.number.LinkSettled.{awaits_no_call}
 use Rattle.world_model.proofs.finish.ClientRounds.{ends_same}
 use Rattle.world_model.proofs.finish.TalkRounds.{hello_rounds}
-use Rattle.client_model.specs.Talk.{sends_or_ends, begin_of}
-use Rattle.client_model.specs.Terms.{unsubmitted}
-use Rattle.client_model.specs.States.{Living}
-use Rattle.world_model.specs.Acting.{steps}
+use Rattle.client_model.specs.meaning.Talk.{sends_or_ends, begin_of}
+use Rattle.client_model.specs.meaning.Terms.{unsubmitted}
+use Rattle.client_model.specs.meaning.States.{Living}
+use Rattle.world_model.specs.meaning.Acting.{steps}
 use Rattle.world_model.proofs.finish.FinishSteps.{few_frames, steps_work, Went, went_step, waits_rounds}
 use Rattle.world_model.proofs.hold.HeldEvents.{waits_step, lends_step, opens_step}
 use Rattle.world_model.proofs.hold.HeldKept.{holds_rightly}

@@ -11,18 +11,18 @@ use Rattle.svc_values.specs.declared.value.Value.{Value}
 use Rattle.pool_core.specs.declared.answers.Back.{Back}
 use Rattle.pool_core.specs.declared.answers.Back.TheVariants as back
 use Rattle.outage_schedule.specs.declared.document.Request.{Request}
-use Rattle.run_clauses.specs.Copies.{copies_of, next_of}
+use Rattle.run_clauses.specs.meaning.Copies.{copies_of, next_of}
 use Rattle.client_model.specs.declared.act.Hold.{Hold}
 use Rattle.client_model.specs.declared.act.Hold.TheVariants as hold
 use Rattle.client_model.specs.declared.input.Wants.{Wants}
-use Rattle.client_model.specs.Terms.{Terms, Talk, Phase, Idle, Queued}
-use Rattle.client_model.specs.Talk.{stands}
-use Rattle.world_model.specs.Settings.{Setting}
-use Rattle.world_model.specs.Frames.{Sent}
-use Rattle.world_model.specs.Links.{Link, link_at, with_link, changed, sends}
-use Rattle.world_model.specs.Clients.{Doing, Past, Client, client_at, with_client, script_at, reports_of, begun, after_hold, after_step}
-use Rattle.world_model.specs.Acting.{closing}
-use Rattle.world_model.specs.Machines.{Machine}
+use Rattle.client_model.specs.meaning.Terms.{Terms, Talk, Phase, Idle, Queued}
+use Rattle.client_model.specs.meaning.Talk.{stands}
+use Rattle.world_model.specs.meaning.Settings.{Setting}
+use Rattle.world_model.specs.meaning.Frames.{Sent}
+use Rattle.world_model.specs.meaning.Links.{Link, link_at, with_link, changed, sends}
+use Rattle.world_model.specs.meaning.Clients.{Doing, Past, Client, client_at, with_client, script_at, reports_of, begun, after_hold, after_step}
+use Rattle.world_model.specs.meaning.Acting.{closing}
+use Rattle.world_model.specs.meaning.Machines.{Machine}
 use Rattle.world_model.specs.Orderly.{Orderly}
 use Rattle.world_model.specs.records.Script.{same_request, now_or_next, follows_script, follow_scripts_from}
 use Rattle.world_model.specs.RoundsLeft.{awaits_tick, rounds_by, talk_rounds}

@@ -1,11 +1,11 @@
 -- A step on a connection leaves its client no more rounds.
-use Rattle.client_model.specs.Talk.{Step, takes as taken_by, loses as lost_to}
-use Rattle.client_model.specs.Terms.{Talk, Phase, Idle}
+use Rattle.client_model.specs.meaning.Talk.{Step, takes as taken_by, loses as lost_to}
+use Rattle.client_model.specs.meaning.Terms.{Talk, Phase, Idle}
 use Rattle.client_model.specs.declared.act.Hold.TheVariants as hold
 use Rattle.client_model.specs.declared.act.Hold.{Hold}
 use Rattle.client_model.specs.declared.input.Input.TheVariants.{Took, Gone}
 use Rattle.client_model.specs.declared.input.Wants.TheVariants as wants
-use Rattle.pool_core.specs.Slots.{give_back_answer}
+use Rattle.pool_core.specs.meaning.Slots.{give_back_answer}
 use Rattle.pool_core.specs.declared.answers.Back.{Back}
 use Rattle.std.proofs.Common.{◌≡◌, refl, sym, ap, subst, ◌∙◌, Bool, true, false, ℕ, ◌+◌, ◌≤◌, length, map, List, ◌∷◌, ◌++◌, Option, Some, None, if◌then◌else◌, arith}
 use Rattle.std.specs.List.{list_any, list_all}
@@ -36,21 +36,21 @@ use Rattle.world_model.proofs.script.Strangers.{frame_now}
 use Rattle.world_model.proofs.script.TalkRests.{frame_holds}
 use Rattle.world_model.proofs.finish.TalkRounds.{behind, loss_rounds, takes_rounds, records_few}
 use Rattle.world_model.proofs.script.TalkRecorded.{talk_few}
-use Rattle.world_model.specs.Acting.{closing, sent_by, owner_at, connection_of, call_in}
-use Rattle.world_model.specs.Acting.{loses}
-use Rattle.world_model.specs.Clients.{Doing, Client, client_at, with_client, doing_at, heard, after_hold, after_step}
-use Rattle.world_model.specs.Frames.{Owner, Sent, Reply}
-use Rattle.world_model.specs.Going.{lost_at_once}
-use Rattle.world_model.specs.Going.{unless_open}
+use Rattle.world_model.specs.meaning.Acting.{closing, sent_by, owner_at, connection_of, call_in}
+use Rattle.world_model.specs.meaning.Acting.{loses}
+use Rattle.world_model.specs.meaning.Clients.{Doing, Client, client_at, with_client, doing_at, heard, after_hold, after_step}
+use Rattle.world_model.specs.meaning.Frames.{Owner, Sent, Reply}
+use Rattle.world_model.specs.meaning.Going.{lost_at_once}
+use Rattle.world_model.specs.meaning.Going.{unless_open}
 use Rattle.world_model.specs.records.Hold.{is_held, is_by_held}
 use Rattle.world_model.specs.Orderly.{Orderly}
-use Rattle.world_model.specs.Links.{Link, link_at, with_link, changed, sends, takes, is_close}
-use Rattle.world_model.specs.Machines.{Machine}
+use Rattle.world_model.specs.meaning.Links.{Link, link_at, with_link, changed, sends, takes, is_close}
+use Rattle.world_model.specs.meaning.Machines.{Machine}
 use Rattle.world_model.specs.Remaining.{on_open, doing_rounds, links_work}
 use Rattle.world_model.specs.RoundsLeft.{rounds_by, talk_rounds}
 use Rattle.world_model.specs.Traced.{Traced}
 use Rattle.world_model.specs.records.Conversing.{Talks, IsTalking, inputs_of, first_talk}
-use Rattle.world_model.specs.Links.{ends}
+use Rattle.world_model.specs.meaning.Links.{ends}
 use Rattle.world_model.proofs.finish.FinishMoves.{mapped_few, not_idle}
 use Rattle.world_model.proofs.script.TalksKept.{talks_at}
 

@@ -4,7 +4,7 @@ use Rattle.std.specs.Prelude.{◌==◌, is_some}
 use Rattle.std.specs.List.{list_any}
 use Rattle.std.specs.Option.{option_map_or}
 use Rattle.svc_values.specs.declared.entry.Ltxid.{Ltxid}
-use Rattle.svc_values.specs.Identifiers.{same_ltxid}
+use Rattle.svc_values.specs.meaning.Identifiers.{same_ltxid}
 use Rattle.commit_log.specs.Keeping.{EachKeeps}
 use Rattle.server_model.specs.Laws.{EntryNumbers}
 use Rattle.outage_schedule.specs.declared.event.Event.{Event}
@@ -15,17 +15,17 @@ use Rattle.outage_schedule.specs.declared.note.AskResult.{AskResult}
 use Rattle.outage_schedule.specs.declared.item.Item.{Item}
 use Rattle.outage_schedule.specs.declared.item.Item.TheVariants as item
 use Rattle.outage_schedule.specs.declared.item.Served.{Served}
-use Rattle.run_clauses.specs.Outcomes.{is_uncommitted}
-use Rattle.world_model.specs.Settings.{Setting}
-use Rattle.world_model.specs.Links.{is_orphan}
-use Rattle.world_model.specs.Clients.{is_unfinished}
-use Rattle.world_model.specs.Machines.{Server, Machine}
-use Rattle.world_model.specs.Noting.{only_if}
-use Rattle.world_model.specs.Matching.{Noted, Went, ServedOn, CutOff, Reaped, Crashed, Asked, matched}
-use Rattle.world_model.specs.Serving.{front_of, server_after}
-use Rattle.world_model.specs.Outside.{after_asked}
-use Rattle.world_model.specs.Walking.{follow}
-use Rattle.world_model.specs.Finishing.{Place, AtServer, AtOrphans, AtRound, AtClients, AtLinks, first_behind, Next, serves_or_ticks, goes_or_serves, next_round, reaps_or_goes, next_finish}
+use Rattle.run_clauses.specs.meaning.Outcomes.{is_uncommitted}
+use Rattle.world_model.specs.meaning.Settings.{Setting}
+use Rattle.world_model.specs.meaning.Links.{is_orphan}
+use Rattle.world_model.specs.meaning.Clients.{is_unfinished}
+use Rattle.world_model.specs.meaning.Machines.{Server, Machine}
+use Rattle.world_model.specs.meaning.Noting.{only_if}
+use Rattle.world_model.specs.meaning.Matching.{Noted, Went, ServedOn, CutOff, Reaped, Crashed, Asked, matched}
+use Rattle.world_model.specs.meaning.Serving.{front_of, server_after}
+use Rattle.world_model.specs.meaning.Outside.{after_asked}
+use Rattle.world_model.specs.meaning.Walking.{follow}
+use Rattle.world_model.specs.meaning.Finishing.{Place, AtServer, AtOrphans, AtRound, AtClients, AtLinks, first_behind, Next, serves_or_ticks, goes_or_serves, next_round, reaps_or_goes, next_finish}
 use Rattle.world_model.specs.FinishEnds.{is_at_server, FinishBegins, FinishGoesOn}
 use Rattle.world_model.proofs.finish.FinishLinks.{up_is}
 use Rattle.world_model.proofs.events.Happened.{at_event, Followed, follow_happens}

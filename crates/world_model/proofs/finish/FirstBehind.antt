@@ -4,7 +4,7 @@ use Rattle.std.specs.Prelude.{not, nat_lt, position, slice_get, option_map, ◌|
 use Rattle.std.specs.List.{position_or_len, list_any}
 use Rattle.std.proofs.lemmas.Bool.{or_from}
 use Rattle.std.proofs.lemmas.Bool.Decides.{nat_tests}
-use Rattle.world_model.specs.Finishing.{first_behind}
+use Rattle.world_model.specs.meaning.Finishing.{first_behind}
 use Rattle.world_model.proofs.events.Lists.{at_any}
 
 -- what is found

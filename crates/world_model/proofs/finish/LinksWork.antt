@@ -4,10 +4,10 @@ use Rattle.std.specs.Prelude.{not, slice_get, slice_set}
 use Rattle.std.specs.Option.{option_map_or}
 use Rattle.std.proofs.lemmas.Bool.{and_parts, and_from}
 use Rattle.outage_schedule.specs.declared.item.Served.{Served}
-use Rattle.world_model.specs.Frames.{Sent}
-use Rattle.world_model.specs.Links.{Link, new_link, link_at, with_link, changed, sends}
+use Rattle.world_model.specs.meaning.Frames.{Sent}
+use Rattle.world_model.specs.meaning.Links.{Link, new_link, link_at, with_link, changed, sends}
 use Rattle.world_model.specs.Remaining.{once_if, link_work, links_work}
-use Rattle.world_model.specs.Serving.{Front, is_last, handled}
+use Rattle.world_model.specs.meaning.Serving.{Front, is_last, handled}
 use Rattle.world_model.proofs.finish.ClientRounds.{once_less}
 use Rattle.world_model.proofs.basic.Ends.{sends_alike, handled_alike}
 

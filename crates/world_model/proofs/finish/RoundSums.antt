@@ -1,10 +1,10 @@
 -- The rounds of all clients, where those of each are no more.
 use Rattle.std.proofs.Common.{◌≡◌, refl, sym, subst, ℕ, suc, zero, ◌+◌, ◌≤◌, length, List, [], ◌∷◌, Some, arith}
 use Rattle.std.specs.Prelude.{slice_get}
-use Rattle.world_model.specs.Settings.{Setting}
-use Rattle.world_model.specs.Clients.{Client, script_at}
-use Rattle.world_model.specs.Machines.{Machine}
-use Rattle.world_model.specs.Finishing.{Place}
+use Rattle.world_model.specs.meaning.Settings.{Setting}
+use Rattle.world_model.specs.meaning.Clients.{Client, script_at}
+use Rattle.world_model.specs.meaning.Machines.{Machine}
+use Rattle.world_model.specs.meaning.Finishing.{Place}
 use Rattle.world_model.specs.Remaining.{client_rounds, has_stepped, rounds_from}
 
 -- those of the client of this number

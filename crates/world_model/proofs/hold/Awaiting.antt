@@ -8,19 +8,19 @@ use Rattle.std.proofs.lemmas.Bool.Decides.{nat_tests}
 use Rattle.std.proofs.lemmas.Option.{slice_get_within}
 use Rattle.svc_values.specs.declared.entry.Ltxid.{Ltxid}
 use Rattle.svc_values.specs.declared.frame.Down.{Down}
-use Rattle.svc_values.specs.Same.{same_bool}
+use Rattle.svc_values.specs.meaning.Same.{same_bool}
 use Rattle.pool_core.specs.declared.answers.Take.TheVariants as take
 use Rattle.pool_core.specs.declared.answers.Back.{Back}
-use Rattle.pool_core.specs.Slots.{Slots, is_among, has_to_wait, joined, without, lends, take_answer, after_take}
+use Rattle.pool_core.specs.meaning.Slots.{Slots, is_among, has_to_wait, joined, without, lends, take_answer, after_take}
 use Rattle.client_model.specs.declared.input.Wants.TheVariants as wants
-use Rattle.client_model.specs.Talk.{takes, wants_of}
-use Rattle.client_model.specs.Terms.{Terms, Talk}
+use Rattle.client_model.specs.meaning.Talk.{takes, wants_of}
+use Rattle.client_model.specs.meaning.Terms.{Terms, Talk}
 use Rattle.client_model.specs.Released.{has_slot}
-use Rattle.world_model.specs.Acting.{closing}
-use Rattle.world_model.specs.Clients.{Client, Doing, client_at, doing_of}
+use Rattle.world_model.specs.meaning.Acting.{closing}
+use Rattle.world_model.specs.meaning.Clients.{Client, Doing, client_at, doing_of}
 use Rattle.world_model.specs.records.Hold.{is_idle, holds_connection, is_held, waits_on}
 use Rattle.world_model.specs.Orderly.{Orderly}
-use Rattle.world_model.specs.Links.{Link, link_at}
+use Rattle.world_model.specs.meaning.Links.{Link, link_at}
 use Rattle.world_model.specs.Sames.{all_with, each_pair}
 use Rattle.world_model.specs.Traced.{Traced, Course, course_now, courses_of}
 use Rattle.world_model.proofs.script.ClientsReady.{frame_slot}

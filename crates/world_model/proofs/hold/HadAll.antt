@@ -9,21 +9,21 @@ use Rattle.std.proofs.lemmas.List.Sums.{sum_by-cons}
 use Rattle.std.proofs.lemmas.Option.{slice_get_within}
 use Rattle.client_model.specs.declared.input.Wants.{Wants}
 use Rattle.client_model.specs.declared.input.Wants.TheVariants as wants
-use Rattle.client_model.specs.Talk.{on_waiting, waits_from, on_try_failed}
+use Rattle.client_model.specs.meaning.Talk.{on_waiting, waits_from, on_try_failed}
 use Rattle.svc_values.specs.declared.frame.Up.TheVariants as up
-use Rattle.pool_core.specs.Slots.{Slots, after_take, without, after_gone}
+use Rattle.pool_core.specs.meaning.Slots.{Slots, after_take, without, after_gone}
 use Rattle.outage_schedule.specs.declared.item.Served.{Served}
-use Rattle.world_model.specs.Frames.{Sent}
-use Rattle.world_model.specs.Links.{Link, new_link, link_at, with_link, changed, ends, sends}
-use Rattle.world_model.specs.Clients.{Doing, Client, client_at, doing_at}
-use Rattle.world_model.specs.Acting.{owner_at, connection_of, sent_by}
-use Rattle.world_model.specs.Machines.{Machine}
-use Rattle.world_model.specs.Going.{lost_at_once}
-use Rattle.world_model.specs.Matching.{Noted}
-use Rattle.world_model.specs.Serving.{Front, is_blocked, after_front, handled, reply_of, commits_after, pool_after}
-use Rattle.world_model.specs.Cutting.{cut_link, reaped_link}
-use Rattle.world_model.specs.Crashing.{falls, fallen_link}
-use Rattle.world_model.specs.Outside.{closed_by_drain}
+use Rattle.world_model.specs.meaning.Frames.{Sent}
+use Rattle.world_model.specs.meaning.Links.{Link, new_link, link_at, with_link, changed, ends, sends}
+use Rattle.world_model.specs.meaning.Clients.{Doing, Client, client_at, doing_at}
+use Rattle.world_model.specs.meaning.Acting.{owner_at, connection_of, sent_by}
+use Rattle.world_model.specs.meaning.Machines.{Machine}
+use Rattle.world_model.specs.meaning.Going.{lost_at_once}
+use Rattle.world_model.specs.meaning.Matching.{Noted}
+use Rattle.world_model.specs.meaning.Serving.{Front, is_blocked, after_front, handled, reply_of, commits_after, pool_after}
+use Rattle.world_model.specs.meaning.Cutting.{cut_link, reaped_link}
+use Rattle.world_model.specs.meaning.Crashing.{falls, fallen_link}
+use Rattle.world_model.specs.meaning.Outside.{closed_by_drain}
 use Rattle.world_model.specs.Traced.{Traced, courses_of}
 use Rattle.world_model.specs.records.Hold.{is_idle, are_had, is_held}
 use Rattle.world_model.proofs.script.Recalling.{get_last}

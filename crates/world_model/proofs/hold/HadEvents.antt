@@ -6,22 +6,22 @@ use Rattle.std.specs.Option.{option_or, option_map_or}
 use Rattle.std.proofs.lemmas.Option.{slice_get_within}
 use Rattle.svc_values.specs.declared.entry.Ltxid.{Ltxid}
 use Rattle.pool_core.specs.declared.answers.Take.TheVariants as take
-use Rattle.pool_core.specs.Slots.{Slots, take_answer, after_take, give_back_answer}
+use Rattle.pool_core.specs.meaning.Slots.{Slots, take_answer, after_take, give_back_answer}
 use Rattle.client_model.specs.declared.act.Hold.{Hold}
 use Rattle.client_model.specs.declared.act.Hold.TheVariants as hold
 use Rattle.client_model.specs.declared.input.Input.TheVariants.{Waiting, Lent, Opened, TryFailed}
 use Rattle.client_model.specs.declared.input.Wants.{Wants}
 use Rattle.client_model.specs.declared.input.Wants.TheVariants as wants
-use Rattle.client_model.specs.Released.{released}
-use Rattle.client_model.specs.Terms.{Greeting}
-use Rattle.client_model.specs.Talk.{Step, on_hello, on_waiting, waits_from, on_try_failed}
+use Rattle.client_model.specs.meaning.Released.{released}
+use Rattle.client_model.specs.meaning.Terms.{Greeting}
+use Rattle.client_model.specs.meaning.Talk.{Step, on_hello, on_waiting, waits_from, on_try_failed}
 use Rattle.outage_schedule.specs.declared.document.Request.{Request}
-use Rattle.world_model.specs.Settings.{Setting}
-use Rattle.world_model.specs.Frames.{Sent}
-use Rattle.world_model.specs.Links.{Link, new_link, link_at, changed, sends}
-use Rattle.world_model.specs.Clients.{Doing, with_client, begun, heard, after_hold, after_step}
-use Rattle.world_model.specs.Acting.{owner_at, call_in, connection_of}
-use Rattle.world_model.specs.Machines.{Machine}
+use Rattle.world_model.specs.meaning.Settings.{Setting}
+use Rattle.world_model.specs.meaning.Frames.{Sent}
+use Rattle.world_model.specs.meaning.Links.{Link, new_link, link_at, changed, sends}
+use Rattle.world_model.specs.meaning.Clients.{Doing, with_client, begun, heard, after_hold, after_step}
+use Rattle.world_model.specs.meaning.Acting.{owner_at, call_in, connection_of}
+use Rattle.world_model.specs.meaning.Machines.{Machine}
 use Rattle.world_model.specs.records.Hold.{is_idle}
 use Rattle.world_model.proofs.events.Tests.{eq_from, eq_to}
 use Rattle.world_model.proofs.events.AllClients.{stepped_client}

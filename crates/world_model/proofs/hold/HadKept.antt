@@ -4,10 +4,10 @@ use Rattle.std.specs.Prelude.{◌==◌, not, nat_le, slice_get}
 use Rattle.std.specs.List.{list_all}
 use Rattle.std.specs.Option.{option_map_or}
 use Rattle.std.proofs.lemmas.Bool.{and_parts, and_from}
-use Rattle.pool_core.specs.Slots.{Slots, drains}
-use Rattle.world_model.specs.Links.{Link, link_at}
-use Rattle.world_model.specs.Clients.{Doing, Client, client_at, with_client}
-use Rattle.world_model.specs.Machines.{Machine}
+use Rattle.pool_core.specs.meaning.Slots.{Slots, drains}
+use Rattle.world_model.specs.meaning.Links.{Link, link_at}
+use Rattle.world_model.specs.meaning.Clients.{Doing, Client, client_at, with_client}
+use Rattle.world_model.specs.meaning.Machines.{Machine}
 use Rattle.world_model.specs.Traced.{Traced, Course, courses_of}
 use Rattle.world_model.specs.records.Hold.{holders_of, is_had, are_had, is_idle}
 use Rattle.world_model.specs.Parts.{Numbered, numbered_from}

@@ -12,12 +12,12 @@ use Rattle.pool_core.specs.declared.answers.Back.{Back}
 use Rattle.pool_core.specs.declared.answers.Back.TheVariants as back
 use Rattle.client_model.specs.declared.act.Hold.{Hold}
 use Rattle.client_model.specs.declared.act.Hold.TheVariants as hold
-use Rattle.client_model.specs.Terms.{Phase}
-use Rattle.world_model.specs.Settings.{Setting}
-use Rattle.world_model.specs.Frames.{Owner, Sent}
-use Rattle.world_model.specs.Links.{Link, ends, sends}
-use Rattle.world_model.specs.Clients.{Doing, Client, after_hold}
-use Rattle.world_model.specs.Acting.{sent_by, closing}
+use Rattle.client_model.specs.meaning.Terms.{Phase}
+use Rattle.world_model.specs.meaning.Settings.{Setting}
+use Rattle.world_model.specs.meaning.Frames.{Owner, Sent}
+use Rattle.world_model.specs.meaning.Links.{Link, ends, sends}
+use Rattle.world_model.specs.meaning.Clients.{Doing, Client, after_hold}
+use Rattle.world_model.specs.meaning.Acting.{sent_by, closing}
 use Rattle.world_model.proofs.events.Tests.{eq_from, eq_to}
 use Rattle.world_model.proofs.basic.Ends.{with_frames, has_close, ends_case}
 use Rattle.world_model.proofs.finish.Counts.{goes_so}

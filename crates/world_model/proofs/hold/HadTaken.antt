@@ -3,20 +3,20 @@ use Rattle.std.proofs.Common.{◌≡◌, ◌≢◌, refl, sym, ap, subst, ◌∙
 use Rattle.std.specs.Prelude.{◌==◌, option_and_then, unwrap_or}
 use Rattle.std.specs.Option.{option_map_or}
 use Rattle.pool_core.specs.declared.answers.Back.TheVariants as back
-use Rattle.pool_core.specs.Slots.{drains, give_back_answer}
+use Rattle.pool_core.specs.meaning.Slots.{drains, give_back_answer}
 use Rattle.client_model.specs.declared.act.Hold.{Hold}
 use Rattle.client_model.specs.declared.act.Hold.TheVariants as hold
 use Rattle.client_model.specs.declared.input.Input.TheVariants.{Took, Gone}
 use Rattle.client_model.specs.declared.input.Wants.TheVariants as wants
-use Rattle.client_model.specs.Released.{released}
-use Rattle.client_model.specs.Talk.{Step, takes as taken_by}
-use Rattle.world_model.specs.Settings.{Setting}
-use Rattle.world_model.specs.Frames.{Reply}
-use Rattle.world_model.specs.Links.{Link, link_at, with_link, changed, ends, sends, takes}
-use Rattle.world_model.specs.Clients.{Doing, Client, client_at, with_client, doing_at, heard, after_hold, after_step}
-use Rattle.world_model.specs.Acting.{owner_at, call_in, connection_of, loses}
-use Rattle.world_model.specs.Machines.{Machine}
-use Rattle.world_model.specs.Going.{lost_at_once}
+use Rattle.client_model.specs.meaning.Released.{released}
+use Rattle.client_model.specs.meaning.Talk.{Step, takes as taken_by}
+use Rattle.world_model.specs.meaning.Settings.{Setting}
+use Rattle.world_model.specs.meaning.Frames.{Reply}
+use Rattle.world_model.specs.meaning.Links.{Link, link_at, with_link, changed, ends, sends, takes}
+use Rattle.world_model.specs.meaning.Clients.{Doing, Client, client_at, with_client, doing_at, heard, after_hold, after_step}
+use Rattle.world_model.specs.meaning.Acting.{owner_at, call_in, connection_of, loses}
+use Rattle.world_model.specs.meaning.Machines.{Machine}
+use Rattle.world_model.specs.meaning.Going.{lost_at_once}
 use Rattle.world_model.proofs.events.Tests.{eq_from, eq_to}
 use Rattle.world_model.proofs.events.AllClients.{stepped_client, client_set, client_twice}
 use Rattle.world_model.proofs.finish.Counts.{going_passes, goes_so}

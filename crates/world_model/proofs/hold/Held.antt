@@ -7,11 +7,11 @@ use Rattle.std.proofs.lemmas.Bool.{and_parts, and_from}
 use Rattle.std.proofs.lemmas.Bool.Decides.{nat_tests}
 use Rattle.std.proofs.lemmas.List.Sums.{sum_by-cons}
 use Rattle.std.proofs.lemmas.List.Folds.{list_all-append}
-use Rattle.svc_values.specs.Same.{same_bool}
-use Rattle.pool_core.specs.Slots.{drains}
-use Rattle.world_model.specs.Settings.{Setting}
-use Rattle.world_model.specs.Links.{Link, link_at}
-use Rattle.world_model.specs.Clients.{Past, Doing, Client, client_at}
+use Rattle.svc_values.specs.meaning.Same.{same_bool}
+use Rattle.pool_core.specs.meaning.Slots.{drains}
+use Rattle.world_model.specs.meaning.Settings.{Setting}
+use Rattle.world_model.specs.meaning.Links.{Link, link_at}
+use Rattle.world_model.specs.meaning.Clients.{Past, Doing, Client, client_at}
 use Rattle.world_model.specs.Traced.{Traced, Course, course_now, courses_from, courses_of_clients, courses_of}
 use Rattle.world_model.specs.records.Hold.{holders_of, idle_of, is_had, are_had, is_idle, holds_connection, waits_on, is_held}
 use Rattle.world_model.specs.Orderly.{Orderly}

@@ -11,15 +11,15 @@ use Rattle.svc_values.specs.declared.frame.Up.{Up}
 use Rattle.svc_values.specs.declared.frame.Up.TheVariants as up
 use Rattle.svc_values.specs.declared.frame.Down.{Down}
 use Rattle.svc_values.specs.declared.frame.Down.TheVariants as down
-use Rattle.svc_values.specs.Identifiers.{same_ltxid, session_of}
+use Rattle.svc_values.specs.meaning.Identifiers.{same_ltxid, session_of}
 use Rattle.svc_values.specs.SameLaws.{same_ltxid_decides}
 use Rattle.client_model.specs.declared.input.Input.TheVariants.{Took}
-use Rattle.client_model.specs.States.{Repeating}
-use Rattle.client_model.specs.Verifying.{index_of}
-use Rattle.client_model.specs.Terms.{Phase, Replaying}
-use Rattle.world_model.specs.Frames.{Owner, Sent, Reply, Handled}
-use Rattle.world_model.specs.Links.{Link, link_at, told_by}
-use Rattle.world_model.specs.Clients.{Doing, Client, client_at}
+use Rattle.client_model.specs.meaning.States.{Repeating}
+use Rattle.client_model.specs.meaning.Verifying.{index_of}
+use Rattle.client_model.specs.meaning.Terms.{Phase, Replaying}
+use Rattle.world_model.specs.meaning.Frames.{Owner, Sent, Reply, Handled}
+use Rattle.world_model.specs.meaning.Links.{Link, link_at, told_by}
+use Rattle.world_model.specs.meaning.Clients.{Doing, Client, client_at}
 use Rattle.world_model.specs.records.Hold.{is_by_held, is_awaited, is_call, same_held, goes_by}
 use Rattle.world_model.specs.Orderly.{Orderly}
 use Rattle.world_model.specs.records.Basic.{is_named}

@@ -7,21 +7,21 @@ use Rattle.client_model.specs.declared.input.Wants.{Wants}
 use Rattle.client_model.specs.declared.input.Wants.TheVariants as wants
 use Rattle.svc_values.specs.declared.entry.Ltxid.{Ltxid}
 use Rattle.client_model.specs.declared.input.Input.TheVariants.{Took}
-use Rattle.client_model.specs.States.{Repeating}
-use Rattle.client_model.specs.Terms.{Replaying}
-use Rattle.client_model.specs.Talk.{on_waiting, waits_from, on_try_failed}
-use Rattle.world_model.specs.Frames.{Reply}
-use Rattle.pool_core.specs.Slots.{Slots, after_take}
+use Rattle.client_model.specs.meaning.States.{Repeating}
+use Rattle.client_model.specs.meaning.Terms.{Replaying}
+use Rattle.client_model.specs.meaning.Talk.{on_waiting, waits_from, on_try_failed}
+use Rattle.world_model.specs.meaning.Frames.{Reply}
+use Rattle.pool_core.specs.meaning.Slots.{Slots, after_take}
 use Rattle.outage_schedule.specs.declared.item.Served.{Served}
-use Rattle.world_model.specs.Links.{Link, link_at, sends, told_by}
-use Rattle.world_model.specs.Clients.{Doing, Client, client_at}
-use Rattle.world_model.specs.Acting.{owner_at, connection_of}
-use Rattle.world_model.specs.Machines.{Machine}
-use Rattle.world_model.specs.Matching.{Noted}
-use Rattle.world_model.specs.Serving.{handled}
-use Rattle.world_model.specs.Cutting.{cut_link, reaped_link}
-use Rattle.world_model.specs.Crashing.{falls}
-use Rattle.world_model.specs.Outside.{closed_by_drain}
+use Rattle.world_model.specs.meaning.Links.{Link, link_at, sends, told_by}
+use Rattle.world_model.specs.meaning.Clients.{Doing, Client, client_at}
+use Rattle.world_model.specs.meaning.Acting.{owner_at, connection_of}
+use Rattle.world_model.specs.meaning.Machines.{Machine}
+use Rattle.world_model.specs.meaning.Matching.{Noted}
+use Rattle.world_model.specs.meaning.Serving.{handled}
+use Rattle.world_model.specs.meaning.Cutting.{cut_link, reaped_link}
+use Rattle.world_model.specs.meaning.Crashing.{falls}
+use Rattle.world_model.specs.meaning.Outside.{closed_by_drain}
 use Rattle.world_model.specs.Traced.{Traced, courses_of}
 use Rattle.world_model.specs.records.Hold.{is_idle, are_had, is_held, idle_of, is_by_held, same_held}
 use Rattle.world_model.proofs.events.Tests.{eq_from, eq_to}

@@ -7,26 +7,26 @@ use Rattle.std.proofs.lemmas.Bool.{and_parts}
 use Rattle.std.proofs.lemmas.List.Sums.{sum_by-cons}
 use Rattle.svc_values.specs.declared.entry.Ltxid.{Ltxid}
 use Rattle.svc_values.specs.declared.frame.Up.TheVariants as up
-use Rattle.svc_values.specs.Same.{same_bool}
+use Rattle.svc_values.specs.meaning.Same.{same_bool}
 use Rattle.svc_values.specs.SameLaws.{same_ltxid_decides}
 use Rattle.pool_core.specs.declared.answers.Take.TheVariants as take
-use Rattle.pool_core.specs.Slots.{Slots, has_to_wait, lends, take_answer}
+use Rattle.pool_core.specs.meaning.Slots.{Slots, has_to_wait, lends, take_answer}
 use Rattle.client_model.specs.declared.act.Hold.{Hold}
 use Rattle.client_model.specs.declared.act.Hold.TheVariants as hold
 use Rattle.client_model.specs.declared.input.Input.TheVariants.{Waiting, Lent, Opened, TryFailed, Took, Gone}
 use Rattle.client_model.specs.declared.input.Wants.{Wants}
 use Rattle.client_model.specs.declared.input.Wants.TheVariants as wants
-use Rattle.client_model.specs.States.{Repeating}
-use Rattle.client_model.specs.Terms.{Phase, Replaying}
-use Rattle.client_model.specs.Talk.{Step, lost_of, on_hello, on_waiting, waits_from, on_try_failed, takes as taken_by}
+use Rattle.client_model.specs.meaning.States.{Repeating}
+use Rattle.client_model.specs.meaning.Terms.{Phase, Replaying}
+use Rattle.client_model.specs.meaning.Talk.{Step, lost_of, on_hello, on_waiting, waits_from, on_try_failed, takes as taken_by}
 use Rattle.outage_schedule.specs.declared.document.Request.{Request}
-use Rattle.world_model.specs.Settings.{Setting}
-use Rattle.world_model.specs.Frames.{Owner, Sent, Reply}
-use Rattle.world_model.specs.Links.{Link, new_link, link_at, with_link, changed, sends, takes, told_by}
-use Rattle.world_model.specs.Clients.{Doing, Client, client_at, with_client, doing_at, begun, heard, after_hold, after_step}
-use Rattle.world_model.specs.Acting.{sent_by, owner_at, connection_of}
-use Rattle.world_model.specs.Machines.{Machine}
-use Rattle.world_model.specs.Going.{lost_at_once}
+use Rattle.world_model.specs.meaning.Settings.{Setting}
+use Rattle.world_model.specs.meaning.Frames.{Owner, Sent, Reply}
+use Rattle.world_model.specs.meaning.Links.{Link, new_link, link_at, with_link, changed, sends, takes, told_by}
+use Rattle.world_model.specs.meaning.Clients.{Doing, Client, client_at, with_client, doing_at, begun, heard, after_hold, after_step}
+use Rattle.world_model.specs.meaning.Acting.{sent_by, owner_at, connection_of}
+use Rattle.world_model.specs.meaning.Machines.{Machine}
+use Rattle.world_model.specs.meaning.Going.{lost_at_once}
 use Rattle.world_model.specs.records.Hold.{holds_connection, is_idle, is_awaited, goes_by, same_held}
 use Rattle.world_model.specs.Parts.{is_answered, count_reps}
 use Rattle.world_model.specs.Sames.{owned_by}

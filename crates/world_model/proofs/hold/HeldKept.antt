@@ -5,22 +5,22 @@ use Rattle.std.specs.Option.{option_map_or}
 use Rattle.std.proofs.lemmas.Bool.{and_parts, and_from}
 use Rattle.svc_values.specs.declared.entry.Ltxid.{Ltxid}
 use Rattle.svc_values.specs.declared.frame.Up.TheVariants as up
-use Rattle.svc_values.specs.Same.{same_bool}
-use Rattle.pool_core.specs.Slots.{Slots, give_back_answer}
+use Rattle.svc_values.specs.meaning.Same.{same_bool}
+use Rattle.pool_core.specs.meaning.Slots.{Slots, give_back_answer}
 use Rattle.client_model.specs.declared.act.Hold.TheVariants as hold
 use Rattle.client_model.specs.declared.act.Failed.TheVariants.{Retries, PoolWait}
 use Rattle.client_model.specs.declared.input.Input.TheVariants.{Took}
 use Rattle.client_model.specs.declared.input.Wants.{Wants}
 use Rattle.client_model.specs.declared.input.Wants.TheVariants as wants
-use Rattle.client_model.specs.States.{Losing}
-use Rattle.client_model.specs.Terms.{Terms, Talk, Phase, Queued, Seeking, Greeting, Asked, Running, Replaying}
-use Rattle.client_model.specs.Talk.{Step, stands, quiet, fails, on_hello, on_waiting, with_tried, lost_of, on_try_failed, loses as lost_to, takes as taken_by, wants_in}
-use Rattle.world_model.specs.Settings.{Setting}
-use Rattle.world_model.specs.Frames.{Owner, Reply}
-use Rattle.world_model.specs.Links.{Link, new_link, link_at, sends, takes}
-use Rattle.world_model.specs.Clients.{Doing}
-use Rattle.world_model.specs.Acting.{sent_by}
-use Rattle.world_model.specs.Machines.{Machine}
+use Rattle.client_model.specs.meaning.States.{Losing}
+use Rattle.client_model.specs.meaning.Terms.{Terms, Talk, Phase, Queued, Seeking, Greeting, Asked, Running, Replaying}
+use Rattle.client_model.specs.meaning.Talk.{Step, stands, quiet, fails, on_hello, on_waiting, with_tried, lost_of, on_try_failed, loses as lost_to, takes as taken_by, wants_in}
+use Rattle.world_model.specs.meaning.Settings.{Setting}
+use Rattle.world_model.specs.meaning.Frames.{Owner, Reply}
+use Rattle.world_model.specs.meaning.Links.{Link, new_link, link_at, sends, takes}
+use Rattle.world_model.specs.meaning.Clients.{Doing}
+use Rattle.world_model.specs.meaning.Acting.{sent_by}
+use Rattle.world_model.specs.meaning.Machines.{Machine}
 use Rattle.world_model.specs.records.Hold.{holds_connection, is_idle}
 use Rattle.world_model.specs.Sames.{same_owner}
 use Rattle.world_model.proofs.wire.SameSelf.{owner_self}

@@ -13,23 +13,23 @@ use Rattle.svc_values.specs.declared.frame.Up.{Up}
 use Rattle.svc_values.specs.declared.frame.Up.TheVariants as up
 use Rattle.svc_values.specs.declared.frame.Down.{Down}
 use Rattle.svc_values.specs.declared.frame.Down.TheVariants as down
-use Rattle.svc_values.specs.Identifiers.{same_ltxid}
+use Rattle.svc_values.specs.meaning.Identifiers.{same_ltxid}
 use Rattle.svc_values.specs.SameLaws.{same_ltxid_decides}
 use Rattle.pool_core.specs.declared.answers.Back.{Back}
-use Rattle.client_model.specs.Verifying.{index_of}
+use Rattle.client_model.specs.meaning.Verifying.{index_of}
 use Rattle.client_model.specs.declared.act.Hold.{Hold}
 use Rattle.client_model.specs.declared.act.Hold.TheVariants.{Keep}
-use Rattle.client_model.specs.States.{Living, Repeating}
-use Rattle.client_model.specs.Terms.{Phase, Running, Replaying}
+use Rattle.client_model.specs.meaning.States.{Living, Repeating}
+use Rattle.client_model.specs.meaning.Terms.{Phase, Running, Replaying}
 use Rattle.outage_schedule.specs.declared.note.AskResult.{AskResult}
 use Rattle.outage_schedule.specs.declared.note.AskResult.TheVariants as told
 use Rattle.outage_schedule.specs.declared.item.Item.{Item}
 use Rattle.outage_schedule.specs.declared.item.Item.TheVariants as item
-use Rattle.world_model.specs.Frames.{Owner, Sent, Reply, Handled}
-use Rattle.world_model.specs.Links.{Link, sends}
-use Rattle.world_model.specs.Acting.{sent_by, call_in, closing}
-use Rattle.world_model.specs.Serving.{is_item_of, is_last, reply_of, outcome_frame}
-use Rattle.world_model.specs.Crashing.{is_crashed_item}
+use Rattle.world_model.specs.meaning.Frames.{Owner, Sent, Reply, Handled}
+use Rattle.world_model.specs.meaning.Links.{Link, sends}
+use Rattle.world_model.specs.meaning.Acting.{sent_by, call_in, closing}
+use Rattle.world_model.specs.meaning.Serving.{is_item_of, is_last, reply_of, outcome_frame}
+use Rattle.world_model.specs.meaning.Crashing.{is_crashed_item}
 use Rattle.world_model.specs.records.Basic.{is_stopped, ends_life, lives_rightly}
 use Rattle.world_model.specs.records.Hold.{holds_connection, is_awaited}
 use Rattle.world_model.specs.Parts.{is_answered, count_reps}

@@ -7,16 +7,16 @@ use Rattle.std.proofs.lemmas.Bool.{and_parts, and_from, not_from_false, not-true
 use Rattle.svc_values.specs.declared.frame.Up.{Up}
 use Rattle.svc_values.specs.declared.frame.Up.TheVariants as up
 use Rattle.pool_core.specs.declared.answers.Take.TheVariants as take
-use Rattle.pool_core.specs.Slots.{Slots, joined, without, has_to_wait, lends, take_answer, after_take, drains, after_gone}
+use Rattle.pool_core.specs.meaning.Slots.{Slots, joined, without, has_to_wait, lends, take_answer, after_take, drains, after_gone}
 use Rattle.client_model.specs.declared.act.Hold.{Hold}
 use Rattle.client_model.specs.declared.act.Hold.TheVariants as hold
-use Rattle.client_model.specs.Released.{released}
-use Rattle.client_model.specs.Terms.{Phase}
+use Rattle.client_model.specs.meaning.Released.{released}
+use Rattle.client_model.specs.meaning.Terms.{Phase}
 use Rattle.outage_schedule.specs.declared.item.Served.{Served}
-use Rattle.world_model.specs.Frames.{Owner, Sent}
-use Rattle.world_model.specs.Links.{Link, link_at, with_link, ends, sends}
-use Rattle.world_model.specs.Acting.{sent_by}
-use Rattle.world_model.specs.Serving.{Front, is_blocked, after_front, handled, reply_of, commits_after, pool_after}
+use Rattle.world_model.specs.meaning.Frames.{Owner, Sent}
+use Rattle.world_model.specs.meaning.Links.{Link, link_at, with_link, ends, sends}
+use Rattle.world_model.specs.meaning.Acting.{sent_by}
+use Rattle.world_model.specs.meaning.Serving.{Front, is_blocked, after_front, handled, reply_of, commits_after, pool_after}
 use Rattle.world_model.specs.records.Hold.{is_end, is_idle}
 use Rattle.world_model.specs.Parts.{count_reps}
 use Rattle.world_model.proofs.events.Tests.{eq_from, eq_to}

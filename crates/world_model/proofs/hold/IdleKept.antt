@@ -5,8 +5,8 @@ use Rattle.std.specs.List.{list_all, list_any}
 use Rattle.std.specs.Option.{option_map_or}
 use Rattle.std.proofs.lemmas.Bool.{and_parts, and_from, or_left, or_right, not_from_false, not-true}
 use Rattle.std.proofs.lemmas.List.Sums.{sum_by-cons}
-use Rattle.pool_core.specs.Slots.{Slots, without, drains, after_gone}
-use Rattle.world_model.specs.Links.{Link, link_at, open_from, put_if}
+use Rattle.pool_core.specs.meaning.Slots.{Slots, without, drains, after_gone}
+use Rattle.world_model.specs.meaning.Links.{Link, link_at, open_from, put_if}
 use Rattle.world_model.specs.records.Hold.{is_idle}
 use Rattle.world_model.proofs.events.Tests.{eq_to}
 use Rattle.world_model.proofs.events.AllLists.{weaker_all}

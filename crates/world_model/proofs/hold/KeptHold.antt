@@ -3,8 +3,8 @@ use Rattle.std.proofs.Common.{◌≡◌, refl, true, length, ℕ, ◌+◌, Some,
 use Rattle.std.specs.List.{list_all}
 use Rattle.outage_schedule.specs.declared.document.Client.{Client as Scripted}
 use Rattle.outage_schedule.specs.declared.document.Document.{Document}
-use Rattle.world_model.specs.Settings.{Setting, setting_of}
-use Rattle.world_model.specs.Clients.{Client, Doing, client_at, resting}
+use Rattle.world_model.specs.meaning.Settings.{Setting, setting_of}
+use Rattle.world_model.specs.meaning.Clients.{Client, Doing, client_at, resting}
 use Rattle.world_model.proofs.script.ClientsReady.{waits_unbegun}
 use Rattle.world_model.proofs.events.Tests.{le_to}
 use Rattle.std.proofs.lemmas.Bool.{and_from}
@@ -29,7 +29,7 @@ use Rattle.world_model.proofs.basic.BasicSessions.{all_wired}
 use Rattle.world_model.proofs.wire.LinkOut.{awaits_out}
 use Rattle.world_model.proofs.wire.LinkStage.{ready_left}
 use Rattle.world_model.proofs.hold.IdleAll.{happens_rest}
-use Rattle.world_model.specs.Frames.{Owner}
+use Rattle.world_model.specs.meaning.Frames.{Owner}
 use Rattle.world_model.proofs.events.Courses.{all_courses_by, held_busy}
 use Rattle.world_model.proofs.hold.Held.{held_now}
 use Rattle.world_model.proofs.hold.HeldAgain.{again_now}

@@ -5,7 +5,7 @@ use Rattle.std.specs.List.{list_all}
 use Rattle.std.proofs.lemmas.Bool.{and_parts}
 use Rattle.std.proofs.lemmas.List.Sums.{sum_by-cons}
 use Rattle.outage_schedule.specs.declared.document.Client.{Client as Scripted}
-use Rattle.world_model.specs.Clients.{Step, Doing, Client, client_at, resting}
+use Rattle.world_model.specs.meaning.Clients.{Step, Doing, Client, client_at, resting}
 use Rattle.world_model.specs.Traced.{Traced}
 use Rattle.world_model.specs.records.Basic.{steps_rise, have_risen}
 use Rattle.world_model.specs.Sames.{rise}

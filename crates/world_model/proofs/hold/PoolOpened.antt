@@ -4,22 +4,22 @@ use Rattle.std.specs.Prelude.{◌==◌, nat_le, slice_set, drop}
 use Rattle.std.specs.Option.{option_map_or}
 use Rattle.std.proofs.lemmas.Bool.{and_parts, and_from}
 use Rattle.std.proofs.lemmas.List.{length-map}
-use Rattle.pool_core.specs.Slots.{Slots, has_to_wait, joined, without, after_take, after_gone}
+use Rattle.pool_core.specs.meaning.Slots.{Slots, has_to_wait, joined, without, after_take, after_gone}
 use Rattle.client_model.specs.declared.act.Hold.{Hold}
 use Rattle.client_model.specs.declared.act.Hold.TheVariants.{Keep, GiveBack, Drop}
 use Rattle.client_model.specs.declared.input.Wants.{Wants}
-use Rattle.client_model.specs.Released.{released}
+use Rattle.client_model.specs.meaning.Released.{released}
 use Rattle.outage_schedule.specs.declared.item.Item.{Item}
 use Rattle.outage_schedule.specs.declared.item.Served.{Served}
-use Rattle.world_model.specs.Settings.{Setting}
-use Rattle.world_model.specs.Links.{Link, new_link, link_at, with_link, changed, open_from}
-use Rattle.world_model.specs.Clients.{Doing, doing_at}
-use Rattle.world_model.specs.Acting.{connection_of}
-use Rattle.world_model.specs.Machines.{Machine}
-use Rattle.world_model.specs.Matching.{Noted}
-use Rattle.world_model.specs.Going.{lost_at_once}
-use Rattle.world_model.specs.Serving.{is_blocked, pool_after, after_front, handled, after_served}
-use Rattle.world_model.specs.Crashing.{fallen_link, after_stopped, falls}
+use Rattle.world_model.specs.meaning.Settings.{Setting}
+use Rattle.world_model.specs.meaning.Links.{Link, new_link, link_at, with_link, changed, open_from}
+use Rattle.world_model.specs.meaning.Clients.{Doing, doing_at}
+use Rattle.world_model.specs.meaning.Acting.{connection_of}
+use Rattle.world_model.specs.meaning.Machines.{Machine}
+use Rattle.world_model.specs.meaning.Matching.{Noted}
+use Rattle.world_model.specs.meaning.Going.{lost_at_once}
+use Rattle.world_model.specs.meaning.Serving.{is_blocked, pool_after, after_front, handled, after_served}
+use Rattle.world_model.specs.meaning.Crashing.{fallen_link, after_stopped, falls}
 use Rattle.world_model.proofs.events.Tests.{eq_from, eq_to, le_from, le_to}
 use Rattle.world_model.proofs.events.Moves.{next_number, takes_one, Tries, FromQueue, Again, Goes, Rests, Waits, Lends, Opens, Fails, Takes, Loses, ServesLast, LastNone, LastStopped, LastServed, Happens, Nothing, IsStep, Serves, Cuts, Reaps, Crashes, OpensUp, StopsOpening, Ticks, RunsOutside, Asks, Drains}
 

@@ -6,29 +6,30 @@ use Rattle.std.specs.Option.{option_or, option_map_or}
 use Rattle.std.proofs.lemmas.Bool.{and_parts, and_from}
 use Rattle.std.proofs.lemmas.List.Concat.{flat_map-cons}
 use Rattle.pool_core.specs.declared.answers.Take.TheVariants as take
-use Rattle.pool_core.specs.Slots.{Slots, is_among, joined, without, has_to_wait, lends, take_answer, after_take, after_gone}
-use Rattle.request_bounds.specs.Limits.{has_waited}
+use Rattle.pool_core.specs.meaning.Slots.{Slots, is_among, joined, without, has_to_wait, lends, take_answer, after_take, after_gone}
+use Rattle.request_bounds.specs.meaning.Limits.{has_waited}
 use Rattle.client_model.specs.declared.act.Hold.{Hold}
 use Rattle.client_model.specs.declared.act.Hold.TheVariants as hold
 use Rattle.client_model.specs.declared.act.Failed.TheVariants.{PoolWait}
 use Rattle.client_model.specs.declared.input.Input.TheVariants.{Waiting, Lent, Opened, TryFailed, Took, Gone}
 use Rattle.client_model.specs.declared.input.Wants.{Wants}
 use Rattle.client_model.specs.declared.input.Wants.TheVariants as wants
-use Rattle.client_model.specs.Released.{has_slot, released}
-use Rattle.client_model.specs.Terms.{Terms, Talk, Phase, Queued, Seeking, Greeting}
-use Rattle.client_model.specs.Talk.{Step as TalkStep, stands, quiet, fails, on_hello, on_waiting, waits_from, on_try_failed, takes as taken_by, wants_in}
+use Rattle.client_model.specs.meaning.Released.{released}
+use Rattle.client_model.specs.Released.{has_slot}
+use Rattle.client_model.specs.meaning.Terms.{Terms, Talk, Phase, Queued, Seeking, Greeting}
+use Rattle.client_model.specs.meaning.Talk.{Step as TalkStep, stands, quiet, fails, on_hello, on_waiting, waits_from, on_try_failed, takes as taken_by, wants_in}
 use Rattle.outage_schedule.specs.declared.document.Request.{Request}
 use Rattle.outage_schedule.specs.declared.item.Item.{Item}
 use Rattle.outage_schedule.specs.declared.item.Served.{Served}
-use Rattle.world_model.specs.Settings.{Setting}
-use Rattle.world_model.specs.Links.{open_from}
-use Rattle.world_model.specs.Clients.{Step, Doing, Client, client_at, with_client, doing_at, begun, heard, step_at, after_hold, after_step}
-use Rattle.world_model.specs.Acting.{connection_of}
-use Rattle.world_model.specs.Machines.{Machine}
-use Rattle.world_model.specs.Matching.{Noted}
-use Rattle.world_model.specs.Going.{lost_at_once}
-use Rattle.world_model.specs.Serving.{is_blocked, pool_after}
-use Rattle.world_model.specs.Crashing.{falls}
+use Rattle.world_model.specs.meaning.Settings.{Setting}
+use Rattle.world_model.specs.meaning.Links.{open_from}
+use Rattle.world_model.specs.meaning.Clients.{Step, Doing, Client, client_at, with_client, doing_at, begun, heard, step_at, after_hold, after_step}
+use Rattle.world_model.specs.meaning.Acting.{connection_of}
+use Rattle.world_model.specs.meaning.Machines.{Machine}
+use Rattle.world_model.specs.meaning.Matching.{Noted}
+use Rattle.world_model.specs.meaning.Going.{lost_at_once}
+use Rattle.world_model.specs.meaning.Serving.{is_blocked, pool_after}
+use Rattle.world_model.specs.meaning.Crashing.{falls}
 use Rattle.world_model.specs.records.Hold.{is_queued, is_waiting, joined_at}
 use Rattle.world_model.proofs.hold.IdleEvents.{never_waits}
 use Rattle.world_model.proofs.events.Tests.{eq_from}

@@ -5,8 +5,8 @@ use Rattle.std.specs.List.{list_all, cons_option}
 use Rattle.std.specs.Option.{option_map_or}
 use Rattle.std.proofs.Math.Path.{fun_ext}
 use Rattle.std.proofs.lemmas.Bool.{and_parts, and_from}
-use Rattle.world_model.specs.Settings.{Setting}
-use Rattle.world_model.specs.Clients.{Past, Doing, Client}
+use Rattle.world_model.specs.meaning.Settings.{Setting}
+use Rattle.world_model.specs.meaning.Clients.{Past, Doing, Client}
 use Rattle.world_model.specs.Traced.{Traced, Course, course_now, courses_from, courses_of_clients, courses_of}
 use Rattle.world_model.specs.records.Hold.{is_queued, joined_at, joined_by, are_queued}
 use Rattle.world_model.specs.Sames.{each_pair, rise}

@@ -7,8 +7,8 @@ use Rattle.std.proofs.Math.Path.{fun_ext}
 use Rattle.std.proofs.lemmas.Bool.{and_parts, and_from, not-true}
 use Rattle.std.proofs.lemmas.Grind.{flat_map-append}
 use Rattle.std.proofs.lemmas.List.Concat.{flat_map-cons}
-use Rattle.pool_core.specs.Slots.{is_among, without}
-use Rattle.world_model.specs.Clients.{Doing, Client, client_at, with_client}
+use Rattle.pool_core.specs.meaning.Slots.{is_among, without}
+use Rattle.world_model.specs.meaning.Clients.{Doing, Client, client_at, with_client}
 use Rattle.world_model.specs.records.Hold.{is_queued, joined_at}
 use Rattle.world_model.specs.Sames.{all_with, each_pair, rise}
 use Rattle.world_model.proofs.events.Tests.{eq_from, eq_to}

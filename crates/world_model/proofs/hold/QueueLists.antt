@@ -4,7 +4,7 @@ use Rattle.std.specs.Prelude.{◌==◌, not}
 use Rattle.std.specs.List.{list_all}
 use Rattle.std.proofs.lemmas.Bool.{and_parts, and_from, or_parts, not-true, not_from_false}
 use Rattle.std.proofs.lemmas.List.Concat.{flat_map-cons}
-use Rattle.pool_core.specs.Slots.{is_among, without}
+use Rattle.pool_core.specs.meaning.Slots.{is_among, without}
 use Rattle.world_model.specs.Sames.{all_with, each_pair}
 use Rattle.world_model.proofs.events.Tests.{eq_from, eq_to}
 use Rattle.world_model.proofs.events.AllLists.{weaker_all}

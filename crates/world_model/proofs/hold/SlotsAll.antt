@@ -3,29 +3,30 @@ use Rattle.std.proofs.Common.{◌≡◌, refl, sym, ap, subst, ◌∙◌, Bool, 
 use Rattle.std.specs.Prelude.{◌==◌, ◌&&◌, not, nat_le, option_map, option_and_then, unwrap_or}
 use Rattle.std.specs.Option.{option_or}
 use Rattle.pool_core.specs.declared.answers.Take.TheVariants as take
-use Rattle.pool_core.specs.Slots.{Slots, after_take, after_opened, after_gone}
-use Rattle.request_bounds.specs.Limits.{has_waited}
+use Rattle.pool_core.specs.meaning.Slots.{Slots, after_take, after_opened, after_gone}
+use Rattle.request_bounds.specs.meaning.Limits.{has_waited}
 use Rattle.client_model.specs.declared.act.Hold.{Hold}
 use Rattle.client_model.specs.declared.act.Hold.TheVariants as hold
 use Rattle.client_model.specs.declared.act.Failed.TheVariants.{Retries, PoolWait}
 use Rattle.client_model.specs.declared.input.Input.TheVariants.{Waiting, Lent, Opened, TryFailed, Took, Gone}
 use Rattle.client_model.specs.declared.input.Wants.{Wants}
 use Rattle.client_model.specs.declared.input.Wants.TheVariants as wants
-use Rattle.client_model.specs.Released.{has_slot, released}
-use Rattle.client_model.specs.Terms.{Terms, Talk, Phase, Idle, Unbegun, Queued, Seeking, Greeting, Asked, Running, Replaying}
-use Rattle.client_model.specs.Talk.{Step, stands, quiet, fails, with_tried, lost_of, on_hello, on_waiting, waits_from, on_try_failed, loses as lost_to, takes as taken_by, wants_in}
+use Rattle.client_model.specs.meaning.Released.{released}
+use Rattle.client_model.specs.Released.{has_slot}
+use Rattle.client_model.specs.meaning.Terms.{Terms, Talk, Phase, Idle, Unbegun, Queued, Seeking, Greeting, Asked, Running, Replaying}
+use Rattle.client_model.specs.meaning.Talk.{Step, stands, quiet, fails, with_tried, lost_of, on_hello, on_waiting, waits_from, on_try_failed, loses as lost_to, takes as taken_by, wants_in}
 use Rattle.outage_schedule.specs.declared.document.Request.{Request}
 use Rattle.outage_schedule.specs.declared.item.Item.{Item}
 use Rattle.outage_schedule.specs.declared.item.Served.{Served}
-use Rattle.world_model.specs.Settings.{Setting}
-use Rattle.world_model.specs.Links.{open_from}
-use Rattle.world_model.specs.Clients.{Doing, Client, client_at, with_client, doing_at, begun, heard, after_hold, after_step}
-use Rattle.world_model.specs.Acting.{connection_of}
-use Rattle.world_model.specs.Machines.{Machine}
-use Rattle.world_model.specs.Matching.{Noted}
-use Rattle.world_model.specs.Going.{lost_at_once}
-use Rattle.world_model.specs.Serving.{is_blocked, pool_after}
-use Rattle.world_model.specs.Crashing.{falls}
+use Rattle.world_model.specs.meaning.Settings.{Setting}
+use Rattle.world_model.specs.meaning.Links.{open_from}
+use Rattle.world_model.specs.meaning.Clients.{Doing, Client, client_at, with_client, doing_at, begun, heard, after_hold, after_step}
+use Rattle.world_model.specs.meaning.Acting.{connection_of}
+use Rattle.world_model.specs.meaning.Machines.{Machine}
+use Rattle.world_model.specs.meaning.Matching.{Noted}
+use Rattle.world_model.specs.meaning.Going.{lost_at_once}
+use Rattle.world_model.specs.meaning.Serving.{is_blocked, pool_after}
+use Rattle.world_model.specs.meaning.Crashing.{falls}
 use Rattle.world_model.proofs.events.AllClients.{stepped_client, client_set}
 use Rattle.world_model.proofs.events.Moves.{IsDoing, next_number, Tries, FromQueue, Again, Goes, Rests, Waits, Lends, Opens, Fails, Takes, Loses, takes_one, ServesLast, LastNone, LastStopped, LastServed, Happens, Nothing, IsStep, Serves, Cuts, Reaps, Crashes, OpensUp, StopsOpening, Ticks, RunsOutside, Asks, Drains}
 use Rattle.world_model.proofs.wire.Saying.{has_next, is_hushed, said, said_lent, stays_slot}

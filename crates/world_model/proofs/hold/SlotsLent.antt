@@ -5,12 +5,13 @@ use Rattle.std.specs.Option.{option_map_or}
 use Rattle.std.proofs.lemmas.Bool.{and_parts, and_from}
 use Rattle.std.proofs.lemmas.Bool.Decides.{nat_tests}
 use Rattle.pool_core.specs.declared.answers.Take.TheVariants as take
-use Rattle.pool_core.specs.Slots.{Slots, joined, without, ahead_of, has_to_wait, lends, take_answer, after_take}
+use Rattle.pool_core.specs.meaning.Slots.{Slots, joined, without, ahead_of, has_to_wait, lends, take_answer, after_take}
 use Rattle.client_model.specs.declared.act.Hold.{Hold}
 use Rattle.client_model.specs.declared.act.Hold.TheVariants as hold
-use Rattle.client_model.specs.Released.{has_slot, released}
-use Rattle.world_model.specs.Settings.{Setting}
-use Rattle.world_model.specs.Clients.{Doing, Client, client_at, with_client, after_hold}
+use Rattle.client_model.specs.meaning.Released.{released}
+use Rattle.client_model.specs.Released.{has_slot}
+use Rattle.world_model.specs.meaning.Settings.{Setting}
+use Rattle.world_model.specs.meaning.Clients.{Doing, Client, client_at, with_client, after_hold}
 use Rattle.world_model.specs.Traced.{Course, courses_of_clients}
 use Rattle.world_model.proofs.hold.IdleEvents.{never_waits}
 use Rattle.world_model.proofs.events.Tests.{eq_from, eq_to, le_from, le_to, one_if, none_if}

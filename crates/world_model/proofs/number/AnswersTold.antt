@@ -8,20 +8,21 @@ use Rattle.svc_values.specs.declared.frame.Up.{Up}
 use Rattle.svc_values.specs.declared.frame.Up.TheVariants as up
 use Rattle.svc_values.specs.declared.frame.Down.{Down}
 use Rattle.svc_values.specs.declared.frame.Down.TheVariants as down
-use Rattle.svc_values.specs.Identifiers.{same_ltxid}
+use Rattle.svc_values.specs.meaning.Identifiers.{same_ltxid}
 use Rattle.svc_values.specs.SameLaws.{same_ltxid_decides}
-use Rattle.ltxid_book.specs.Journal.{is_blocked}
+use Rattle.ltxid_book.specs.meaning.Journal.{is_blocked}
 use Rattle.ltxid_book.specs.declared.verdict.Verdict.{Verdict}
 use Rattle.ltxid_book.specs.declared.verdict.Verdict.TheVariants as verdict
 use Rattle.outage_schedule.specs.declared.note.AskResult.{AskResult}
 use Rattle.outage_schedule.specs.declared.note.AskResult.TheVariants as told
-use Rattle.run_clauses.specs.Tried.{holds}
+use Rattle.run_clauses.specs.meaning.Tried.{holds}
 use Rattle.server_model.specs.Core.{Core}
 use Rattle.server_model.specs.Sessions.{Sess}
-use Rattle.server_model.specs.Outcomes.{Telling, Says, Stopped, Outcomes, IsTold, BlockStops, down_of, verdict_on, if_blocks}
+use Rattle.server_model.specs.meaning.Outcomes.{Telling, Says, Stopped}
+use Rattle.server_model.specs.Outcomes.{Outcomes, IsTold, BlockStops, down_of, verdict_on, if_blocks}
 use Rattle.server_model.specs.Serve.{Serve, Connects, Begins, Ends, Closes, Asks, Runs as Serves, Refuses}
 use Rattle.server_model.specs.Runs.{Happened, Served, Asked, Server, Moves, Makes, Answers, Halts, Loses, AnswersAsk, HaltsInAsk, Reaps, Falls, Opens, StopsOpening}
-use Rattle.world_model.specs.Serving.{outcome_frame}
+use Rattle.world_model.specs.meaning.Serving.{outcome_frame}
 use Rattle.world_model.proofs.number.GainedOne.{first_frame}
 
 -- THE MOVE ----------------------------------------------------------------------------------------

@@ -6,11 +6,12 @@ use Rattle.std.proofs.lemmas.Bool.{and_from, or_left, or_right}
 use Rattle.std.proofs.lemmas.List.Sums.{sum_by-cons, length-filter}
 use Rattle.svc_values.specs.declared.entry.Ltxid.{Ltxid}
 use Rattle.svc_values.specs.declared.entry.Entry.{Entry}
-use Rattle.svc_values.specs.Identifiers.{is_of, same_ltxid, session_of}
+use Rattle.svc_values.specs.meaning.Identifiers.{is_of, same_ltxid, session_of}
 use Rattle.svc_values.specs.SameLaws.{same_ltxid_decides}
-use Rattle.ltxid_book.specs.Journal.{Committed, committed_of, commits_of, is_blocked, BlocksStand}
+use Rattle.ltxid_book.specs.meaning.Journal.{Committed, committed_of, commits_of, is_blocked}
+use Rattle.ltxid_book.specs.Journal.{BlocksStand}
 use Rattle.server_model.proofs.Offered.{service_stands}
-use Rattle.run_clauses.specs.EntryEvents.{entries_of}
+use Rattle.run_clauses.specs.meaning.EntryEvents.{entries_of}
 use Rattle.world_model.specs.OrderlyLaws.{IsOfService}
 use Rattle.world_model.specs.records.Number.{blocks_next}
 use Rattle.world_model.proofs.events.Tests.{eq_to}

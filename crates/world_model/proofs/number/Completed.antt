@@ -6,15 +6,15 @@ use Rattle.svc_values.specs.declared.entry.Entry.{Entry}
 use Rattle.svc_values.specs.declared.entry.Ltxid.{Ltxid}
 use Rattle.svc_values.specs.declared.frame.Down.TheVariants as down
 use Rattle.svc_values.specs.declared.frame.Ahead.TheVariants as ahead
-use Rattle.svc_values.specs.Identifiers.{is_of_session, same_ltxid, session_of}
+use Rattle.svc_values.specs.meaning.Identifiers.{is_of_session, same_ltxid, session_of}
 use Rattle.ltxid_book.specs.declared.State.{State}
 use Rattle.ltxid_book.specs.declared.verdict.Verdict.{Verdict}
 use Rattle.ltxid_book.specs.declared.verdict.Verdict.TheVariants as verdict
-use Rattle.ltxid_book.specs.Journal.{Committed, committed_of, commits_of, last_completed, state_of, book_of}
-use Rattle.ltxid_book.specs.Outcomes.{outcome_in, verdict_of}
-use Rattle.ltxid_book.specs.Sessions.{untouched}
-use Rattle.run_clauses.specs.EntryEvents.{entries_of}
-use Rattle.run_clauses.specs.Outcomes.{completed_of}
+use Rattle.ltxid_book.specs.meaning.Journal.{Committed, committed_of, commits_of, last_completed, state_of, book_of}
+use Rattle.ltxid_book.specs.meaning.Outcomes.{outcome_in, verdict_of}
+use Rattle.ltxid_book.specs.meaning.Sessions.{untouched}
+use Rattle.run_clauses.specs.meaning.EntryEvents.{entries_of}
+use Rattle.run_clauses.specs.meaning.Outcomes.{completed_of}
 use Rattle.server_model.specs.Outcomes.{down_of}
 use Rattle.world_model.specs.records.Number.{numbered_after}
 use Rattle.world_model.proofs.number.Blocks.{commits_count}

@@ -10,28 +10,28 @@ use Rattle.svc_values.specs.declared.entry.SessionId.{SessionId}
 use Rattle.svc_values.specs.declared.frame.Up.{Up}
 use Rattle.svc_values.specs.declared.frame.Up.TheVariants as up
 use Rattle.svc_values.specs.declared.frame.Down.TheVariants as down
-use Rattle.svc_values.specs.Calls.{has_commit}
-use Rattle.svc_values.specs.Endings.{ends_committed}
-use Rattle.svc_values.specs.Identifiers.{session_of}
+use Rattle.svc_values.specs.meaning.Calls.{has_commit}
+use Rattle.svc_values.specs.meaning.Endings.{ends_committed}
+use Rattle.svc_values.specs.meaning.Identifiers.{session_of}
 use Rattle.outage_schedule.specs.declared.note.AskResult.{AskResult}
 use Rattle.outage_schedule.specs.declared.note.AskResult.TheVariants as told
 use Rattle.outage_schedule.specs.declared.item.Item.{Item}
 use Rattle.outage_schedule.specs.declared.item.Item.TheVariants as item
 use Rattle.outage_schedule.specs.declared.item.Served.{Served}
-use Rattle.run_clauses.specs.EntryEvents.{entries_of}
-use Rattle.server_model.specs.Base as base
-use Rattle.server_model.specs.Outcomes.{Says, Stopped}
+use Rattle.run_clauses.specs.meaning.EntryEvents.{entries_of}
+use Rattle.server_model.specs.meaning.Base as base
+use Rattle.server_model.specs.meaning.Outcomes.{Says, Stopped}
 use Rattle.server_model.specs.Runs.{Happened, Served as ServedFrame, Server, On, Runs}
 use Rattle.server_model.specs.Laws.{CommitsAs, EntryNumbers}
 use Rattle.server_model.specs.Seen.{Seen, HasPower}
 use Rattle.server_model.specs.ServiceCalls.{CameFrom}
 use Rattle.server_model.proofs.Offered.{answers_stand, marked_stores_none}
 use Rattle.world_model.specs.Coupled.{Coupled}
-use Rattle.world_model.specs.Links.{link_at}
+use Rattle.world_model.specs.meaning.Links.{link_at}
 use Rattle.world_model.specs.records.Number.{numbered_after}
 use Rattle.world_model.specs.Parts.{is_commit_frame, is_unmarked_frame}
-use Rattle.world_model.specs.ServiceDid.{item_telling, front_telling}
-use Rattle.world_model.specs.Serving.{Front, is_commit, commits_after, identifier, is_item_of}
+use Rattle.world_model.specs.meaning.ServiceDid.{item_telling, front_telling}
+use Rattle.world_model.specs.meaning.Serving.{Front, is_commit, commits_after, identifier, is_item_of}
 use Rattle.world_model.specs.Traced.{Traced}
 use Rattle.world_model.proofs.number.Gaining.{commits_unmarked, one_of, gains_none}
 use Rattle.world_model.proofs.number.GainedQuiet.{entries_more, number_named, stored_now}

@@ -7,22 +7,23 @@ use Rattle.svc_values.specs.declared.entry.Entry.{Entry}
 use Rattle.svc_values.specs.declared.entry.SessionId.{SessionId}
 use Rattle.svc_values.specs.declared.frame.Up.{Up}
 use Rattle.svc_values.specs.declared.frame.Up.TheVariants as up
-use Rattle.svc_values.specs.Identifiers.{session_of, is_of_session}
+use Rattle.svc_values.specs.meaning.Identifiers.{session_of, is_of_session}
 use Rattle.outage_schedule.specs.declared.item.Served.{Served}
-use Rattle.run_clauses.specs.EntryEvents.{entries_of}
-use Rattle.server_model.specs.Outcomes.{Telling}
+use Rattle.run_clauses.specs.meaning.EntryEvents.{entries_of}
+use Rattle.server_model.specs.meaning.Outcomes.{Telling}
 use Rattle.server_model.specs.Runs.{Happened, Served as ServedFrame, Asked as WasAsked}
 use Rattle.server_model.specs.Laws.{CommitsAs}
 use Rattle.server_model.specs.ServiceCalls.{CameFrom, IsOf}
 use Rattle.server_model.specs.Seen.{Seen}
 use Rattle.world_model.specs.Coupled.{Coupled, HasStored}
 use Rattle.world_model.specs.records.Hold.{is_connect}
-use Rattle.world_model.specs.Links.{Link, link_at}
-use Rattle.world_model.specs.Machines.{Machine, next_session}
-use Rattle.world_model.specs.Matching.{Noted, Went, ServedOn, CutOff, Reaped, Crashed, Opened, OpeningStopped, Ticked, RanOutside, Asked, Drained}
+use Rattle.world_model.specs.meaning.Links.{Link, link_at}
+use Rattle.world_model.specs.meaning.Machines.{Machine, next_session}
+use Rattle.world_model.specs.meaning.Matching.{Noted, Went, ServedOn, CutOff, Reaped, Crashed, Opened, OpeningStopped, Ticked, RanOutside, Asked, Drained}
 use Rattle.world_model.specs.Parts.{number_of}
-use Rattle.world_model.specs.ServiceDid.{front_served, front_telling}
-use Rattle.world_model.specs.Serving.{Front, front_at}
+use Rattle.world_model.specs.meaning.ServiceDid.{front_telling}
+use Rattle.world_model.specs.ServiceDid.{front_served}
+use Rattle.world_model.specs.meaning.Serving.{Front, front_at}
 use Rattle.world_model.specs.Traced.{Traced}
 use Rattle.world_model.proofs.events.AllLinks.{front_is}
 use Rattle.world_model.proofs.number.Gaining.{commits_session, one_of, none_in, gains_none, DidOf}

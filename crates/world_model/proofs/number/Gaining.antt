@@ -14,23 +14,23 @@ use Rattle.svc_values.specs.declared.entry.SessionId.{SessionId}
 use Rattle.svc_values.specs.declared.frame.Up.{Up}
 use Rattle.svc_values.specs.declared.frame.Up.TheVariants as up
 use Rattle.svc_values.specs.declared.frame.Down.TheVariants as down
-use Rattle.svc_values.specs.Identifiers.{same_session, session_of, is_of_session, ltxid_of}
+use Rattle.svc_values.specs.meaning.Identifiers.{same_session, session_of, is_of_session, ltxid_of}
 use Rattle.outage_schedule.specs.declared.event.Event.{Event}
 use Rattle.outage_schedule.specs.declared.event.Event.TheVariants as event
 use Rattle.outage_schedule.specs.declared.note.Note.{Note}
 use Rattle.outage_schedule.specs.declared.note.Note.TheVariants as note
 use Rattle.outage_schedule.specs.declared.item.Served.{Served}
-use Rattle.run_clauses.specs.EntryEvents.{entries_of}
-use Rattle.server_model.specs.Outcomes.{Telling, Silent, Says, Stopped}
+use Rattle.run_clauses.specs.meaning.EntryEvents.{entries_of}
+use Rattle.server_model.specs.meaning.Outcomes.{Telling, Silent, Says, Stopped}
 use Rattle.server_model.specs.Runs.{Happened, Served as ServedFrame, Asked as WasAsked}
 use Rattle.server_model.specs.Laws.{CommitsAs}
 use Rattle.server_model.specs.ServiceCalls.{CameFrom, RunsAre, IsOf, begins_outside}
-use Rattle.world_model.specs.Links.{Link, link_at}
-use Rattle.world_model.specs.Machines.{Machine, Server, next_session}
-use Rattle.world_model.specs.Matching.{Noted, Went, ServedOn, CutOff, Reaped, Crashed, Opened, OpeningStopped, Ticked, RanOutside, Asked, Drained, matched}
-use Rattle.world_model.specs.Noting.{only_if}
+use Rattle.world_model.specs.meaning.Links.{Link, link_at}
+use Rattle.world_model.specs.meaning.Machines.{Machine, Server, next_session}
+use Rattle.world_model.specs.meaning.Matching.{Noted, Went, ServedOn, CutOff, Reaped, Crashed, Opened, OpeningStopped, Ticked, RanOutside, Asked, Drained, matched}
+use Rattle.world_model.specs.meaning.Noting.{only_if}
 use Rattle.world_model.specs.ServiceDid.{ServiceDid, front_served}
-use Rattle.world_model.specs.Serving.{front_at}
+use Rattle.world_model.specs.meaning.Serving.{front_at}
 use Rattle.world_model.specs.Parts.{is_unmarked_frame}
 use Rattle.world_model.specs.Sames.{all_with, each_pair}
 use Rattle.world_model.proofs.hold.Inserted.{as_with}

@@ -5,7 +5,7 @@ use Rattle.std.specs.List.{list_any}
 use Rattle.std.proofs.lemmas.Bool.{and_from, not_from_false}
 use Rattle.server_model.specs.Laws.{EntryNumbers}
 use Rattle.world_model.specs.OrderlyLaws.{IsKept}
-use Rattle.world_model.specs.Links.{Link}
+use Rattle.world_model.specs.meaning.Links.{Link}
 use Rattle.world_model.specs.records.Number.{cond_held, is_near, are_near, is_counted, are_counted, is_ahead, ahead_rightly, are_ahead, last_served_made}
 use Rattle.world_model.specs.Parts.{is_out, is_commit_call, number_of, held_number, implies}
 use Rattle.world_model.specs.Traced.{Traced}

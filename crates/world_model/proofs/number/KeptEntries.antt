@@ -3,15 +3,15 @@ use Rattle.std.proofs.Common.{◌≡◌, refl, sym, ap, subst, ◌∙◌, true, 
 use Rattle.std.specs.Prelude.{◌==◌, Result, Ok, Err}
 use Rattle.std.specs.List.{list_all}
 use Rattle.svc_values.specs.declared.entry.Entry.{Entry}
-use Rattle.svc_values.specs.Identifiers.{session_of}
+use Rattle.svc_values.specs.meaning.Identifiers.{session_of}
 use Rattle.commit_log.specs.declared.base.Base.{Base}
 use Rattle.commit_log.specs.declared.journal.Journal.{Journal}
-use Rattle.commit_log.specs.Journals.{journal_of}
+use Rattle.commit_log.specs.meaning.Journals.{journal_of}
 use Rattle.commit_log.specs.Keeping.{EachKeeps}
 use Rattle.outage_schedule.specs.declared.document.Document.{Document}
-use Rattle.run_clauses.specs.Before.{base_of, read_journal, given_journal, journal_before}
-use Rattle.run_clauses.specs.EntryEvents.{entries_of}
-use Rattle.server_model.specs.Base as base
+use Rattle.run_clauses.specs.meaning.Before.{base_of, read_journal, given_journal, journal_before}
+use Rattle.run_clauses.specs.meaning.EntryEvents.{entries_of}
+use Rattle.server_model.specs.meaning.Base as base
 use Rattle.server_model.specs.Seen.{Seen}
 use Rattle.server_model.specs.Laws.{StoresRight}
 use Rattle.server_model.proofs.Offered.{service_stores}

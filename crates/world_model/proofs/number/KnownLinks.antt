@@ -1,7 +1,7 @@
 -- What orderly states tell of a connection, by its number.
 use Rattle.std.proofs.Common.{◌≡◌, ℕ, Some}
 use Rattle.world_model.specs.Orderly.{Orderly}
-use Rattle.world_model.specs.Links.{Link, link_at}
+use Rattle.world_model.specs.meaning.Links.{Link, link_at}
 use Rattle.world_model.specs.records.Number.{is_told, served_near}
 use Rattle.world_model.specs.Traced.{Traced}
 use Rattle.world_model.specs.records.Wire.{is_sent_front, is_reply_front, handled_from, one_is_out}

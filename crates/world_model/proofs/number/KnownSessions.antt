@@ -12,16 +12,16 @@ use Rattle.svc_values.specs.declared.entry.Entry.{Entry}
 use Rattle.svc_values.specs.declared.entry.SessionId.{SessionId}
 use Rattle.svc_values.specs.declared.frame.Up.{Up}
 use Rattle.svc_values.specs.declared.frame.Up.TheVariants as up
-use Rattle.svc_values.specs.Identifiers.{same_session, session_of}
+use Rattle.svc_values.specs.meaning.Identifiers.{same_session, session_of}
 use Rattle.commit_log.specs.declared.base.Base.{Base}
 use Rattle.commit_log.specs.declared.journal.Journal.{Journal}
-use Rattle.commit_log.specs.Journals.{journal_of}
+use Rattle.commit_log.specs.meaning.Journals.{journal_of}
 use Rattle.commit_log.specs.Keeping.{EachKeeps}
 use Rattle.outage_schedule.specs.declared.event.Event.{Event}
 use Rattle.outage_schedule.specs.declared.item.Served.{Served}
 use Rattle.outage_schedule.specs.declared.note.Note.{Note}
-use Rattle.run_clauses.specs.Before.{base_of, read_journal, given_journal, journal_before}
-use Rattle.server_model.specs.Outcomes.{Telling}
+use Rattle.run_clauses.specs.meaning.Before.{base_of, read_journal, given_journal, journal_before}
+use Rattle.server_model.specs.meaning.Outcomes.{Telling}
 use Rattle.server_model.specs.Runs.{Happened, Served as ServedFrame, Asked as WasAsked}
 use Rattle.server_model.specs.Laws.{CommitsAs}
 use Rattle.server_model.specs.Seen.{Seen}
@@ -30,15 +30,16 @@ use Rattle.world_model.specs.records.Basic.{is_made, sessions_of}
 use Rattle.world_model.specs.records.Hold.{is_connect}
 use Rattle.world_model.specs.Orderly.{Orderly}
 use Rattle.world_model.specs.OrderlyLaws.{IsKept}
-use Rattle.world_model.specs.Links.{Link, link_at}
-use Rattle.world_model.specs.Machines.{next_session}
-use Rattle.world_model.specs.Matching.{Noted, Went, ServedOn, CutOff, Reaped, Crashed, Opened, OpeningStopped, Ticked, RanOutside, Asked, Drained}
+use Rattle.world_model.specs.meaning.Links.{Link, link_at}
+use Rattle.world_model.specs.meaning.Machines.{next_session}
+use Rattle.world_model.specs.meaning.Matching.{Noted, Went, ServedOn, CutOff, Reaped, Crashed, Opened, OpeningStopped, Ticked, RanOutside, Asked, Drained}
 use Rattle.world_model.specs.Parts.{is_unmarked_frame}
 use Rattle.world_model.specs.records.Number.{is_known, is_of_run, known_so_far}
 use Rattle.world_model.specs.OneEvent.{OneEvent}
 use Rattle.world_model.specs.Reached.{traced_start}
-use Rattle.world_model.specs.ServiceDid.{front_served, front_telling}
-use Rattle.world_model.specs.Serving.{Front, front_at}
+use Rattle.world_model.specs.meaning.ServiceDid.{front_telling}
+use Rattle.world_model.specs.ServiceDid.{front_served}
+use Rattle.world_model.specs.meaning.Serving.{Front, front_at}
 use Rattle.world_model.specs.Traced.{Traced}
 use Rattle.world_model.proofs.events.AllLists.{weaker_all}
 use Rattle.world_model.proofs.events.AllLinks.{front_is}

@@ -6,12 +6,12 @@ use Rattle.std.specs.Option.{option_map_or}
 use Rattle.std.proofs.lemmas.Bool.{and_from, or_left, or_right, or_parts}
 use Rattle.svc_values.specs.declared.frame.Down.{Down}
 use Rattle.outage_schedule.specs.declared.item.Served.{Served}
-use Rattle.world_model.specs.Frames.{Handled}
-use Rattle.world_model.specs.Links.{Link}
+use Rattle.world_model.specs.meaning.Frames.{Handled}
+use Rattle.world_model.specs.meaning.Links.{Link}
 use Rattle.world_model.specs.records.Number.{cond_held, is_stopped_call, last_is_stopped_commit}
 use Rattle.world_model.specs.Parts.{is_rep, is_out, out_frame, is_commit_call, held_number}
-use Rattle.world_model.specs.Serving.{Front, is_commit, commits_after, after_front, handled}
-use Rattle.world_model.specs.Crashing.{fallen_link}
+use Rattle.world_model.specs.meaning.Serving.{Front, is_commit, commits_after, after_front, handled}
+use Rattle.world_model.specs.meaning.Crashing.{fallen_link}
 use Rattle.world_model.proofs.number.NumbersItems.{plus_cond_one, plus_cond}
 use Rattle.world_model.proofs.events.Tests.{eq_to}
 use Rattle.world_model.proofs.basic.Ends.{handled_alike, fallen_case}

@@ -9,8 +9,8 @@ use Rattle.svc_values.specs.declared.frame.Up.{Up}
 use Rattle.svc_values.specs.declared.frame.Up.TheVariants as up
 use Rattle.svc_values.specs.declared.frame.Down.{Down}
 use Rattle.client_model.specs.declared.input.Input.TheVariants.{Took}
-use Rattle.world_model.specs.Frames.{Sent, Reply, Handled}
-use Rattle.world_model.specs.Links.{Link, told_by}
+use Rattle.world_model.specs.meaning.Frames.{Sent, Reply, Handled}
+use Rattle.world_model.specs.meaning.Links.{Link, told_by}
 use Rattle.world_model.specs.records.Wire.{replies_of, is_sent_front, is_reply_front, handled_from, is_handled, one_is_out}
 use Rattle.world_model.specs.Sames.{same_sent, same_down, same_reply, is_front}
 use Rattle.world_model.specs.records.Number.{cond_held, is_told as tells_held, is_stopped_call, last_is_stopped_commit, last_served_made, served_near}

@@ -6,10 +6,10 @@ use Rattle.svc_values.specs.declared.frame.Down.{Down}
 use Rattle.svc_values.specs.declared.frame.Down.TheVariants as down
 use Rattle.svc_values.specs.SameLaws.{same_ltxid_decides}
 use Rattle.client_model.specs.declared.input.Input.TheVariants.{Took}
-use Rattle.world_model.specs.Frames.{Reply}
-use Rattle.world_model.specs.Links.{Link, told_by, takes}
-use Rattle.world_model.specs.Machines.{Machine}
-use Rattle.world_model.specs.Serving.{after_front}
+use Rattle.world_model.specs.meaning.Frames.{Reply}
+use Rattle.world_model.specs.meaning.Links.{Link, told_by, takes}
+use Rattle.world_model.specs.meaning.Machines.{Machine}
+use Rattle.world_model.specs.meaning.Serving.{after_front}
 use Rattle.world_model.specs.records.Hold.{same_held}
 use Rattle.world_model.specs.records.Number.{told_in, last_told, is_told}
 use Rattle.world_model.proofs.events.AllLinks.{Keeps}

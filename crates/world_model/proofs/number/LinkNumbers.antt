@@ -13,10 +13,10 @@ use Rattle.svc_values.specs.declared.frame.Down.TheVariants as down
 use Rattle.client_model.specs.declared.input.Input.TheVariants.{Took}
 use Rattle.outage_schedule.specs.declared.item.Item.{Item}
 use Rattle.outage_schedule.specs.declared.item.Item.TheVariants as item
-use Rattle.world_model.specs.Frames.{Reply, Handled}
-use Rattle.world_model.specs.Links.{told_by}
-use Rattle.world_model.specs.Serving.{is_commit, is_item_of, reply_of}
-use Rattle.world_model.specs.Crashing.{is_crashed_item}
+use Rattle.world_model.specs.meaning.Frames.{Reply, Handled}
+use Rattle.world_model.specs.meaning.Links.{told_by}
+use Rattle.world_model.specs.meaning.Serving.{is_commit, is_item_of, reply_of}
+use Rattle.world_model.specs.meaning.Crashing.{is_crashed_item}
 use Rattle.world_model.specs.Sames.{same_sent, same_down, same_reply, is_front}
 use Rattle.world_model.specs.records.Wire.{reply_to, same_replies, is_handled, counted_with, handled_from}
 use Rattle.world_model.specs.records.Number.{told_in, is_stopped_call}

@@ -8,15 +8,15 @@ use Rattle.std.proofs.lemmas.List.Folds.{list_any-append}
 use Rattle.svc_values.specs.declared.entry.Ltxid.{Ltxid}
 use Rattle.svc_values.specs.declared.frame.Down.{Down}
 use Rattle.client_model.specs.declared.input.Input.TheVariants.{Took}
-use Rattle.world_model.specs.Frames.{Sent, Reply, Handled}
+use Rattle.world_model.specs.meaning.Frames.{Sent, Reply, Handled}
 use Rattle.world_model.specs.records.Hold.{is_idle}
-use Rattle.world_model.specs.Links.{Link, told_by, sends, takes}
+use Rattle.world_model.specs.meaning.Links.{Link, told_by, sends, takes}
 use Rattle.world_model.specs.Sames.{same_sent}
 use Rattle.world_model.specs.records.Number.{is_stopped_call, last_is_stopped_commit, made_entry, last_served_made}
 use Rattle.world_model.specs.Parts.{count_reps, out_frame, is_commit_call, held_number}
-use Rattle.world_model.specs.Serving.{is_commit}
-use Rattle.world_model.specs.Cutting.{cut_link, reaped_link}
-use Rattle.world_model.specs.Crashing.{fallen_link}
+use Rattle.world_model.specs.meaning.Serving.{is_commit}
+use Rattle.world_model.specs.meaning.Cutting.{cut_link, reaped_link}
+use Rattle.world_model.specs.meaning.Crashing.{fallen_link}
 use Rattle.world_model.proofs.events.Tests.{eq_from}
 use Rattle.world_model.proofs.basic.Ends.{sends_alike, cut_case, fallen_case}
 use Rattle.world_model.proofs.wire.FrontLists.{Begins, whole_begins}

@@ -9,10 +9,10 @@ use Rattle.std.proofs.lemmas.List.Elements.{filter-append}
 use Rattle.std.proofs.lemmas.List.Sums.{length-filter}
 use Rattle.svc_values.specs.declared.entry.Ltxid.{Ltxid}
 use Rattle.svc_values.specs.declared.entry.SessionId.{SessionId}
-use Rattle.svc_values.specs.Same.{same_bool}
+use Rattle.svc_values.specs.meaning.Same.{same_bool}
 use Rattle.world_model.specs.records.Basic.{is_named, first_is_connect}
-use Rattle.world_model.specs.Frames.{Sent, Reply, Handled}
-use Rattle.world_model.specs.Links.{Link}
+use Rattle.world_model.specs.meaning.Frames.{Sent, Reply, Handled}
+use Rattle.world_model.specs.meaning.Links.{Link}
 use Rattle.world_model.specs.records.Wire.{up_of, replies_of, is_sent_front, is_fresh}
 use Rattle.world_model.specs.Sames.{same_sent, same_reply, is_front}
 use Rattle.world_model.specs.records.Number.{last_told, made_entry}

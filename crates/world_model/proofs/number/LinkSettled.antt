@@ -10,10 +10,10 @@ use Rattle.svc_values.specs.declared.frame.Up.{Up}
 use Rattle.svc_values.specs.declared.frame.Up.TheVariants as up
 use Rattle.outage_schedule.specs.declared.item.Item.{Item}
 use Rattle.outage_schedule.specs.declared.item.Item.TheVariants as item
-use Rattle.client_model.specs.Terms.{Phase, Greeting, Asked}
-use Rattle.world_model.specs.Frames.{Owner, Sent, Handled}
-use Rattle.world_model.specs.Links.{Link}
-use Rattle.world_model.specs.Serving.{is_item_of, is_blocked}
+use Rattle.client_model.specs.meaning.Terms.{Phase, Greeting, Asked}
+use Rattle.world_model.specs.meaning.Frames.{Owner, Sent, Handled}
+use Rattle.world_model.specs.meaning.Links.{Link}
+use Rattle.world_model.specs.meaning.Serving.{is_item_of, is_blocked}
 use Rattle.world_model.specs.records.Hold.{is_awaited, is_connect, is_ask}
 use Rattle.world_model.specs.records.Basic.{lives_rightly}
 use Rattle.world_model.specs.records.Wire.{up_of, nothing_cut, is_sent_front, replies_of, is_reply_front, handled_from}

@@ -9,13 +9,13 @@ use Rattle.std.proofs.lemmas.List.Sums.{sum_by-cons, sum_by_push}
 use Rattle.svc_values.specs.declared.entry.Ltxid.{Ltxid}
 use Rattle.svc_values.specs.declared.entry.Entry.{Entry}
 use Rattle.svc_values.specs.declared.entry.SessionId.{SessionId}
-use Rattle.svc_values.specs.Identifiers.{is_of_session, session_of, same_ltxid, ltxid_of}
+use Rattle.svc_values.specs.meaning.Identifiers.{is_of_session, session_of, same_ltxid, ltxid_of}
 use Rattle.svc_values.specs.SameLaws.{same_ltxid_decides}
-use Rattle.ltxid_book.specs.Journal.{Committed, committed_of, commits_of}
+use Rattle.ltxid_book.specs.meaning.Journal.{Committed, committed_of, commits_of}
 use Rattle.commit_log.specs.Keeping.{ltxids_of}
 use Rattle.server_model.specs.Laws.{AreNumbered}
-use Rattle.run_clauses.specs.EntryEvents.{entries_of}
-use Rattle.run_clauses.specs.Tried.{holds}
+use Rattle.run_clauses.specs.meaning.EntryEvents.{entries_of}
+use Rattle.run_clauses.specs.meaning.Tried.{holds}
 use Rattle.world_model.specs.records.Number.{numbered_after}
 use Rattle.world_model.proofs.number.Blocks.{commits_count}
 use Rattle.world_model.proofs.hold.Held.{counted_self}

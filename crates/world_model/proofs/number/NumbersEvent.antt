@@ -8,32 +8,33 @@ use Rattle.svc_values.specs.declared.entry.Entry.{Entry}
 use Rattle.svc_values.specs.declared.entry.SessionId.{SessionId}
 use Rattle.svc_values.specs.declared.frame.Up.{Up}
 use Rattle.svc_values.specs.declared.frame.Up.TheVariants as up
-use Rattle.svc_values.specs.Identifiers.{session_of}
+use Rattle.svc_values.specs.meaning.Identifiers.{session_of}
 use Rattle.client_model.specs.declared.input.Input.TheVariants.{Took}
 use Rattle.outage_schedule.specs.declared.event.Event.{Event}
 use Rattle.outage_schedule.specs.declared.item.Served.{Served}
 use Rattle.outage_schedule.specs.declared.note.Note.{Note}
-use Rattle.run_clauses.specs.EntryEvents.{entries_of}
+use Rattle.run_clauses.specs.meaning.EntryEvents.{entries_of}
 use Rattle.server_model.specs.Laws.{EntryNumbers}
 use Rattle.server_model.specs.Runs.{Served as ServedFrame}
 use Rattle.server_model.specs.Seen.{Seen}
 use Rattle.world_model.specs.records.Basic.{is_made, is_named, sessions_of}
-use Rattle.world_model.specs.Frames.{Sent, Handled}
+use Rattle.world_model.specs.meaning.Frames.{Sent, Handled}
 use Rattle.world_model.specs.records.Hold.{is_connect}
 use Rattle.world_model.specs.Orderly.{Orderly}
-use Rattle.world_model.specs.Links.{Link, new_link, link_at, sends, takes}
-use Rattle.world_model.specs.Acting.{sent_by}
-use Rattle.world_model.specs.Machines.{Machine, next_session}
-use Rattle.world_model.specs.Matching.{Noted, ServedOn, Crashed}
+use Rattle.world_model.specs.meaning.Links.{Link, new_link, link_at, sends, takes}
+use Rattle.world_model.specs.meaning.Acting.{sent_by}
+use Rattle.world_model.specs.meaning.Machines.{Machine, next_session}
+use Rattle.world_model.specs.meaning.Matching.{Noted, ServedOn, Crashed}
 use Rattle.world_model.specs.records.Number.{numbered_after, is_known, is_near, is_counted, ahead_rightly, is_told, served_near}
 use Rattle.world_model.specs.OneEvent.{OneEvent}
 use Rattle.world_model.specs.Parts.{number_of, is_commit_call, is_commit_frame, is_unmarked_frame, implies}
-use Rattle.world_model.specs.Serving.{Front, front_at, is_of_front, is_ordinary, is_item_of, is_served_by, is_commit, is_last, commits_after, after_front, handled}
-use Rattle.world_model.specs.Cutting.{cut_link, reaped_link}
-use Rattle.world_model.specs.Crashing.{is_crashed_item, fallen_link}
-use Rattle.world_model.specs.ServiceDid.{front_served, front_telling}
+use Rattle.world_model.specs.meaning.Serving.{Front, front_at, is_of_front, is_ordinary, is_item_of, is_served_by, is_commit, is_last, commits_after, after_front, handled}
+use Rattle.world_model.specs.meaning.Cutting.{cut_link, reaped_link}
+use Rattle.world_model.specs.meaning.Crashing.{is_crashed_item, fallen_link}
+use Rattle.world_model.specs.meaning.ServiceDid.{front_telling}
+use Rattle.world_model.specs.ServiceDid.{front_served}
 use Rattle.world_model.specs.Traced.{Traced}
-use Rattle.world_model.specs.Walking.{by_kind}
+use Rattle.world_model.specs.meaning.Walking.{by_kind}
 use Rattle.world_model.specs.records.Wire.{is_fresh, is_sent_front, is_reply_front, handled_from, one_is_out}
 use Rattle.world_model.proofs.basic.Ends.{sends_alike, handled_alike, cut_case, fallen_case}
 use Rattle.world_model.proofs.events.AllLinks.{IsFront, front_is, at_link}

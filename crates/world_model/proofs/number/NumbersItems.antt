@@ -11,14 +11,14 @@ use Rattle.outage_schedule.specs.declared.item.Item.TheVariants as item
 use Rattle.outage_schedule.specs.declared.item.Served.{Served}
 use Rattle.outage_schedule.specs.declared.note.AskResult.{AskResult}
 use Rattle.outage_schedule.specs.declared.note.AskResult.TheVariants as told
-use Rattle.server_model.specs.Outcomes.{Stopped}
+use Rattle.server_model.specs.meaning.Outcomes.{Stopped}
 use Rattle.world_model.specs.records.Hold.{is_connect}
-use Rattle.world_model.specs.Links.{Link, link_at}
+use Rattle.world_model.specs.meaning.Links.{Link, link_at}
 use Rattle.world_model.specs.records.Number.{is_near, is_counted, ahead_rightly, is_stopped_call}
 use Rattle.world_model.specs.Parts.{number_of, held_number, is_answered, is_commit_frame, is_unmarked_frame, is_out}
-use Rattle.world_model.specs.Serving.{Front, front_at, is_item_of, is_commit, is_last}
-use Rattle.world_model.specs.Crashing.{is_crashed_item}
-use Rattle.world_model.specs.ServiceDid.{item_telling}
+use Rattle.world_model.specs.meaning.Serving.{Front, front_at, is_item_of, is_commit, is_last}
+use Rattle.world_model.specs.meaning.Crashing.{is_crashed_item}
+use Rattle.world_model.specs.meaning.ServiceDid.{item_telling}
 use Rattle.world_model.specs.Traced.{Traced}
 use Rattle.world_model.proofs.events.AllLinks.{front_is}
 use Rattle.world_model.proofs.number.LinkCounts.{Right}

@@ -5,18 +5,18 @@ use Rattle.std.specs.List.{list_all}
 use Rattle.std.proofs.lemmas.Bool.{and_parts, and_from, or_cases}
 use Rattle.svc_values.specs.declared.entry.Entry.{Entry}
 use Rattle.svc_values.specs.declared.entry.SessionId.{SessionId}
-use Rattle.svc_values.specs.Identifiers.{session_of, is_of_session}
+use Rattle.svc_values.specs.meaning.Identifiers.{session_of, is_of_session}
 use Rattle.outage_schedule.specs.declared.item.Served.{Served}
 use Rattle.outage_schedule.specs.declared.note.FrameName.{FrameName}
-use Rattle.run_clauses.specs.EntryEvents.{entries_of}
-use Rattle.world_model.specs.Links.{Link, link_at}
-use Rattle.world_model.specs.Machines.{Server, Machine, next_session}
-use Rattle.world_model.specs.Settings.{Setting}
-use Rattle.world_model.specs.Matching.{Noted, ServedOn, Crashed}
-use Rattle.world_model.specs.Noting.{only_if, same_name, name_of}
-use Rattle.world_model.specs.Serving.{Front, front_at, is_of_front, is_ordinary, is_item_of, serves, after_served}
-use Rattle.world_model.specs.Crashing.{is_stopped, is_over, falls, serves_last, after_stopped}
-use Rattle.world_model.specs.Walking.{by_kind}
+use Rattle.run_clauses.specs.meaning.EntryEvents.{entries_of}
+use Rattle.world_model.specs.meaning.Links.{Link, link_at}
+use Rattle.world_model.specs.meaning.Machines.{Server, Machine, next_session}
+use Rattle.world_model.specs.meaning.Settings.{Setting}
+use Rattle.world_model.specs.meaning.Matching.{Noted, ServedOn, Crashed}
+use Rattle.world_model.specs.meaning.Noting.{only_if, same_name, name_of}
+use Rattle.world_model.specs.meaning.Serving.{Front, front_at, is_of_front, is_ordinary, is_item_of, serves, after_served}
+use Rattle.world_model.specs.meaning.Crashing.{is_stopped, is_over, falls, serves_last, after_stopped}
+use Rattle.world_model.specs.meaning.Walking.{by_kind}
 use Rattle.world_model.proofs.number.Gaining.{made_before}
 use Rattle.world_model.proofs.number.GainedQuiet.{serves_at}
 use Rattle.world_model.proofs.events.Happened.{left_or}

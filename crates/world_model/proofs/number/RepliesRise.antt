@@ -9,17 +9,17 @@ use Rattle.svc_values.specs.declared.entry.SessionId.{SessionId}
 use Rattle.svc_values.specs.declared.entry.Ltxid.{Ltxid}
 use Rattle.svc_values.specs.declared.frame.Down.{Down}
 use Rattle.svc_values.specs.declared.frame.Down.TheVariants as down
-use Rattle.svc_values.specs.Identifiers.{same_ltxid}
-use Rattle.svc_values.specs.Same.{same_answers, same_draws}
+use Rattle.svc_values.specs.meaning.Identifiers.{same_ltxid}
+use Rattle.svc_values.specs.meaning.Same.{same_answers, same_draws}
 use Rattle.client_model.specs.declared.input.Input.TheVariants.{Took}
 use Rattle.outage_schedule.specs.declared.item.Item.{Item}
 use Rattle.outage_schedule.specs.declared.item.Item.TheVariants as item
 use Rattle.outage_schedule.specs.declared.note.AskResult.{AskResult}
 use Rattle.outage_schedule.specs.declared.note.AskResult.TheVariants as told
-use Rattle.world_model.specs.Frames.{Reply, Handled}
-use Rattle.world_model.specs.Links.{Link, told_by}
-use Rattle.world_model.specs.Serving.{is_commit, is_item_of, reply_of, outcome_frame}
-use Rattle.world_model.specs.Crashing.{is_crashed_item}
+use Rattle.world_model.specs.meaning.Frames.{Reply, Handled}
+use Rattle.world_model.specs.meaning.Links.{Link, told_by}
+use Rattle.world_model.specs.meaning.Serving.{is_commit, is_item_of, reply_of, outcome_frame}
+use Rattle.world_model.specs.meaning.Crashing.{is_crashed_item}
 use Rattle.world_model.specs.Sames.{same_sent, same_down, same_reply, is_front}
 use Rattle.world_model.specs.records.Wire.{reply_to, replies_of, is_reply_front, same_replies, is_handled, counted_with, handled_from}
 use Rattle.world_model.specs.records.Number.{told_in, last_told}

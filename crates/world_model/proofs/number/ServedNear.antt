@@ -6,10 +6,10 @@ use Rattle.std.proofs.lemmas.Bool.{and_parts, and_from, or_cases}
 use Rattle.std.proofs.lemmas.List.Elements.{filter-append}
 use Rattle.std.proofs.lemmas.List.Sums.{length-filter}
 use Rattle.svc_values.specs.declared.frame.Down.{Down}
-use Rattle.world_model.specs.Frames.{Sent, Reply, Handled}
-use Rattle.world_model.specs.Links.{Link}
-use Rattle.world_model.specs.Serving.{is_item_of, reply_of}
-use Rattle.world_model.specs.Crashing.{is_crashed_item}
+use Rattle.world_model.specs.meaning.Frames.{Sent, Reply, Handled}
+use Rattle.world_model.specs.meaning.Links.{Link}
+use Rattle.world_model.specs.meaning.Serving.{is_item_of, reply_of}
+use Rattle.world_model.specs.meaning.Crashing.{is_crashed_item}
 use Rattle.world_model.specs.Parts.{is_rep, count_reps}
 use Rattle.world_model.specs.Sames.{same_sent, same_reply, is_front}
 use Rattle.world_model.specs.records.Wire.{up_of, reply_to, replies_of, is_sent_front, is_reply_front, same_replies, is_handled, counted_with, handled_from, one_is_out}

@@ -8,17 +8,17 @@ use Rattle.std.proofs.lemmas.Option.{slice_get_within}
 use Rattle.svc_values.specs.declared.draw.Draw.{Draw}
 use Rattle.svc_values.specs.declared.frame.Up.{Up}
 use Rattle.svc_values.specs.declared.frame.Up.TheVariants as up
-use Rattle.svc_values.specs.Same.{same_draws}
+use Rattle.svc_values.specs.meaning.Same.{same_draws}
 use Rattle.call_recorder.specs.declared.recorded.Recorded.{Recorded}
 use Rattle.outage_schedule.specs.declared.request.ShownCall.{ShownCall}
-use Rattle.client_model.specs.Account.{Account}
-use Rattle.client_model.specs.States.{Repeating, next_of}
-use Rattle.client_model.specs.Terms.{Terms, Phase, Replaying}
-use Rattle.client_model.specs.Verifying.{index_of}
+use Rattle.client_model.specs.meaning.Account.{Account}
+use Rattle.client_model.specs.meaning.States.{Repeating, next_of}
+use Rattle.client_model.specs.meaning.Terms.{Terms, Phase, Replaying}
+use Rattle.client_model.specs.meaning.Verifying.{index_of}
 use Rattle.client_model.proofs.Offered.{Fits}
-use Rattle.world_model.specs.Clients.{Doing}
-use Rattle.world_model.specs.Frames.{Sent}
-use Rattle.world_model.specs.Links.{Link}
+use Rattle.world_model.specs.meaning.Clients.{Doing}
+use Rattle.world_model.specs.meaning.Frames.{Sent}
+use Rattle.world_model.specs.meaning.Links.{Link}
 use Rattle.world_model.specs.Parts.{implies}
 use Rattle.world_model.specs.Sames.{owned_by}
 use Rattle.world_model.specs.records.Script.{has_shown_draws}

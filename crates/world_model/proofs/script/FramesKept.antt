@@ -10,22 +10,22 @@ use Rattle.outage_schedule.specs.declared.document.Request.{Request}
 use Rattle.outage_schedule.specs.declared.event.Event.{Event}
 use Rattle.outage_schedule.specs.declared.item.Served.{Served}
 use Rattle.outage_schedule.specs.declared.note.Note.{Note}
-use Rattle.run_clauses.specs.Reports.{shown_call}
+use Rattle.run_clauses.specs.meaning.Reports.{shown_call}
 use Rattle.server_model.specs.Seen.{Seen}
-use Rattle.world_model.specs.Acting.{frames_of, sent_by, call_in, owner_at}
-use Rattle.world_model.specs.Clients.{Doing, Client, begun, client_at, past_of}
+use Rattle.world_model.specs.meaning.Acting.{frames_of, sent_by, call_in, owner_at}
+use Rattle.world_model.specs.meaning.Clients.{Doing, Client, begun, client_at, past_of}
 use Rattle.world_model.specs.records.Conversing.{AllTalk}
-use Rattle.world_model.specs.Frames.{Owner, Sent}
+use Rattle.world_model.specs.meaning.Frames.{Owner, Sent}
 use Rattle.world_model.specs.Orderly.{Orderly}
-use Rattle.world_model.specs.Links.{Link}
-use Rattle.world_model.specs.Machines.{Machine}
+use Rattle.world_model.specs.meaning.Links.{Link}
+use Rattle.world_model.specs.meaning.Machines.{Machine}
 use Rattle.world_model.specs.OneEvent.{OneEvent}
-use Rattle.world_model.specs.Outside.{closed_by_drain}
+use Rattle.world_model.specs.meaning.Outside.{closed_by_drain}
 use Rattle.world_model.specs.Parts.{implies}
 use Rattle.world_model.specs.Reached.{traced_start}
 use Rattle.world_model.specs.Sames.{same_owner, owned_by}
 use Rattle.world_model.specs.records.Script.{owned_rightly}
-use Rattle.world_model.specs.Settings.{Setting}
+use Rattle.world_model.specs.meaning.Settings.{Setting}
 use Rattle.world_model.specs.Traced.{Traced, Course, course_now, course_over, courses_of_clients, courses_of}
 use Rattle.world_model.specs.Words.{held_in}
 use Rattle.world_model.proofs.events.AllLists.{map_all, weaker_all}

@@ -15,8 +15,8 @@ use Rattle.outage_schedule.specs.declared.document.Failover.TheVariants as failo
 use Rattle.outage_schedule.specs.declared.document.Consistency.{Consistency}
 use Rattle.outage_schedule.specs.declared.document.Consistency.TheVariants as consistency
 use Rattle.outage_schedule.specs.declared.request.ShownCall.{ShownCall}
-use Rattle.request_bounds.specs.Replies.{ends_decided}
-use Rattle.request_bounds.specs.Rules.{Rules}
+use Rattle.request_bounds.specs.meaning.Replies.{ends_decided}
+use Rattle.request_bounds.specs.meaning.Rules.{Rules}
 use Rattle.request_bounds.specs.declared.rule.After.{After}
 use Rattle.request_bounds.specs.declared.rule.After.TheVariants as after
 use Rattle.request_bounds.specs.declared.rule.Why.{Why}
@@ -25,13 +25,13 @@ use Rattle.client_model.specs.declared.act.Shown.{Shown}
 use Rattle.client_model.specs.declared.input.Input.{Input}
 use Rattle.client_model.specs.declared.input.Input.TheVariants.{Start, Waiting, Lent, Opened, TryFailed, Took, Gone}
 use Rattle.client_model.specs.declared.track.Track.{Track}
-use Rattle.client_model.specs.Account.{Account, unheard, hears, hears_outcome, hears_reply, shows, shows_found, since_after, purged_after, reply_reason, begins, sends, before_sends, after_step, account_of}
-use Rattle.client_model.specs.Conversation.{Done}
-use Rattle.client_model.specs.Talk.{with_reply, with_recorded, recorded_as}
-use Rattle.client_model.specs.Terms.{Terms}
-use Rattle.run_clauses.specs.Reports.{shown_call}
+use Rattle.client_model.specs.meaning.Account.{Account, unheard, hears, hears_outcome, hears_reply, shows, shows_found, since_after, purged_after, reply_reason, begins, sends, before_sends, after_step, account_of}
+use Rattle.client_model.specs.meaning.Conversation.{Done}
+use Rattle.client_model.specs.meaning.Talk.{with_reply, with_recorded, recorded_as}
+use Rattle.client_model.specs.meaning.Terms.{Terms}
+use Rattle.run_clauses.specs.meaning.Reports.{shown_call}
 use Rattle.world_model.specs.records.Script.{behind_decided, recorded_from}
-use Rattle.world_model.specs.Settings.{rules_of}
+use Rattle.world_model.specs.meaning.Settings.{rules_of}
 use Rattle.world_model.proofs.events.Tests.{le_to}
 use Rattle.world_model.proofs.script.TalkTracks.{IsOfTracks}
 

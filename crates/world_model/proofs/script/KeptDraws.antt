@@ -8,21 +8,21 @@ use Rattle.svc_values.specs.declared.call.Call.{Call}
 use Rattle.svc_values.specs.declared.draw.Draw.{Draw}
 use Rattle.svc_values.specs.declared.frame.Up.{Up}
 use Rattle.svc_values.specs.declared.frame.Up.TheVariants as up
-use Rattle.svc_values.specs.Same.{same_call, same_draws}
+use Rattle.svc_values.specs.meaning.Same.{same_call, same_draws}
 use Rattle.call_recorder.specs.declared.recorded.Recorded.{Recorded}
 use Rattle.outage_schedule.specs.declared.request.ShownCall.{ShownCall}
 use Rattle.client_model.specs.declared.act.Shown.{Shown}
-use Rattle.client_model.specs.States.{Repeating, next_of}
-use Rattle.client_model.specs.Terms.{Phase, Idle, Unbegun, Queued, Seeking, Greeting, Asked, Running, Replaying}
-use Rattle.client_model.specs.Verifying.{index_of}
-use Rattle.world_model.specs.Acting.{frames_of, call_in}
-use Rattle.world_model.specs.Clients.{Doing}
+use Rattle.client_model.specs.meaning.States.{Repeating, next_of}
+use Rattle.client_model.specs.meaning.Terms.{Phase, Idle, Unbegun, Queued, Seeking, Greeting, Asked, Running, Replaying}
+use Rattle.client_model.specs.meaning.Verifying.{index_of}
+use Rattle.world_model.specs.meaning.Acting.{frames_of, call_in}
+use Rattle.world_model.specs.meaning.Clients.{Doing}
 use Rattle.world_model.specs.records.Conversing.{AllTalk}
 use Rattle.world_model.specs.OrderlyLaws.{IsKept}
-use Rattle.world_model.specs.Machines.{Machine}
-use Rattle.run_clauses.specs.Reports.{shown_call}
+use Rattle.world_model.specs.meaning.Machines.{Machine}
+use Rattle.run_clauses.specs.meaning.Reports.{shown_call}
 use Rattle.world_model.specs.records.Script.{has_shown_draws, carry_draws}
-use Rattle.world_model.specs.Settings.{Setting}
+use Rattle.world_model.specs.meaning.Settings.{Setting}
 use Rattle.world_model.specs.Traced.{Course, course_now}
 use Rattle.world_model.proofs.events.AllLists.{weaker_all}
 use Rattle.world_model.proofs.events.ClientSteps.{HasStepped}

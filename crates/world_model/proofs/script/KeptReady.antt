@@ -9,8 +9,8 @@ use Rattle.outage_schedule.specs.declared.document.Consistency.TheVariants as co
 use Rattle.outage_schedule.specs.declared.document.Client.{Client as Scripted}
 use Rattle.outage_schedule.specs.declared.document.Document.{Document}
 use Rattle.outage_schedule.specs.declared.document.Request.{Request}
-use Rattle.world_model.specs.Settings.{Setting, rules_of, setting_of}
-use Rattle.world_model.specs.Clients.{resting}
+use Rattle.world_model.specs.meaning.Settings.{Setting, rules_of, setting_of}
+use Rattle.world_model.specs.meaning.Clients.{resting}
 use Rattle.world_model.specs.OrderlyLaws.{IsKeptOfCalls}
 use Rattle.world_model.specs.records.Ready.{has_calls, is_rightly_repeated, is_right_request, all_requests_right, is_ready_client, are_ready}
 use Rattle.world_model.proofs.events.AllLists.{map_all, weaker_all}

@@ -12,20 +12,20 @@ use Rattle.outage_schedule.specs.declared.document.Request.{Request}
 use Rattle.client_model.specs.declared.input.Input.{Input}
 use Rattle.client_model.specs.declared.input.Input.TheVariants.{Lent}
 use Rattle.client_model.specs.Conversation.{is_wanted, is_gone, may_come}
-use Rattle.client_model.specs.Talk.{wants_of}
-use Rattle.world_model.specs.Acting.{frames_of, sent_by, call_in, owner_at}
-use Rattle.world_model.specs.Clients.{Doing, Client, begun, client_at, resting}
+use Rattle.client_model.specs.meaning.Talk.{wants_of}
+use Rattle.world_model.specs.meaning.Acting.{frames_of, sent_by, call_in, owner_at}
+use Rattle.world_model.specs.meaning.Clients.{Doing, Client, begun, client_at, resting}
 use Rattle.world_model.specs.records.Conversing.{AllTalk}
-use Rattle.world_model.specs.Frames.{Owner, Sent}
+use Rattle.world_model.specs.meaning.Frames.{Owner, Sent}
 use Rattle.world_model.specs.OrderlyLaws.{IsKept}
-use Rattle.world_model.specs.Links.{Link, link_at}
-use Rattle.world_model.specs.Machines.{Machine}
-use Rattle.world_model.specs.Outside.{closed_by_drain}
+use Rattle.world_model.specs.meaning.Links.{Link, link_at}
+use Rattle.world_model.specs.meaning.Machines.{Machine}
+use Rattle.world_model.specs.meaning.Outside.{closed_by_drain}
 use Rattle.world_model.specs.Parts.{Sending, is_unmarked}
 use Rattle.world_model.specs.records.Ready.{is_ready_client}
 use Rattle.world_model.specs.Sames.{owned_by}
 use Rattle.world_model.specs.records.Script.{is_sending_of, all_sent, owned_rightly}
-use Rattle.world_model.specs.Settings.{Setting, setting_of}
+use Rattle.world_model.specs.meaning.Settings.{Setting, setting_of}
 use Rattle.world_model.specs.Traced.{Traced, Course, courses_of_clients, courses_of}
 use Rattle.world_model.specs.Words.{brought, held_in}
 use Rattle.world_model.proofs.events.AllLists.{append_all, weaker_all}

@@ -1,6 +1,6 @@
 -- Of Script: the conversations of all requests, and their reports, at the start and behind each event.
 use Rattle.std.proofs.Common.{sym, subst}
-use Rattle.world_model.specs.Settings.{Setting, setting_of}
+use Rattle.world_model.specs.meaning.Settings.{Setting, setting_of}
 use Rattle.world_model.specs.records.Conversing.{AllTalk}
 use Rattle.world_model.specs.Reached.{traced_start}
 use Rattle.world_model.specs.OrderlyLaws.{IsKept, TalksBegin, TalksAreKept}

@@ -4,23 +4,25 @@ use Rattle.std.specs.Prelude.{◌==◌, nat_le, is_some, is_none}
 use Rattle.std.specs.Option.{option_map_or}
 use Rattle.std.specs.Str.{bytes_eq}
 use Rattle.std.proofs.lemmas.Bool.{and_from}
-use Rattle.svc_values.specs.Same.{same_bool, same_call, same_draws}
+use Rattle.svc_values.specs.meaning.Same.{same_bool, same_call, same_draws}
 use Rattle.svc_values.specs.SameLaws.{same_call_decides}
 use Rattle.call_recorder.specs.declared.recorded.Recorded.{Recorded}
 use Rattle.outage_schedule.specs.declared.document.Document.{Document}
 use Rattle.client_model.specs.declared.track.Track.{Track}
-use Rattle.client_model.specs.Account.{Account, account_of, count_uncommitted, set_shown}
-use Rattle.client_model.specs.Conversation.{Done, talk_after}
+use Rattle.client_model.specs.meaning.Account.{Account, account_of}
+use Rattle.client_model.specs.Account.{count_uncommitted, set_shown}
+use Rattle.client_model.specs.meaning.Conversation.{Done}
+use Rattle.client_model.specs.Conversation.{talk_after}
 use Rattle.client_model.specs.Laws.{track_of, IsKept as KeepsTold}
-use Rattle.client_model.specs.Terms.{Talk}
+use Rattle.client_model.specs.meaning.Terms.{Talk}
 use Rattle.client_model.proofs.Offered.{keeps_what_is_told}
-use Rattle.world_model.specs.Settings.{Setting, setting_of}
-use Rattle.world_model.specs.Clients.{Doing}
+use Rattle.world_model.specs.meaning.Settings.{Setting, setting_of}
+use Rattle.world_model.specs.meaning.Clients.{Doing}
 use Rattle.world_model.specs.records.Conversing.{AllTalk, Talks, inputs_of, first_talk}
 use Rattle.world_model.specs.OrderlyLaws.{IsKeptOfCalls}
 use Rattle.world_model.specs.Parts.{implies}
 use Rattle.world_model.specs.Reached.{traced_start}
-use Rattle.run_clauses.specs.Reports.{shown_call}
+use Rattle.run_clauses.specs.meaning.Reports.{shown_call}
 use Rattle.world_model.specs.records.Script.{same_digests, same_ticks, recorded_from, keeps, is_kept, are_kept}
 use Rattle.world_model.specs.Traced.{Traced, Course, course_now}
 use Rattle.world_model.specs.Words.{dones_of}

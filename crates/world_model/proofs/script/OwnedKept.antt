@@ -10,15 +10,15 @@ use Rattle.std.proofs.lemmas.List.Sums.{fold-append}
 use Rattle.svc_values.specs.declared.frame.Up.{Up}
 use Rattle.client_model.specs.declared.input.Input.{Input}
 use Rattle.client_model.specs.declared.input.Input.TheVariants.{Start, Waiting, Lent, Opened, TryFailed, Took, Gone}
-use Rattle.world_model.specs.Settings.{Setting}
-use Rattle.world_model.specs.Acting.{sent_by, owner_at}
-use Rattle.world_model.specs.Clients.{Step, Client}
+use Rattle.world_model.specs.meaning.Settings.{Setting}
+use Rattle.world_model.specs.meaning.Acting.{sent_by, owner_at}
+use Rattle.world_model.specs.meaning.Clients.{Step, Client}
 use Rattle.world_model.specs.records.Conversing.{AllTalk, connected, connection_after}
-use Rattle.world_model.specs.Frames.{Owner, Sent}
+use Rattle.world_model.specs.meaning.Frames.{Owner, Sent}
 use Rattle.world_model.specs.OrderlyLaws.{IsKept}
-use Rattle.world_model.specs.Links.{Link}
-use Rattle.world_model.specs.Machines.{Machine}
-use Rattle.world_model.specs.Outside.{closed_by_drain}
+use Rattle.world_model.specs.meaning.Links.{Link}
+use Rattle.world_model.specs.meaning.Machines.{Machine}
+use Rattle.world_model.specs.meaning.Outside.{closed_by_drain}
 use Rattle.world_model.specs.Sames.{same_owner}
 use Rattle.world_model.specs.records.Script.{is_held_by, owned_rightly, are_owned}
 use Rattle.world_model.specs.Traced.{Course, courses_of_clients}

@@ -9,10 +9,10 @@ use Rattle.call_recorder.specs.declared.recorded.Recorded.{Recorded}
 use Rattle.request_bounds.specs.declared.rule.After.{After}
 use Rattle.request_bounds.specs.declared.rule.After.TheVariants as after
 use Rattle.client_model.specs.declared.act.Shown.{Shown}
-use Rattle.client_model.specs.Account.{Account, unheard, hears, shows, shows_found, shows_call, since_after, sends, before_sends, after_step, account_of}
-use Rattle.client_model.specs.Conversation.{Done}
-use Rattle.client_model.specs.Talk.{recorded_as}
-use Rattle.client_model.specs.Terms.{Terms}
+use Rattle.client_model.specs.meaning.Account.{Account, unheard, hears, shows, shows_found, shows_call, since_after, sends, before_sends, after_step, account_of}
+use Rattle.client_model.specs.meaning.Conversation.{Done}
+use Rattle.client_model.specs.meaning.Talk.{recorded_as}
+use Rattle.client_model.specs.meaning.Terms.{Terms}
 use Rattle.world_model.proofs.script.Keeping.{hears_same, begins_same}
 
 -- the call of this index, as it was shown

@@ -4,19 +4,19 @@ use Rattle.std.specs.Prelude.{◌==◌, get_or, slice_get, slice_set, option_map
 use Rattle.std.specs.Option.{option_or, option_map_or}
 use Rattle.std.proofs.lemmas.Bool.{and_parts, and_from}
 use Rattle.std.proofs.lemmas.List.{append-nil}
-use Rattle.svc_values.specs.Same.{same_call, same_calls}
+use Rattle.svc_values.specs.meaning.Same.{same_call, same_calls}
 use Rattle.svc_values.specs.SameLaws.{same_call_decides}
 use Rattle.outage_schedule.specs.declared.document.Client.{Client as Scripted}
 use Rattle.outage_schedule.specs.declared.document.Document.{Document}
 use Rattle.outage_schedule.specs.declared.document.Request.{Request}
 use Rattle.outage_schedule.specs.declared.request.RequestReport.{RequestReport}
-use Rattle.run_clauses.specs.Copies.{next_of}
+use Rattle.run_clauses.specs.meaning.Copies.{next_of}
 use Rattle.client_model.specs.declared.act.Hold.{Hold}
 use Rattle.client_model.specs.declared.act.Hold.TheVariants as hold
-use Rattle.client_model.specs.Terms.{Terms}
-use Rattle.world_model.specs.Settings.{Setting, setting_of}
-use Rattle.world_model.specs.Clients.{Doing, Past, Client, reports_of, resting, script_at, begun, after_hold, past_of}
-use Rattle.world_model.specs.Machines.{Machine}
+use Rattle.client_model.specs.meaning.Terms.{Terms}
+use Rattle.world_model.specs.meaning.Settings.{Setting, setting_of}
+use Rattle.world_model.specs.meaning.Clients.{Doing, Past, Client, reports_of, resting, script_at, begun, after_hold, past_of}
+use Rattle.world_model.specs.meaning.Machines.{Machine}
 use Rattle.world_model.specs.Reached.{traced_start}
 use Rattle.world_model.specs.records.Script.{same_request, now_or_next, past_follows, follows_script, follow_scripts_from, follow_scripts}
 use Rattle.world_model.specs.Traced.{Traced}

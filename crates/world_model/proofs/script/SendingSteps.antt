@@ -10,22 +10,22 @@ use Rattle.std.proofs.lemmas.List.Elements.{filter_map-append}
 use Rattle.std.proofs.lemmas.List.Sums.{fold-append}
 use Rattle.svc_values.specs.declared.frame.Up.{Up}
 use Rattle.svc_values.specs.declared.frame.Up.TheVariants as up
-use Rattle.pool_core.specs.Slots.{give_back_answer}
+use Rattle.pool_core.specs.meaning.Slots.{give_back_answer}
 use Rattle.client_model.specs.declared.act.Hold.{Hold}
 use Rattle.client_model.specs.declared.input.Input.TheVariants.{Lent}
 use Rattle.client_model.specs.declared.input.Wants.{Wants}
 use Rattle.client_model.specs.declared.input.Wants.TheVariants as wants
 use Rattle.client_model.specs.Conversation.{is_wanted}
-use Rattle.client_model.specs.Terms.{Talk, Phase, Idle, Unbegun, Queued, Seeking, Greeting, Asked, Running, Replaying}
-use Rattle.world_model.specs.Acting.{closing, frames_of, sent_by, call_in, owner_at}
-use Rattle.world_model.specs.Clients.{Step, Doing}
+use Rattle.client_model.specs.meaning.Terms.{Talk, Phase, Idle, Unbegun, Queued, Seeking, Greeting, Asked, Running, Replaying}
+use Rattle.world_model.specs.meaning.Acting.{closing, frames_of, sent_by, call_in, owner_at}
+use Rattle.world_model.specs.meaning.Clients.{Step, Doing}
 use Rattle.world_model.specs.records.Conversing.{AllTalk, connection_after, first_talk}
-use Rattle.world_model.specs.Frames.{Owner, Sent}
-use Rattle.world_model.specs.Links.{Link, link_at, told_by}
-use Rattle.world_model.specs.Machines.{Machine}
+use Rattle.world_model.specs.meaning.Frames.{Owner, Sent}
+use Rattle.world_model.specs.meaning.Links.{Link, link_at, told_by}
+use Rattle.world_model.specs.meaning.Machines.{Machine}
 use Rattle.world_model.specs.Parts.{Sending, Scan, scanned, answered, sent_on}
 use Rattle.world_model.specs.records.Script.{is_sending_of}
-use Rattle.world_model.specs.Settings.{Setting}
+use Rattle.world_model.specs.meaning.Settings.{Setting}
 use Rattle.world_model.specs.Traced.{Course}
 use Rattle.world_model.specs.Words.{brought, held_in}
 use Rattle.world_model.proofs.events.AllLists.{weaker_all}

@@ -8,15 +8,15 @@ use Rattle.std.proofs.lemmas.List.{nil_from_length}
 use Rattle.std.proofs.lemmas.List.Folds.{list_any-append}
 use Rattle.client_model.specs.declared.input.Wants.{Wants}
 use Rattle.client_model.specs.declared.input.Wants.TheVariants as wants
-use Rattle.client_model.specs.Talk.{wants_of}
-use Rattle.client_model.specs.Terms.{Terms}
+use Rattle.client_model.specs.meaning.Talk.{wants_of}
+use Rattle.client_model.specs.meaning.Terms.{Terms}
 use Rattle.outage_schedule.specs.declared.document.Request.{Request}
-use Rattle.world_model.specs.Settings.{Setting}
-use Rattle.world_model.specs.Frames.{Owner, Sent}
-use Rattle.world_model.specs.Links.{Link, link_at}
-use Rattle.world_model.specs.Clients.{Past, Doing, Client, client_at, begun}
-use Rattle.world_model.specs.Machines.{Machine}
-use Rattle.world_model.specs.Acting.{owner_at}
+use Rattle.world_model.specs.meaning.Settings.{Setting}
+use Rattle.world_model.specs.meaning.Frames.{Owner, Sent}
+use Rattle.world_model.specs.meaning.Links.{Link, link_at}
+use Rattle.world_model.specs.meaning.Clients.{Past, Doing, Client, client_at, begun}
+use Rattle.world_model.specs.meaning.Machines.{Machine}
+use Rattle.world_model.specs.meaning.Acting.{owner_at}
 use Rattle.world_model.specs.Words.{held_in}
 use Rattle.world_model.specs.Traced.{Traced, Course, course_now, course_over, courses_from, courses_of_clients, courses_of}
 use Rattle.world_model.specs.records.Script.{is_held_by, owned_rightly}

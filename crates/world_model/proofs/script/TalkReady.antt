@@ -18,19 +18,19 @@ use Rattle.request_bounds.specs.declared.rule.Why.{Why}
 use Rattle.request_bounds.specs.declared.rule.Why.TheVariants as why
 use Rattle.request_bounds.specs.declared.rule.After.{After}
 use Rattle.request_bounds.specs.declared.rule.After.TheVariants as after
-use Rattle.request_bounds.specs.Rules.{Rules}
+use Rattle.request_bounds.specs.meaning.Rules.{Rules}
 use Rattle.call_recorder.specs.declared.recorded.Recorded.{Recorded}
 use Rattle.client_model.specs.declared.track.Track.{Track}
 use Rattle.client_model.specs.declared.act.Shown.{Shown}
 use Rattle.client_model.specs.declared.act.Failed.TheVariants.{Disabled}
 use Rattle.client_model.specs.declared.input.Input.TheVariants.{Gone}
-use Rattle.client_model.specs.Told.{over, completed_on, repeated, is_late, uncommitted, told_of}
-use Rattle.client_model.specs.Told as told
-use Rattle.client_model.specs.States.{Living, Losing, Asking, Repeating, resumed, next_of}
-use Rattle.client_model.specs.Verifying.{verified_more, mismatch, submitted}
+use Rattle.client_model.specs.meaning.Told.{over, completed_on, repeated, is_late, uncommitted, told_of}
+use Rattle.client_model.specs.meaning.Told as told
+use Rattle.client_model.specs.meaning.States.{Living, Losing, Asking, Repeating, resumed, next_of}
+use Rattle.client_model.specs.meaning.Verifying.{verified_more, mismatch, submitted}
 use Rattle.client_model.specs.Laws.{track_of}
-use Rattle.client_model.specs.Terms.{Terms, Talk, Phase, Idle, Unbegun, Queued, Seeking, Greeting, Asked, Running, Replaying, unsubmitted}
-use Rattle.client_model.specs.Talk.{stands, fails, with_submitted, with_recorded, with_reply, with_shown, recorded_as, talk_shown, sends_call, sends_or_ends, next_call, begin_of, on_hello, on_reply, sends_marked, on_compared, on_repeated, after_completed, on_completed, on_told, takes, loses, talk_step}
+use Rattle.client_model.specs.meaning.Terms.{Terms, Talk, Phase, Idle, Unbegun, Queued, Seeking, Greeting, Asked, Running, Replaying, unsubmitted}
+use Rattle.client_model.specs.meaning.Talk.{stands, fails, with_submitted, with_recorded, with_reply, with_shown, recorded_as, talk_shown, sends_call, sends_or_ends, next_call, begin_of, on_hello, on_reply, sends_marked, on_compared, on_repeated, after_completed, on_completed, on_told, takes, loses, talk_step}
 use Rattle.world_model.specs.Parts.{implies}
 use Rattle.world_model.specs.records.Wire.{is_alter}
 use Rattle.world_model.specs.records.Ready.{is_unbegun, alters_none, is_recording, forgets_commits, repeats_rightly, is_repeatable, alters_nothing, records_rightly}

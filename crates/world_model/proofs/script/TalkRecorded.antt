@@ -21,13 +21,14 @@ use Rattle.client_model.specs.declared.act.Shown.{Shown}
 use Rattle.client_model.specs.declared.act.Failed.TheVariants.{Disabled, Retries, PoolWait}
 use Rattle.client_model.specs.declared.input.Input.{Input}
 use Rattle.client_model.specs.declared.input.Input.TheVariants.{Start, Waiting, Lent, Opened, TryFailed, Took, Gone}
-use Rattle.client_model.specs.Conversation.{Timed, talk_at, talk_after}
-use Rattle.client_model.specs.Told.{over, completed_on, repeated, is_late, uncommitted, told_of}
-use Rattle.client_model.specs.Told as told
-use Rattle.client_model.specs.States.{Living, Losing, Asking, Repeating, resumed, next_of}
-use Rattle.client_model.specs.Verifying.{verified_more, mismatch, submitted}
-use Rattle.client_model.specs.Terms.{Terms, Talk, Phase, Idle, Unbegun, Queued, Seeking, Greeting, Asked, Running, Replaying, unsubmitted}
-use Rattle.client_model.specs.Talk.{Step, fails, with_recorded, with_reply, with_shown, recorded_as, talk_shown, sends_call, sends_or_ends, next_call, begin_of, on_hello, on_reply, sends_marked, on_compared, on_repeated, after_completed, on_completed, on_told, takes, loses, lost_of, waits_from, with_tried, stands, quiet, talk_step}
+use Rattle.client_model.specs.meaning.Conversation.{Timed, talk_at}
+use Rattle.client_model.specs.Conversation.{talk_after}
+use Rattle.client_model.specs.meaning.Told.{over, completed_on, repeated, is_late, uncommitted, told_of}
+use Rattle.client_model.specs.meaning.Told as told
+use Rattle.client_model.specs.meaning.States.{Living, Losing, Asking, Repeating, resumed, next_of}
+use Rattle.client_model.specs.meaning.Verifying.{verified_more, mismatch, submitted}
+use Rattle.client_model.specs.meaning.Terms.{Terms, Talk, Phase, Idle, Unbegun, Queued, Seeking, Greeting, Asked, Running, Replaying, unsubmitted}
+use Rattle.client_model.specs.meaning.Talk.{Step, fails, with_recorded, with_reply, with_shown, recorded_as, talk_shown, sends_call, sends_or_ends, next_call, begin_of, on_hello, on_reply, sends_marked, on_compared, on_repeated, after_completed, on_completed, on_told, takes, loses, lost_of, waits_from, with_tried, stands, quiet, talk_step}
 use Rattle.world_model.proofs.events.Tests.{le_to}
 use Rattle.world_model.proofs.finish.TalkRounds.{records_few, not_le}
 

@@ -4,19 +4,20 @@ use Rattle.std.specs.Prelude.{◌==◌, is_some}
 use Rattle.std.specs.List.{list_all}
 use Rattle.std.specs.Cmp.Lexicographic.{pointwise}
 use Rattle.std.proofs.lemmas.Bool.{and_from}
-use Rattle.svc_values.specs.Same.{same_bool}
-use Rattle.svc_values.specs.Identifiers.{same_ltxid, same_session}
+use Rattle.svc_values.specs.meaning.Same.{same_bool}
+use Rattle.svc_values.specs.meaning.Identifiers.{same_ltxid, same_session}
 use Rattle.outage_schedule.specs.declared.request.Outcome.{Outcome}
 use Rattle.outage_schedule.specs.declared.request.RequestReport.{RequestReport}
-use Rattle.client_model.specs.Terms.{Terms, Talk}
-use Rattle.client_model.specs.Conversation.{Done, Timed, steps_of, talk_after, talk_at, done_at, may_come, is_gone_next, MayCome}
-use Rattle.client_model.specs.Talk.{wants_of}
-use Rattle.world_model.specs.Settings.{Setting}
-use Rattle.world_model.specs.Clients.{Step, Doing, Past, Client}
+use Rattle.client_model.specs.meaning.Terms.{Terms, Talk}
+use Rattle.client_model.specs.meaning.Conversation.{Done, Timed, talk_at, done_at}
+use Rattle.client_model.specs.Conversation.{steps_of, talk_after, may_come, is_gone_next, MayCome}
+use Rattle.client_model.specs.meaning.Talk.{wants_of}
+use Rattle.world_model.specs.meaning.Settings.{Setting}
+use Rattle.world_model.specs.meaning.Clients.{Step, Doing, Past, Client}
 use Rattle.world_model.specs.Traced.{Traced, Course, course_over, course_now, courses_from, courses_of_clients, courses_of}
 use Rattle.world_model.specs.records.Conversing.{timed, inputs_of, first_talk, Converses, Talks, IsThrough, AreThrough, IsTalking, AllTalk}
-use Rattle.world_model.specs.Followed.{same_outcome, same_lists, tells_steps}
-use Rattle.run_clauses.specs.Reports.{report_of}
+use Rattle.world_model.specs.meaning.Followed.{same_outcome, same_lists, tells_steps}
+use Rattle.run_clauses.specs.meaning.Reports.{report_of}
 use Rattle.world_model.specs.records.Script.{same_sends, is_act_of, may_all_come, acts_follow, place_of, is_conversation, are_conversations, reports_rightly, report_rightly}
 use Rattle.world_model.specs.Words.{dones_of}
 use Rattle.world_model.proofs.events.AllLists.{append_all}

@@ -9,12 +9,13 @@ use Rattle.svc_values.specs.declared.frame.Down.TheVariants as down
 use Rattle.client_model.specs.declared.act.Failed.TheVariants.{Retries, PoolWait}
 use Rattle.client_model.specs.declared.input.Input.{Input}
 use Rattle.client_model.specs.declared.input.Input.TheVariants.{Start, Waiting, Lent, Opened, TryFailed, Took, Gone}
-use Rattle.client_model.specs.Conversation.{Done, MayCome, steps_of, talk_after, talk_at, done_at, is_wanted, is_gone, is_gone_next}
-use Rattle.client_model.specs.Terms.{Terms, Talk, Phase, Idle, Unbegun, Queued, Seeking, Greeting, Asked, Running, Replaying}
-use Rattle.client_model.specs.Talk.{stands, quiet, fails, with_tried, lost_of, loses, takes, on_waiting, waits_from, on_try_failed, talk_step, wants_of}
-use Rattle.world_model.specs.Clients.{Step as Stepped}
+use Rattle.client_model.specs.meaning.Conversation.{Done, talk_at, done_at}
+use Rattle.client_model.specs.Conversation.{MayCome, steps_of, talk_after, is_wanted, is_gone, is_gone_next}
+use Rattle.client_model.specs.meaning.Terms.{Terms, Talk, Phase, Idle, Unbegun, Queued, Seeking, Greeting, Asked, Running, Replaying}
+use Rattle.client_model.specs.meaning.Talk.{stands, quiet, fails, with_tried, lost_of, loses, takes, on_waiting, waits_from, on_try_failed, talk_step, wants_of}
+use Rattle.world_model.specs.meaning.Clients.{Step as Stepped}
 use Rattle.world_model.specs.records.Conversing.{timed, inputs_of, connected}
-use Rattle.world_model.specs.Links.{told_by}
+use Rattle.world_model.specs.meaning.Links.{told_by}
 use Rattle.world_model.specs.Parts.{Scan, scanned, implies}
 use Rattle.world_model.specs.Words.{brought, dones_of}
 use Rattle.world_model.proofs.script.Keeping.{second_some}

@@ -4,11 +4,12 @@ use Rattle.std.proofs.lemmas.List.{map-append}
 use Rattle.std.proofs.lemmas.List.Sums.{fold-append}
 use Rattle.client_model.specs.declared.input.Input.{Input}
 use Rattle.client_model.specs.declared.input.Input.TheVariants.{Start}
-use Rattle.client_model.specs.Terms.{Terms, Talk}
-use Rattle.client_model.specs.Talk.{wants_of}
-use Rattle.client_model.specs.Conversation.{Done, Timed, steps_of, talk_after, talk_at, done_at, may_come, is_gone_next, MayCome}
+use Rattle.client_model.specs.meaning.Terms.{Terms, Talk}
+use Rattle.client_model.specs.meaning.Talk.{wants_of}
+use Rattle.client_model.specs.meaning.Conversation.{Done, Timed, talk_at, done_at}
+use Rattle.client_model.specs.Conversation.{steps_of, talk_after, may_come, is_gone_next, MayCome}
 use Rattle.outage_schedule.specs.declared.document.Request.{Request}
-use Rattle.world_model.specs.Clients.{Step, Doing, heard, begun, step_at}
+use Rattle.world_model.specs.meaning.Clients.{Step, Doing, heard, begun, step_at}
 use Rattle.world_model.specs.records.Conversing.{timed, inputs_of, first_talk, gone_due, connected, Talks}
 use Rattle.world_model.specs.Words.{dones_of}
 

@@ -6,21 +6,21 @@ use Rattle.std.specs.Option.{option_or}
 use Rattle.svc_values.specs.declared.frame.Down.{Down}
 use Rattle.outage_schedule.specs.declared.document.Request.{Request}
 use Rattle.outage_schedule.specs.declared.item.Served.{Served}
-use Rattle.pool_core.specs.Slots.{Slots}
+use Rattle.pool_core.specs.meaning.Slots.{Slots}
 use Rattle.client_model.specs.declared.act.Hold.{Hold}
 use Rattle.client_model.specs.declared.act.Hold.TheVariants as hold
 use Rattle.client_model.specs.declared.input.Input.{Input}
 use Rattle.client_model.specs.declared.input.Input.TheVariants.{Waiting, Lent, Opened, TryFailed, Took, Gone}
 use Rattle.client_model.specs.declared.input.Wants.{Wants}
 use Rattle.client_model.specs.declared.input.Wants.TheVariants as wants
-use Rattle.client_model.specs.Terms.{Terms, Idle}
-use Rattle.client_model.specs.Talk.{wants_of}
+use Rattle.client_model.specs.meaning.Terms.{Terms, Idle}
+use Rattle.client_model.specs.meaning.Talk.{wants_of}
 use Rattle.client_model.specs.Conversation.{may_come, is_wanted, is_gone, is_gone_next}
-use Rattle.world_model.specs.Settings.{Setting}
-use Rattle.world_model.specs.Clients.{Doing, Past, Client, client_at, with_client, resting, doing_at, heard, begun, step_at, after_hold, after_step, past_of}
-use Rattle.world_model.specs.Machines.{Machine}
-use Rattle.world_model.specs.Matching.{Noted}
-use Rattle.world_model.specs.Going.{lost_at_once}
+use Rattle.world_model.specs.meaning.Settings.{Setting}
+use Rattle.world_model.specs.meaning.Clients.{Doing, Past, Client, client_at, with_client, resting, doing_at, heard, begun, step_at, after_hold, after_step, past_of}
+use Rattle.world_model.specs.meaning.Machines.{Machine}
+use Rattle.world_model.specs.meaning.Matching.{Noted}
+use Rattle.world_model.specs.meaning.Going.{lost_at_once}
 use Rattle.world_model.specs.records.Conversing.{connected, Talks, IsThrough, AreThrough, IsTalking, AllTalk}
 use Rattle.world_model.proofs.events.AllClients.{stepped_client, client_set, client_twice}
 use Rattle.world_model.proofs.events.Moves.{IsDoing, next_number, Tries, FromQueue, Again, takes_one, Goes, Rests, Waits, Lends, Opens, Fails, Takes, Loses, ServesLast, LastNone, LastStopped, LastServed, Happens, Nothing, IsStep, Serves, Cuts, Reaps, Crashes, OpensUp, StopsOpening, Ticks, RunsOutside, Asks, Drains}

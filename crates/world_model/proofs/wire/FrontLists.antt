@@ -5,7 +5,7 @@ use Rattle.std.specs.List.{last_or}
 use Rattle.std.specs.Option.{option_map_or}
 use Rattle.std.proofs.lemmas.Bool.{and_parts, and_from}
 use Rattle.std.proofs.lemmas.List.{append-nil, map-append}
-use Rattle.world_model.specs.Frames.{whole_front}
+use Rattle.world_model.specs.meaning.Frames.{whole_front}
 use Rattle.world_model.specs.Sames.{is_front}
 
 -- BEGINNINGS --------------------------------------------------------------------------------------

@@ -3,7 +3,7 @@ use Rattle.std.proofs.Common.{◌≡◌, refl, true, ◌&&◌, List, [], ◌∷�
 use Rattle.std.specs.List.{list_all}
 use Rattle.std.proofs.lemmas.Bool.{and_parts, and_from}
 use Rattle.world_model.specs.OrderlyLaws.{IsKept, WireBegins, WireIsKept}
-use Rattle.world_model.specs.Links.{Link}
+use Rattle.world_model.specs.meaning.Links.{Link}
 use Rattle.world_model.specs.records.Basic.{lives_rightly}
 use Rattle.world_model.specs.records.Wire.{is_sent_front, sent_fronts, is_reply_front, reply_fronts, handled_from, are_handled, is_answered_in_order, answered_in_order, up_lives, in_grammar, one_is_out, one_out, is_fresh, are_fresh}
 use Rattle.world_model.proofs.events.AllLists.{every_all}

@@ -6,11 +6,11 @@ use Rattle.std.proofs.lemmas.List.Sums.{sum_by-cons}
 use Rattle.svc_values.specs.declared.frame.Down.{Down}
 use Rattle.outage_schedule.specs.declared.item.Item.{Item}
 use Rattle.outage_schedule.specs.declared.item.Served.{Served}
-use Rattle.world_model.specs.Frames.{Handled}
-use Rattle.world_model.specs.Links.{Link, ends}
-use Rattle.world_model.specs.Machines.{Machine}
-use Rattle.world_model.specs.Serving.{Front, is_ordinary, is_of_front, is_item_of, is_commit, is_blocked, reply_of, commits_after, after_front, handled}
-use Rattle.world_model.specs.Crashing.{is_crashed_item}
+use Rattle.world_model.specs.meaning.Frames.{Handled}
+use Rattle.world_model.specs.meaning.Links.{Link, ends}
+use Rattle.world_model.specs.meaning.Machines.{Machine}
+use Rattle.world_model.specs.meaning.Serving.{Front, is_ordinary, is_of_front, is_item_of, is_commit, is_blocked, reply_of, commits_after, after_front, handled}
+use Rattle.world_model.specs.meaning.Crashing.{is_crashed_item}
 use Rattle.world_model.specs.records.Wire.{same_replies, is_handled, counted_with, handled_from}
 use Rattle.world_model.proofs.events.Tests.{eq_from}
 use Rattle.world_model.proofs.wire.SameSelf.{reply_self}

@@ -12,11 +12,11 @@ use Rattle.svc_values.specs.declared.frame.Down.{Down}
 use Rattle.outage_schedule.specs.declared.item.Item.{Item}
 use Rattle.outage_schedule.specs.declared.item.Item.TheVariants as item
 use Rattle.outage_schedule.specs.declared.item.Served.{Served}
-use Rattle.world_model.specs.Frames.{Sent, Reply, Handled, down_size, whole_front}
-use Rattle.world_model.specs.Links.{Link, ends}
-use Rattle.world_model.specs.Machines.{Machine}
-use Rattle.world_model.specs.Serving.{Front, after_front, handled, is_of_front, is_item_of, is_last, is_blocked, reply_of, commits_after, on_its_way}
-use Rattle.world_model.specs.Crashing.{fallen_link, is_crashed_item}
+use Rattle.world_model.specs.meaning.Frames.{Sent, Reply, Handled, down_size, whole_front}
+use Rattle.world_model.specs.meaning.Links.{Link, ends}
+use Rattle.world_model.specs.meaning.Machines.{Machine}
+use Rattle.world_model.specs.meaning.Serving.{Front, after_front, handled, is_of_front, is_item_of, is_last, is_blocked, reply_of, commits_after, on_its_way}
+use Rattle.world_model.specs.meaning.Crashing.{fallen_link, is_crashed_item}
 use Rattle.world_model.specs.records.Basic.{is_stopped, ends_life, lives_rightly}
 use Rattle.world_model.specs.Parts.{is_answered, is_rep}
 use Rattle.world_model.specs.Sames.{same_up, same_sent, same_reply, is_front}

@@ -17,21 +17,21 @@ use Rattle.svc_values.specs.declared.frame.Down.{Down}
 use Rattle.svc_values.specs.declared.frame.Down.TheVariants as down
 use Rattle.pool_core.specs.declared.answers.Back.{Back}
 use Rattle.pool_core.specs.declared.answers.Back.TheVariants as back
-use Rattle.pool_core.specs.Slots.{give_back_answer}
+use Rattle.pool_core.specs.meaning.Slots.{give_back_answer}
 use Rattle.client_model.specs.declared.input.Input.TheVariants.{Took}
 use Rattle.client_model.specs.declared.act.Hold.{Hold}
-use Rattle.client_model.specs.Terms.{Phase, Greeting}
+use Rattle.client_model.specs.meaning.Terms.{Phase, Greeting}
 use Rattle.outage_schedule.specs.declared.item.Item.{Item}
 use Rattle.outage_schedule.specs.declared.item.Item.TheVariants as item
-use Rattle.client_model.specs.Talk.{Step, on_hello, takes as taken_by}
-use Rattle.world_model.specs.Settings.{Setting}
-use Rattle.world_model.specs.Frames.{Owner, Sent, Reply, Handled}
-use Rattle.world_model.specs.Links.{Link, new_link, sends, takes, told_by}
-use Rattle.world_model.specs.Acting.{sent_by, call_in, closing}
-use Rattle.world_model.specs.Machines.{Machine}
-use Rattle.world_model.specs.Serving.{after_front, is_item_of, reply_of}
-use Rattle.world_model.specs.Crashing.{is_crashed_item}
-use Rattle.world_model.specs.Outside.{closed_by_drain}
+use Rattle.client_model.specs.meaning.Talk.{Step, on_hello, takes as taken_by}
+use Rattle.world_model.specs.meaning.Settings.{Setting}
+use Rattle.world_model.specs.meaning.Frames.{Owner, Sent, Reply, Handled}
+use Rattle.world_model.specs.meaning.Links.{Link, new_link, sends, takes, told_by}
+use Rattle.world_model.specs.meaning.Acting.{sent_by, call_in, closing}
+use Rattle.world_model.specs.meaning.Machines.{Machine}
+use Rattle.world_model.specs.meaning.Serving.{after_front, is_item_of, reply_of}
+use Rattle.world_model.specs.meaning.Crashing.{is_crashed_item}
+use Rattle.world_model.specs.meaning.Outside.{closed_by_drain}
 use Rattle.world_model.specs.records.Hold.{is_idle, is_connect}
 use Rattle.world_model.specs.Parts.{is_rep, count_reps, is_out, implies}
 use Rattle.world_model.specs.Sames.{same_up, same_down, same_sent, same_reply, is_front}

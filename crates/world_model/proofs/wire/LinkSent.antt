@@ -7,20 +7,20 @@ use Rattle.std.proofs.lemmas.List.{map-append}
 use Rattle.std.proofs.lemmas.List.Folds.{list_any-append}
 use Rattle.svc_values.specs.declared.frame.Up.TheVariants as up
 use Rattle.svc_values.specs.declared.frame.Down.{Down}
-use Rattle.svc_values.specs.Same.{same_bool}
-use Rattle.pool_core.specs.Slots.{Slots, give_back_answer}
+use Rattle.svc_values.specs.meaning.Same.{same_bool}
+use Rattle.pool_core.specs.meaning.Slots.{Slots, give_back_answer}
 use Rattle.client_model.specs.declared.input.Input.TheVariants.{Took}
-use Rattle.client_model.specs.Terms.{Terms, Talk}
-use Rattle.client_model.specs.Talk.{Step, on_hello, takes as taken_by}
+use Rattle.client_model.specs.meaning.Terms.{Terms, Talk}
+use Rattle.client_model.specs.meaning.Talk.{Step, on_hello, takes as taken_by}
 use Rattle.outage_schedule.specs.declared.item.Served.{Served}
-use Rattle.world_model.specs.Settings.{Setting}
-use Rattle.world_model.specs.Frames.{Owner, Sent, Reply, Handled, up_size, whole_front}
-use Rattle.world_model.specs.Links.{Link, new_link, sends, takes, is_orphan}
-use Rattle.world_model.specs.Acting.{sent_by, call_in}
-use Rattle.world_model.specs.Machines.{Machine}
-use Rattle.world_model.specs.Serving.{Front, after_front, handled, is_last}
-use Rattle.world_model.specs.Crashing.{fallen_link}
-use Rattle.world_model.specs.Outside.{closed_by_drain}
+use Rattle.world_model.specs.meaning.Settings.{Setting}
+use Rattle.world_model.specs.meaning.Frames.{Owner, Sent, Reply, Handled, up_size, whole_front}
+use Rattle.world_model.specs.meaning.Links.{Link, new_link, sends, takes, is_orphan}
+use Rattle.world_model.specs.meaning.Acting.{sent_by, call_in}
+use Rattle.world_model.specs.meaning.Machines.{Machine}
+use Rattle.world_model.specs.meaning.Serving.{Front, after_front, handled, is_last}
+use Rattle.world_model.specs.meaning.Crashing.{fallen_link}
+use Rattle.world_model.specs.meaning.Outside.{closed_by_drain}
 use Rattle.world_model.specs.records.Basic.{at_most}
 use Rattle.world_model.specs.records.Hold.{is_idle}
 use Rattle.world_model.specs.Parts.{is_closed, implies}

@@ -10,20 +10,20 @@ use Rattle.svc_values.specs.declared.call.Call.{Call}
 use Rattle.svc_values.specs.declared.entry.Ltxid.{Ltxid}
 use Rattle.svc_values.specs.declared.frame.Up.{Up}
 use Rattle.svc_values.specs.declared.frame.Up.TheVariants as up
-use Rattle.pool_core.specs.Slots.{Slots, give_back_answer}
+use Rattle.pool_core.specs.meaning.Slots.{Slots, give_back_answer}
 use Rattle.request_bounds.specs.declared.rule.Why.{Why}
-use Rattle.client_model.specs.States.{Living}
+use Rattle.client_model.specs.meaning.States.{Living}
 use Rattle.client_model.specs.declared.input.Input.TheVariants.{Took}
-use Rattle.client_model.specs.Terms.{Terms, Talk, Phase, Asked, Replaying, unsubmitted}
-use Rattle.client_model.specs.Talk.{Step, begin_of, sends_or_ends, next_call, on_hello, takes as taken_by}
-use Rattle.world_model.specs.Settings.{Setting}
-use Rattle.world_model.specs.Frames.{Owner, Sent, Reply}
-use Rattle.world_model.specs.Links.{Link, new_link, sends, takes}
-use Rattle.world_model.specs.Clients.{Doing}
-use Rattle.world_model.specs.Acting.{sent_by, call_in}
-use Rattle.world_model.specs.Machines.{Machine}
-use Rattle.world_model.specs.Serving.{after_front}
-use Rattle.world_model.specs.Outside.{closed_by_drain}
+use Rattle.client_model.specs.meaning.Terms.{Terms, Talk, Phase, Asked, Replaying, unsubmitted}
+use Rattle.client_model.specs.meaning.Talk.{Step, begin_of, sends_or_ends, next_call, on_hello, takes as taken_by}
+use Rattle.world_model.specs.meaning.Settings.{Setting}
+use Rattle.world_model.specs.meaning.Frames.{Owner, Sent, Reply}
+use Rattle.world_model.specs.meaning.Links.{Link, new_link, sends, takes}
+use Rattle.world_model.specs.meaning.Clients.{Doing}
+use Rattle.world_model.specs.meaning.Acting.{sent_by, call_in}
+use Rattle.world_model.specs.meaning.Machines.{Machine}
+use Rattle.world_model.specs.meaning.Serving.{after_front}
+use Rattle.world_model.specs.meaning.Outside.{closed_by_drain}
 use Rattle.world_model.specs.Words.{held_in}
 use Rattle.world_model.specs.records.Hold.{is_idle, is_end, is_awaited}
 use Rattle.world_model.specs.Parts.{is_answered, is_out, count_reps, implies}

@@ -21,10 +21,10 @@ use Rattle.svc_values.specs.declared.frame.Up.{Up}
 use Rattle.svc_values.specs.declared.frame.Up.TheVariants as up
 use Rattle.svc_values.specs.declared.frame.Down.{Down}
 use Rattle.svc_values.specs.declared.frame.Down.TheVariants as down
-use Rattle.svc_values.specs.Identifiers.{same_ltxid}
-use Rattle.svc_values.specs.Same.{same_value, same_answer, same_answers, same_bool, same_call, same_draw, same_draws, fault_code}
+use Rattle.svc_values.specs.meaning.Identifiers.{same_ltxid}
+use Rattle.svc_values.specs.meaning.Same.{same_value, same_answer, same_answers, same_bool, same_call, same_draw, same_draws, fault_code}
 use Rattle.svc_values.specs.SameLaws.{same_call_decides, same_settings_equiv}
-use Rattle.world_model.specs.Frames.{Owner, Sent, Reply}
+use Rattle.world_model.specs.meaning.Frames.{Owner, Sent, Reply}
 use Rattle.world_model.specs.Sames.{same_owner, same_owners, same_up, same_sent, same_reply, same_ahead, same_down}
 use Rattle.world_model.specs.records.Wire.{same_replies}
 use Rattle.world_model.proofs.events.Tests.{eq_to}

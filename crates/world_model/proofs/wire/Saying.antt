@@ -22,14 +22,14 @@ use Rattle.client_model.specs.declared.act.Failed.TheVariants.{Disabled}
 use Rattle.client_model.specs.declared.act.Shown.{Shown}
 use Rattle.client_model.specs.declared.act.Hold.{Hold}
 use Rattle.client_model.specs.declared.act.Hold.TheVariants.{Keep, GiveBack, Drop}
-use Rattle.client_model.specs.Told.{over, completed_on, repeated, is_late, uncommitted, told_of}
-use Rattle.client_model.specs.Told as told
-use Rattle.client_model.specs.States.{Living, Losing, Asking, Repeating, asked_on, resumed, next_of}
-use Rattle.client_model.specs.Verifying.{verified_more, mismatch, submitted}
-use Rattle.client_model.specs.Terms.{Terms, Talk, Phase, Idle, Unbegun, Queued, Greeting, Asked, Running, Replaying, unsubmitted}
-use Rattle.client_model.specs.Talk.{Step, if_alive, fails, talk_shown, with_shown, sends_call, sends_or_ends, next_call, begin_of, on_hello, on_reply, sends_marked, on_compared, on_repeated, after_completed, on_completed, on_told, takes}
+use Rattle.client_model.specs.meaning.Told.{over, completed_on, repeated, is_late, uncommitted, told_of}
+use Rattle.client_model.specs.meaning.Told as told
+use Rattle.client_model.specs.meaning.States.{Living, Losing, Asking, Repeating, asked_on, resumed, next_of}
+use Rattle.client_model.specs.meaning.Verifying.{verified_more, mismatch, submitted}
+use Rattle.client_model.specs.meaning.Terms.{Terms, Talk, Phase, Idle, Unbegun, Queued, Greeting, Asked, Running, Replaying, unsubmitted}
+use Rattle.client_model.specs.meaning.Talk.{Step, if_alive, fails, talk_shown, with_shown, sends_call, sends_or_ends, next_call, begin_of, on_hello, on_reply, sends_marked, on_compared, on_repeated, after_completed, on_completed, on_told, takes}
 use Rattle.client_model.specs.Released.{has_slot}
-use Rattle.world_model.specs.Acting.{closing}
+use Rattle.world_model.specs.meaning.Acting.{closing}
 use Rattle.world_model.specs.Parts.{implies}
 use Rattle.world_model.specs.records.Ready.{is_waiting, alters_none}
 

@@ -12,9 +12,9 @@ use Rattle.svc_values.specs.declared.frame.Down.TheVariants as down
 use Rattle.client_model.specs.declared.act.Shown.{Shown}
 use Rattle.client_model.specs.declared.input.Input.{Input}
 use Rattle.client_model.specs.declared.input.Input.TheVariants.{Start, Waiting, Lent, Opened, TryFailed, Took, Gone}
-use Rattle.world_model.specs.Clients.{Step}
-use Rattle.world_model.specs.Frames.{Sent}
-use Rattle.world_model.specs.Links.{Link, link_at, told_by}
+use Rattle.world_model.specs.meaning.Clients.{Step}
+use Rattle.world_model.specs.meaning.Frames.{Sent}
+use Rattle.world_model.specs.meaning.Links.{Link, link_at, told_by}
 use Rattle.world_model.specs.Parts.{Sending, Scan, scanned, with_taken, answered, sent_on}
 use Rattle.world_model.specs.records.Script.{reverse_onto}
 use Rattle.world_model.specs.Words.{brought, held_in}

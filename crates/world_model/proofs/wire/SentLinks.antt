@@ -7,25 +7,25 @@ use Rattle.std.proofs.lemmas.Bool.{and_parts, and_from}
 use Rattle.svc_values.specs.declared.entry.Ltxid.{Ltxid}
 use Rattle.svc_values.specs.declared.frame.Up.TheVariants as up
 use Rattle.pool_core.specs.declared.answers.Take.TheVariants as take
-use Rattle.pool_core.specs.Slots.{Slots, has_to_wait, lends, take_answer, after_take}
+use Rattle.pool_core.specs.meaning.Slots.{Slots, has_to_wait, lends, take_answer, after_take}
 use Rattle.client_model.specs.declared.input.Input.TheVariants.{Took}
 use Rattle.client_model.specs.declared.input.Wants.{Wants}
 use Rattle.client_model.specs.declared.input.Wants.TheVariants as wants
 use Rattle.client_model.specs.declared.act.Failed.TheVariants.{Retries, PoolWait}
-use Rattle.client_model.specs.Terms.{Terms, Talk, Phase, Idle, Unbegun, Queued, Seeking}
-use Rattle.request_bounds.specs.Limits.{has_waited}
-use Rattle.client_model.specs.Talk.{Step, quiet, fails, stands, on_hello, on_waiting, waits_from, with_tried, lost_of, on_try_failed, wants_in, wants_of, takes as taken_by}
+use Rattle.client_model.specs.meaning.Terms.{Terms, Talk, Phase, Idle, Unbegun, Queued, Seeking}
+use Rattle.request_bounds.specs.meaning.Limits.{has_waited}
+use Rattle.client_model.specs.meaning.Talk.{Step, quiet, fails, stands, on_hello, on_waiting, waits_from, with_tried, lost_of, on_try_failed, wants_in, wants_of, takes as taken_by}
 use Rattle.outage_schedule.specs.declared.document.Request.{Request}
 use Rattle.outage_schedule.specs.declared.item.Served.{Served}
-use Rattle.world_model.specs.Settings.{Setting}
-use Rattle.world_model.specs.Frames.{Owner, Sent, Reply}
-use Rattle.world_model.specs.Links.{Link, new_link, link_at, with_link, changed, sends, takes}
-use Rattle.world_model.specs.Clients.{Client, Doing, client_at, doing_at, begun}
-use Rattle.world_model.specs.Acting.{sent_by, owner_at, call_in, frames_of, connection_of}
-use Rattle.world_model.specs.Machines.{Machine}
-use Rattle.world_model.specs.Matching.{Noted}
-use Rattle.world_model.specs.Going.{lost_at_once}
-use Rattle.world_model.specs.Outside.{closed_by_drain, drained}
+use Rattle.world_model.specs.meaning.Settings.{Setting}
+use Rattle.world_model.specs.meaning.Frames.{Owner, Sent, Reply}
+use Rattle.world_model.specs.meaning.Links.{Link, new_link, link_at, with_link, changed, sends, takes}
+use Rattle.world_model.specs.meaning.Clients.{Client, Doing, client_at, doing_at, begun}
+use Rattle.world_model.specs.meaning.Acting.{sent_by, owner_at, call_in, frames_of, connection_of}
+use Rattle.world_model.specs.meaning.Machines.{Machine}
+use Rattle.world_model.specs.meaning.Matching.{Noted}
+use Rattle.world_model.specs.meaning.Going.{lost_at_once}
+use Rattle.world_model.specs.meaning.Outside.{closed_by_drain, drained}
 use Rattle.world_model.specs.records.Hold.{is_idle, is_awaited}
 use Rattle.world_model.specs.records.Ready.{is_waiting, is_ready}
 use Rattle.world_model.specs.Parts.{is_out, is_answered}

@@ -3,8 +3,8 @@ use Rattle.std.proofs.Common.{◌≡◌, refl, sym, ap, ◌∙◌, Bool, true, f
 use Rattle.std.specs.Prelude.{slice_get, slice_set}
 use Rattle.std.specs.List.{list_any}
 use Rattle.std.specs.Option.{option_map_or}
-use Rattle.world_model.specs.Frames.{Sent}
-use Rattle.world_model.specs.Links.{Link, link_at, with_link, changed, ends, is_close, sends}
+use Rattle.world_model.specs.meaning.Frames.{Sent}
+use Rattle.world_model.specs.meaning.Links.{Link, link_at, with_link, changed, ends, is_close, sends}
 
 abbrev pub sent_lists : List Link → List (List Sent)
 sent_lists links = map (λ link. link.sent) links

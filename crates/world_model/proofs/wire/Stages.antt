@@ -12,13 +12,13 @@ use Rattle.svc_values.specs.declared.frame.Up.TheVariants as up
 use Rattle.call_recorder.specs.declared.recorded.Recorded.{Recorded}
 use Rattle.pool_core.specs.declared.answers.Back.{Back}
 use Rattle.pool_core.specs.declared.answers.Back.TheVariants as back
-use Rattle.client_model.specs.Verifying.{index_of}
+use Rattle.client_model.specs.meaning.Verifying.{index_of}
 use Rattle.client_model.specs.declared.act.Hold.{Hold}
 use Rattle.client_model.specs.declared.act.Hold.TheVariants.{GiveBack}
-use Rattle.client_model.specs.Terms.{Phase, Greeting, Asked, Running, Replaying}
-use Rattle.world_model.specs.Frames.{Owner, Sent}
-use Rattle.world_model.specs.Links.{Link}
-use Rattle.world_model.specs.Acting.{sent_by, closing}
+use Rattle.client_model.specs.meaning.Terms.{Phase, Greeting, Asked, Running, Replaying}
+use Rattle.world_model.specs.meaning.Frames.{Owner, Sent}
+use Rattle.world_model.specs.meaning.Links.{Link}
+use Rattle.world_model.specs.meaning.Acting.{sent_by, closing}
 use Rattle.world_model.specs.records.Hold.{is_connect, is_call, is_ask, is_awaited}
 use Rattle.world_model.specs.Parts.{is_answered}
 use Rattle.world_model.specs.records.Ready.{is_unbegun}

@@ -5,14 +5,14 @@ use Rattle.std.specs.Option.{option_map_or}
 use Rattle.svc_values.specs.declared.entry.SessionId.{SessionId}
 use Rattle.outage_schedule.specs.declared.item.Item.{Item}
 use Rattle.outage_schedule.specs.declared.item.Item.TheVariants as item
-use Rattle.svc_values.specs.Identifiers.{same_session, session_of}
-use Rattle.svc_values.specs.Same.{same_bool}
-use Rattle.client_model.specs.Terms.{Phase, Queued}
+use Rattle.svc_values.specs.meaning.Identifiers.{same_session, session_of}
+use Rattle.svc_values.specs.meaning.Same.{same_bool}
+use Rattle.client_model.specs.meaning.Terms.{Phase, Queued}
 use Rattle.client_model.specs.Laws.{track_of}
-use Rattle.world_model.specs.Frames.{Handled}
-use Rattle.world_model.specs.Links.{Link}
-use Rattle.world_model.specs.Clients.{Doing}
-use Rattle.world_model.specs.Serving.{is_commit, is_last}
+use Rattle.world_model.specs.meaning.Frames.{Handled}
+use Rattle.world_model.specs.meaning.Links.{Link}
+use Rattle.world_model.specs.meaning.Clients.{Doing}
+use Rattle.world_model.specs.meaning.Serving.{is_commit, is_last}
 use Rattle.world_model.specs.Traced.{Traced, Course, courses_of}
 use Rattle.world_model.specs.Sames.{rise, each_pair}
 use Rattle.world_model.specs.Parts.{is_closed, implies}

@@ -2,11 +2,12 @@
 use Rattle.std.specs.Prelude.{◌≡◌, ℕ, Bool, false, List, [], ◌∷◌, map, fold, Option, Some, None}
 use Rattle.client_model.specs.declared.input.Input.{Input}
 use Rattle.client_model.specs.declared.input.Input.TheVariants.{Lent, Opened, Gone}
-use Rattle.client_model.specs.Terms.{Terms, Talk, Idle, requested}
-use Rattle.client_model.specs.Conversation.{Timed, steps_of, talk_after, talk_at, done_at, is_gone_next, MayCome}
+use Rattle.client_model.specs.meaning.Terms.{Terms, Talk, Idle, requested}
+use Rattle.client_model.specs.meaning.Conversation.{Timed, talk_at, done_at}
+use Rattle.client_model.specs.Conversation.{steps_of, talk_after, is_gone_next, MayCome}
 use Rattle.outage_schedule.specs.declared.document.Request.{Request}
-use Rattle.world_model.specs.Clients.{Step, Doing, Past, Client}
-use Rattle.run_clauses.specs.Reports.{report_of}
+use Rattle.world_model.specs.meaning.Clients.{Step, Doing, Past, Client}
+use Rattle.run_clauses.specs.meaning.Reports.{report_of}
 use Rattle.world_model.specs.Words.{dones_of}
 
 abbrev pub timed : Step → Timed

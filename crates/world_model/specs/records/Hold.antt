@@ -5,17 +5,17 @@ use Rattle.std.specs.Option.{option_map_or}
 use Rattle.svc_values.specs.declared.entry.Ltxid.{Ltxid}
 use Rattle.svc_values.specs.declared.frame.Up.{Up}
 use Rattle.svc_values.specs.declared.frame.Up.TheVariants as up
-use Rattle.svc_values.specs.Identifiers.{same_ltxid}
-use Rattle.pool_core.specs.Slots.{drains}
-use Rattle.client_model.specs.Verifying.{index_of}
-use Rattle.svc_values.specs.Same.{same_bool}
+use Rattle.svc_values.specs.meaning.Identifiers.{same_ltxid}
+use Rattle.pool_core.specs.meaning.Slots.{drains}
+use Rattle.client_model.specs.meaning.Verifying.{index_of}
+use Rattle.svc_values.specs.meaning.Same.{same_bool}
 use Rattle.client_model.specs.declared.input.Input.{Input}
 use Rattle.client_model.specs.declared.input.Input.TheVariants.{Waiting}
-use Rattle.client_model.specs.Terms.{Phase, Queued, Greeting, Asked, Running, Replaying}
+use Rattle.client_model.specs.meaning.Terms.{Phase, Queued, Greeting, Asked, Running, Replaying}
 use Rattle.client_model.specs.Released.{has_slot}
-use Rattle.world_model.specs.Frames.{Sent}
-use Rattle.world_model.specs.Links.{Link, link_at}
-use Rattle.world_model.specs.Clients.{Step}
+use Rattle.world_model.specs.meaning.Frames.{Sent}
+use Rattle.world_model.specs.meaning.Links.{Link, link_at}
+use Rattle.world_model.specs.meaning.Clients.{Step}
 use Rattle.world_model.specs.Traced.{Traced, Course, courses_of}
 use Rattle.world_model.specs.Sames.{each_pair, rise, owned_by}
 use Rattle.world_model.specs.Parts.{Numbered, links_of, is_out, count_reps, is_answered}

@@ -7,17 +7,17 @@ use Rattle.svc_values.specs.declared.entry.Entry.{Entry}
 use Rattle.svc_values.specs.declared.entry.SessionId.{SessionId}
 use Rattle.outage_schedule.specs.declared.item.Item.{Item}
 use Rattle.outage_schedule.specs.declared.item.Item.TheVariants as item
-use Rattle.svc_values.specs.Identifiers.{is_of_session, session_of}
+use Rattle.svc_values.specs.meaning.Identifiers.{is_of_session, session_of}
 use Rattle.client_model.specs.declared.input.Input.TheVariants.{Took}
-use Rattle.world_model.specs.Frames.{Reply}
-use Rattle.world_model.specs.Links.{Link, told_by}
+use Rattle.world_model.specs.meaning.Frames.{Reply}
+use Rattle.world_model.specs.meaning.Links.{Link, told_by}
 use Rattle.world_model.specs.records.Hold.{same_held}
-use Rattle.world_model.specs.Serving.{is_commit}
+use Rattle.world_model.specs.meaning.Serving.{is_commit}
 use Rattle.world_model.specs.Traced.{Traced}
 use Rattle.world_model.specs.records.Basic.{is_made}
 use Rattle.world_model.specs.Sames.{same_sent}
-use Rattle.run_clauses.specs.Tried.{holds}
-use Rattle.run_clauses.specs.EntryEvents.{entries_of}
+use Rattle.run_clauses.specs.meaning.Tried.{holds}
+use Rattle.run_clauses.specs.meaning.EntryEvents.{entries_of}
 use Rattle.world_model.specs.Parts.{number_of, held_number, is_out, out_frame, is_commit_call, served_reps, implies}
 
 -- before Hello is taken nothing can have committed

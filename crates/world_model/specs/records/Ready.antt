@@ -5,18 +5,18 @@ use Rattle.std.specs.Option.{option_map_or}
 use Rattle.svc_values.specs.declared.answer.Answer.TheVariants as answer
 use Rattle.svc_values.specs.declared.call.Call.{Call}
 use Rattle.svc_values.specs.declared.call.Call.TheVariants as call
-use Rattle.svc_values.specs.Calls.{has_commit}
+use Rattle.svc_values.specs.meaning.Calls.{has_commit}
 use Rattle.request_bounds.specs.declared.rule.After.{After}
 use Rattle.request_bounds.specs.declared.rule.After.TheVariants as after
 use Rattle.call_recorder.specs.declared.recorded.Recorded.{Recorded}
 use Rattle.outage_schedule.specs.declared.document.Request.{Request}
 use Rattle.outage_schedule.specs.declared.document.Document.{Document}
 use Rattle.client_model.specs.declared.track.Track.{Track}
-use Rattle.client_model.specs.Terms.{Terms, Talk, Phase, Unbegun, Queued, Seeking, Greeting, Running, Replaying}
-use Rattle.client_model.specs.Talk.{next_call}
+use Rattle.client_model.specs.meaning.Terms.{Terms, Talk, Phase, Unbegun, Queued, Seeking, Greeting, Running, Replaying}
+use Rattle.client_model.specs.meaning.Talk.{next_call}
 use Rattle.client_model.specs.Laws.{track_of}
-use Rattle.world_model.specs.Settings.{Setting, setting_of}
-use Rattle.world_model.specs.Clients.{Doing, Client}
+use Rattle.world_model.specs.meaning.Settings.{Setting, setting_of}
+use Rattle.world_model.specs.meaning.Clients.{Doing, Client}
 use Rattle.world_model.specs.Words.{held_in}
 use Rattle.world_model.specs.Traced.{Traced}
 use Rattle.world_model.specs.Parts.{implies}

@@ -7,25 +7,27 @@ use Rattle.std.specs.Cmp.Lexicographic.{pointwise}
 use Rattle.svc_values.specs.declared.call.Call.{Call}
 use Rattle.svc_values.specs.declared.frame.Up.{Up}
 use Rattle.svc_values.specs.declared.frame.Up.TheVariants as up
-use Rattle.request_bounds.specs.Replies.{ends_decided}
-use Rattle.svc_values.specs.Same.{same_bool, same_call, same_calls, same_draws}
+use Rattle.request_bounds.specs.meaning.Replies.{ends_decided}
+use Rattle.svc_values.specs.meaning.Same.{same_bool, same_call, same_calls, same_draws}
 use Rattle.client_model.specs.declared.track.Track.{Track}
 use Rattle.call_recorder.specs.declared.recorded.Recorded.{Recorded}
 use Rattle.outage_schedule.specs.declared.document.Request.{Request}
 use Rattle.outage_schedule.specs.declared.request.ShownCall.{ShownCall}
 use Rattle.outage_schedule.specs.declared.request.RequestReport.{RequestReport}
-use Rattle.run_clauses.specs.Copies.{next_of}
-use Rattle.client_model.specs.Terms.{Terms, Talk, Phase, Idle, Unbegun, Queued, Seeking, Greeting, Asked, Running, Replaying}
-use Rattle.client_model.specs.Talk.{wants_of}
-use Rattle.client_model.specs.Conversation.{Done, Timed, done_at, talk_at, talk_after, may_come, is_gone_next}
-use Rattle.client_model.specs.Account.{Account, account_of, count_uncommitted, set_shown}
+use Rattle.run_clauses.specs.meaning.Copies.{next_of}
+use Rattle.client_model.specs.meaning.Terms.{Terms, Talk, Phase, Idle, Unbegun, Queued, Seeking, Greeting, Asked, Running, Replaying}
+use Rattle.client_model.specs.meaning.Talk.{wants_of}
+use Rattle.client_model.specs.meaning.Conversation.{Done, Timed, done_at, talk_at}
+use Rattle.client_model.specs.Conversation.{talk_after, may_come, is_gone_next}
+use Rattle.client_model.specs.meaning.Account.{Account, account_of}
+use Rattle.client_model.specs.Account.{count_uncommitted, set_shown}
 use Rattle.client_model.specs.Laws.{track_of}
-use Rattle.world_model.specs.Frames.{Owner, Sent}
-use Rattle.world_model.specs.Links.{Link, link_at}
-use Rattle.world_model.specs.Clients.{Step, Past, Client, reports_of, script_at}
+use Rattle.world_model.specs.meaning.Frames.{Owner, Sent}
+use Rattle.world_model.specs.meaning.Links.{Link, link_at}
+use Rattle.world_model.specs.meaning.Clients.{Step, Past, Client, reports_of, script_at}
 use Rattle.world_model.specs.records.Conversing.{AllTalk, timed, inputs_of, first_talk}
-use Rattle.world_model.specs.Followed.{tells_steps}
-use Rattle.run_clauses.specs.Reports.{report_of}
+use Rattle.world_model.specs.meaning.Followed.{tells_steps}
+use Rattle.run_clauses.specs.meaning.Reports.{report_of}
 use Rattle.world_model.specs.Traced.{Traced, Course, courses_of}
 use Rattle.world_model.specs.Sames.{owned_by, same_owner, same_up}
 use Rattle.world_model.specs.Words.{held_in}

@@ -7,10 +7,10 @@ use Rattle.svc_values.specs.declared.frame.Up.{Up}
 use Rattle.svc_values.specs.declared.frame.Up.TheVariants as up
 use Rattle.svc_values.specs.declared.frame.Down.{Down}
 use Rattle.outage_schedule.specs.declared.item.Item.{Item}
-use Rattle.world_model.specs.Frames.{Owner, Sent, Reply, Handled}
-use Rattle.world_model.specs.Links.{Link}
-use Rattle.world_model.specs.Serving.{is_item_of, is_commit, is_last, reply_of}
-use Rattle.world_model.specs.Crashing.{is_crashed_item}
+use Rattle.world_model.specs.meaning.Frames.{Owner, Sent, Reply, Handled}
+use Rattle.world_model.specs.meaning.Links.{Link}
+use Rattle.world_model.specs.meaning.Serving.{is_item_of, is_commit, is_last, reply_of}
+use Rattle.world_model.specs.meaning.Crashing.{is_crashed_item}
 use Rattle.world_model.specs.Traced.{Traced}
 use Rattle.world_model.specs.Sames.{same_owners, same_sent, same_down, same_reply, is_front}
 use Rattle.world_model.specs.Parts.{is_rep, count_reps, is_closed, implies}

@@ -1,5 +1,5 @@
 use Rattle.std.proofs.Common.{◌≡◌, ◌≤◌, ◌+◌, length, []}
-use Rattle.call_forms.specs.Calls.{work_of}
+use Rattle.call_forms.specs.meaning.Calls.{work_of}
 use Rattle.call_forms.proofs.CallItems.{work_after}
 use Rattle.call_forms.proofs.call.work_of_items.Given as goal
 

@@ -1,6 +1,6 @@
 use Rattle.std.proofs.Common.{◌≡◌, ◌++◌, ◌-◌, ◌≤◌, length}
 use Rattle.std.specs.List.{flat_map, AllByRecursion}
-use Rattle.canon_bytes.specs.Lists.{items_at}
+use Rattle.canon_bytes.specs.meaning.Lists.{items_at}
 use Rattle.canon_bytes.proofs.Loop.{continued}
 use Rattle.canon_bytes.proofs.lists.take_items.Given as goal
 

@@ -2,12 +2,13 @@ use Rattle.std.proofs.Common.{◌≡◌, ◌++◌, ◌∷◌, [], ℕ, List, sym
 use Rattle.std.specs.List.{flat_map}
 use Rattle.std.proofs.lemmas.List.{flat_map_more}
 use Rattle.svc_values.specs.declared.value.Value.{Value}
-use Rattle.canon_bytes.specs.TextBytes.{spell_bytes}
-use Rattle.canon_bytes.specs.Values.{spell_value}
-use Rattle.canon_bytes.specs.SettingsBytes.{spell_setting, FitsSetting}
+use Rattle.canon_bytes.specs.meaning.TextBytes.{spell_bytes}
+use Rattle.canon_bytes.specs.meaning.Values.{spell_value}
+use Rattle.canon_bytes.specs.meaning.SettingsBytes.{spell_setting}
+use Rattle.canon_bytes.specs.SettingsBytes.{FitsSetting}
 use Rattle.canon_bytes.proofs.Loop.{AllByRecursion-push}
 use Rattle.canon_bytes.proofs.settings.put_each.Goals as goal
-use Rattle.svc_values.specs.SettingsList.{NamedValues}
+use Rattle.svc_values.specs.meaning.SettingsList.{NamedValues}
 
 written-push : (front : List ℕ) (done : NamedValues) (name : List ℕ) (value : Value) → ((front ++ flat_map spell_setting done) ++ spell_bytes name) ++ spell_value value ≡ front ++ flat_map spell_setting (done ++ (name, value) ∷ [])
 written-push front done name value =

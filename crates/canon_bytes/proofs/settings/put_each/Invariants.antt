@@ -1,7 +1,9 @@
 use Rattle.std.proofs.Common.{◌≡◌, ◌++◌}
 use Rattle.std.specs.List.{flat_map, AllByRecursion}
-use Rattle.svc_values.specs.SettingsList.{NamedValues, AreSettings}
-use Rattle.canon_bytes.specs.SettingsBytes.{spell_setting, FitsSetting}
+use Rattle.svc_values.specs.meaning.SettingsList.{NamedValues}
+use Rattle.svc_values.specs.SettingsList.{AreSettings}
+use Rattle.canon_bytes.specs.meaning.SettingsBytes.{spell_setting}
+use Rattle.canon_bytes.specs.SettingsBytes.{FitsSetting}
 use Rattle.canon_bytes.proofs.settings.put_each.Given as goal
 
 -- what has been written of the settings

@@ -1,7 +1,8 @@
 use Rattle.std.proofs.Common.{◌≡◌, ◌∷◌, [], ◌-◌, ◌+◌, suc, ℕ, sym, ap, ◌∙◌, arith, length-append}
 use Rattle.std.proofs.lemmas.Result.{err_from_is_err_and}
 use Rattle.svc_values.proofs.Offered.{AreSettings-last}
-use Rattle.canon_bytes.specs.SettingsBytes.{spell_setting, FitsSetting}
+use Rattle.canon_bytes.specs.meaning.SettingsBytes.{spell_setting}
+use Rattle.canon_bytes.specs.SettingsBytes.{FitsSetting}
 use Rattle.canon_bytes.proofs.Loop.{AllByRecursion-push, spelled-push}
 use Rattle.canon_bytes.proofs.SettingsLoop.{continued, continued-next, continued-fault, continued-last}
 use Rattle.canon_bytes.proofs.settings.take_rising.Goals as goal

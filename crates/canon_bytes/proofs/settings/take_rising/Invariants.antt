@@ -2,7 +2,8 @@ use Rattle.std.proofs.Common.{◌≡◌, ◌++◌, ◌-◌, ◌≤◌, length}
 use Rattle.std.specs.Prelude.{None}
 use Rattle.std.specs.List.{flat_map, AllByRecursion}
 use Rattle.svc_values.specs.SettingsList.{AreSettings}
-use Rattle.canon_bytes.specs.SettingsBytes.{spell_setting, FitsSetting, settings_behind}
+use Rattle.canon_bytes.specs.meaning.SettingsBytes.{spell_setting, settings_behind}
+use Rattle.canon_bytes.specs.SettingsBytes.{FitsSetting}
 use Rattle.canon_bytes.proofs.SettingsLoop.{continued}
 use Rattle.canon_bytes.proofs.settings.take_rising.Given as goal
 

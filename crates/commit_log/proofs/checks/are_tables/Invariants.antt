@@ -1,6 +1,6 @@
 use Rattle.std.proofs.Common.{◌≡◌, drop}
 use Rattle.std.specs.List.{list_all}
-use Rattle.commit_log.specs.Bases.{is_table}
+use Rattle.commit_log.specs.meaning.Bases.{is_table}
 use Rattle.commit_log.proofs.checks.are_tables.Given as goal
 
 abbrev pub invariant-loop-table : goal.invariant-loop-table

@@ -2,7 +2,7 @@ use Rattle.std.proofs.Common.{◌≡◌, ◌+◌, ◌∷◌, ◌||◌, List, dro
 use Rattle.std.proofs.lemmas.List.{drop_more}
 use Rattle.svc_values.specs.declared.value.Value.{Value}
 use Rattle.svc_values.specs.contracts.value.ValuePartialEq.TheImpl.{eq-value}
-use Rattle.svc_values.specs.Schemas.{key_of}
+use Rattle.svc_values.specs.meaning.Schemas.{key_of}
 use Rattle.commit_log.specs.Keys.{is_key}
 use Rattle.commit_log.proofs.Differing.{differ_from, differ_at_first, differ_on}
 use Rattle.commit_log.proofs.checks.keys_differ.Goals as goal

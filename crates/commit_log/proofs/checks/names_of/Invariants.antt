@@ -1,5 +1,5 @@
 use Rattle.std.proofs.Common.{◌≡◌, take, map}
-use Rattle.commit_log.specs.Bases.{sequence_name}
+use Rattle.commit_log.specs.meaning.Bases.{sequence_name}
 use Rattle.commit_log.proofs.checks.names_of.Given as goal
 
 abbrev pub invariant-loop-sequence : goal.invariant-loop-sequence

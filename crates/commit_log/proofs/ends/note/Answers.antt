@@ -3,7 +3,7 @@ use Rattle.std.specs.Prelude.{if◌then◌else◌}
 use Rattle.std.specs.Str.{bytes_eq}
 use Rattle.std.proofs.Math.ListN.{length-set}
 use Rattle.std.proofs.lemmas.Int.{to_z-of_z}
-use Rattle.commit_log.specs.Rules.{end_of}
+use Rattle.commit_log.specs.meaning.Rules.{end_of}
 use Rattle.commit_log.proofs.Reserving.{end_more, mapped_on}
 use Rattle.commit_log.proofs.ends.note.Goals as goal
 

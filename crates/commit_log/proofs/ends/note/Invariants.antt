@@ -1,6 +1,6 @@
 use Rattle.std.proofs.Common.{◌≡◌, List, [], ◌∷◌, ◌++◌, length, map, take, drop}
 use Rattle.commit_log.specs.declared.journal.Reservation.{Reservation}
-use Rattle.commit_log.specs.Rules.{end_of}
+use Rattle.commit_log.specs.meaning.Rules.{end_of}
 use Rattle.commit_log.proofs.ends.note.Given as goal
 
 abbrev pub invariant-loop-place : goal.invariant-loop-place

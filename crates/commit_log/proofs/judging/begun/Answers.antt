@@ -1,9 +1,9 @@
 use Rattle.std.proofs.Common.{◌≡◌, ℕ, [], ◌∷◌, ◌++◌, refl, sym, ap, ◌∙◌, rules, None}
 use Rattle.std.specs.Prelude.{Ok, Err}
-use Rattle.redo_store.specs.Records.{records_of, whole_records}
+use Rattle.redo_store.specs.meaning.Records.{records_of, whole_records}
 use Rattle.redo_store.specs.Walk.{HasRead}
-use Rattle.commit_log.specs.Rules.{Empty}
-use Rattle.commit_log.specs.Journals.{journal_in, after_payload}
+use Rattle.commit_log.specs.meaning.Rules.{Empty}
+use Rattle.commit_log.specs.meaning.Journals.{journal_in, after_payload}
 use Rattle.commit_log.proofs.Steps.{so_far_by_records, damaged_gate, damaged_record}
 use Rattle.commit_log.proofs.Misfits.{placed, when_none, when_some}
 use Rattle.commit_log.proofs.judging.begun.Goals as goal

@@ -1,10 +1,10 @@
 use Rattle.std.proofs.Common.{◌≡◌, ℕ, [], List, refl, sym, ap, subst, ◌∙◌, rules}
 use Rattle.std.specs.Prelude.{Err}
 use Rattle.disk_model.specs.Moment.{DiskMoment, MayLeave}
-use Rattle.redo_store.specs.Records.{records_of}
+use Rattle.redo_store.specs.meaning.Records.{records_of}
 use Rattle.redo_store.specs.Walk.{HasRead}
-use Rattle.commit_log.specs.Rules.{Empty}
-use Rattle.commit_log.specs.Journals.{journal_in, so_far_of}
+use Rattle.commit_log.specs.meaning.Rules.{Empty}
+use Rattle.commit_log.specs.meaning.Journals.{journal_in, so_far_of}
 use Rattle.commit_log.proofs.Steps.{so_far_by_records, damaged_gate}
 use Rattle.commit_log.proofs.judging.judge_all.Goals as goal
 

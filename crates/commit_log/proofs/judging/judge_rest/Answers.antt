@@ -3,9 +3,9 @@ use Rattle.std.specs.Prelude.{Ok, Err}
 use Rattle.disk_model.specs.Moment.{DiskMoment}
 use Rattle.disk_model.proofs.Offered.{reads_for, reads_then}
 use Rattle.redo_store.specs.declared.walk.Walk.{Walk}
-use Rattle.redo_store.specs.Records.{records_of, whole_records}
+use Rattle.redo_store.specs.meaning.Records.{records_of, whole_records}
 use Rattle.redo_store.specs.Walk.{HasRead}
-use Rattle.commit_log.specs.Journals.{journal_in, journal_of, after_payload}
+use Rattle.commit_log.specs.meaning.Journals.{journal_in, journal_of, after_payload}
 use Rattle.commit_log.specs.Judging.{so_far_in}
 use Rattle.commit_log.proofs.Steps.{judged_push, damaged_gate, damaged_record}
 use Rattle.commit_log.proofs.Misfits.{placed, when_none, when_some, no_fault}

@@ -1,5 +1,5 @@
 use Rattle.std.proofs.Common.{ap}
-use Rattle.commit_log.specs.Journals.{journal_in}
+use Rattle.commit_log.specs.meaning.Journals.{journal_in}
 use Rattle.commit_log.proofs.laws.has_its_journal.Goals as goal
 
 pub returns : goal.returns

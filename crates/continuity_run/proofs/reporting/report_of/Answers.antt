@@ -1,9 +1,9 @@
 use Rattle.std.proofs.Common.{◌∙◌, List, All, sym, ap, subst, rules}
 use Rattle.std.specs.Prelude.{IsTrue}
 use Rattle.svc_values.specs.declared.entry.Entry.{Entry}
-use Rattle.svc_values.specs.Fitting.{writes_fit}
-use Rattle.commit_log.specs.Bases.{schemas_of}
-use Rattle.commit_log.specs.Journals.{journal_of}
+use Rattle.svc_values.specs.meaning.Fitting.{writes_fit}
+use Rattle.commit_log.specs.meaning.Bases.{schemas_of}
+use Rattle.commit_log.specs.meaning.Journals.{journal_of}
 use Rattle.continuity_run.proofs.ReadOff.{tables_printed}
 use Rattle.continuity_run.proofs.reporting.report_of.Goals as goal
 

@@ -1,9 +1,9 @@
 use Rattle.std.proofs.Common.{◌≡◌, ◌∙◌, ap, Ok}
-use Rattle.commit_log.specs.Journals.{journal_of}
-use Rattle.run_clauses.specs.Before.{journal_before}
+use Rattle.commit_log.specs.meaning.Journals.{journal_of}
+use Rattle.run_clauses.specs.meaning.Before.{journal_before}
 use Rattle.service_core.specs.Seeing.{SeesIn, bytes_in}
 use Rattle.service_core.specs.Within.{Within}
-use Rattle.world_model.specs.Settings.{rules_of}
+use Rattle.world_model.specs.meaning.Settings.{rules_of}
 use Rattle.continuity_run.specs.Runs.{IsRunOf}
 use Rattle.continuity_run.proofs.Beginning.{can_begin, run_begins}
 use Rattle.continuity_run.proofs.Lasting.{may_be_read}

@@ -1,5 +1,5 @@
 use Rattle.std.proofs.Common.{◌≡◌, ◌++◌, map}
-use Rattle.run_clauses.specs.Before.{base_sequence}
+use Rattle.run_clauses.specs.meaning.Before.{base_sequence}
 use Rattle.continuity_run.proofs.store.sequences_in.Given as goal
 
 abbrev pub invariant-loop-sequence : goal.invariant-loop-sequence

@@ -1,10 +1,10 @@
 use Rattle.std.proofs.Common.{subst}
 use Rattle.std.specs.Io.KnownBytes.{Appends}
 use Rattle.json_form.specs.Faults.{Gives}
-use Rattle.doc_reader.specs.Documents.{document_at}
+use Rattle.doc_reader.specs.meaning.Documents.{document_at}
 use Rattle.continuity_run.specs.declared.top.Status.TheVariants as status
 use Rattle.continuity_run.specs.Causes.{AppendsFront, Rose}
-use Rattle.continuity_run.specs.Clauses.{Tells}
+use Rattle.continuity_run.specs.meaning.Clauses.{Tells}
 use Rattle.continuity_run.specs.InnerEnds.{IsWritten}
 use Rattle.continuity_run.proofs.Responses.{written, not_done, not_cut, by_end}
 use Rattle.continuity_run.proofs.top.respond.Goals as goal

@@ -1,9 +1,9 @@
 use Rattle.std.proofs.Common.{◌≡◌, ◌∙◌, ℕ, List, length, ap}
 use Rattle.svc_values.specs.declared.call.Call.{Call}
 use Rattle.outage_schedule.specs.declared.request.ShownCall.{ShownCall}
-use Rattle.request_bounds.specs.Rules.{Rules}
-use Rattle.shown_clauses.specs.Cover.{Counts, counts_of}
-use Rattle.shown_clauses.specs.Submissions.{Submission}
+use Rattle.request_bounds.specs.meaning.Rules.{Rules}
+use Rattle.shown_clauses.specs.meaning.Cover.{Counts, counts_of}
+use Rattle.shown_clauses.specs.meaning.Submissions.{Submission}
 use Rattle.auto_bounds.specs.Covered.{nothing_covered}
 use Rattle.cover_core.specs.Coverings.{covered}
 use Rattle.cover_core.proofs.counts.counts_by.Goals as goal

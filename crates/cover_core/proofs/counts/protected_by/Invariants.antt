@@ -1,6 +1,6 @@
 use Rattle.std.proofs.Common.{◌≡◌, IsTrue, drop}
 use Rattle.std.specs.List.{list_all}
-use Rattle.svc_values.specs.Calls.{is_made}
+use Rattle.svc_values.specs.meaning.Calls.{is_made}
 use Rattle.auto_bounds.specs.Covered.{nothing_covered}
 use Rattle.cover_core.specs.Coverings.{covered}
 use Rattle.cover_core.proofs.counts.protected_by.Given as goal

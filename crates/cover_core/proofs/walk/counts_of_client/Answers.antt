@@ -2,8 +2,8 @@ use Rattle.std.proofs.Common.{◌≡◌, ◌∙◌, ◌+◌, List, [], ◌∷◌
 use Rattle.std.proofs.lemmas.List.{take-append-drop, take_more, map-append}
 use Rattle.outage_schedule.specs.declared.request.RequestReport.{RequestReport}
 use Rattle.transcript_core.specs.Following.{IsNext}
-use Rattle.shown_clauses.specs.Submissions.{Submission}
-use Rattle.shown_clauses.specs.Cover.{counts_of}
+use Rattle.shown_clauses.specs.meaning.Submissions.{Submission}
+use Rattle.shown_clauses.specs.meaning.Cover.{counts_of}
 use Rattle.cover_core.specs.Walks.{client_cover}
 use Rattle.cover_core.proofs.Walking.{submissions_in, none_submitted, submissions_more, submissions_over, all_there}
 use Rattle.cover_core.proofs.walk.counts_of_client.Goals as goal

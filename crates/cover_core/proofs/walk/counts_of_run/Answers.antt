@@ -2,7 +2,7 @@ use Rattle.std.proofs.Common.{◌∙◌, ◌+◌, List, [], ◌∷◌, ◌++◌,
 use Rattle.std.specs.List.{list_all}
 use Rattle.std.proofs.lemmas.List.{drop_more}
 use Rattle.json_form.proofs.Offered.{second_true}
-use Rattle.shown_clauses.specs.Cover.{Counts}
+use Rattle.shown_clauses.specs.meaning.Cover.{Counts}
 use Rattle.cover_core.specs.Made.{has_made_requests}
 use Rattle.cover_core.specs.Walks.{client_cover, clients_cover}
 use Rattle.cover_core.proofs.Clients.{client_more}

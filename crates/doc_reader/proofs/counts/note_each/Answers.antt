@@ -1,6 +1,7 @@
 use Rattle.std.proofs.Common.{List, ℕ, Result, subst, ◌∙◌}
 use Rattle.std.proofs.lemmas.Result.{err_from_is_err_and}
-use Rattle.json_form.specs.Faults.{Fault, Fails}
+use Rattle.json_form.specs.meaning.Faults.{Fault}
+use Rattle.json_form.specs.Faults.{Fails}
 use Rattle.doc_reader.proofs.Naming.{next_noted, fault_noted}
 use Rattle.doc_reader.proofs.counts.note_each.Goals as goal
 

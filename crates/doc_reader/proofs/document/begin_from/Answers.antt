@@ -1,9 +1,10 @@
 use Rattle.std.proofs.lemmas.Result.{err_from_is_err_and}
 use Rattle.std.proofs.Common.{◌≡◌, codes, subst}
-use Rattle.json_form.specs.Objects.{members_at, optional}
+use Rattle.json_form.specs.meaning.Objects.{optional}
+use Rattle.json_form.specs.Objects.{members_at}
 use Rattle.json_form.proofs.Offered.{given}
 use Rattle.outage_schedule.specs.declared.document.ServiceOf.{ServiceOf}
-use Rattle.document_forms.specs.Service.{service_of}
+use Rattle.document_forms.specs.meaning.Service.{service_of}
 use Rattle.doc_reader.proofs.Parts.{begin_given, begin_fails, begin_left}
 use Rattle.doc_reader.proofs.document.begin_from.Goals as goal
 

@@ -1,7 +1,8 @@
 use Rattle.std.proofs.Common.{sym, subst, Result}
 use Rattle.std.specs.Prelude.{option_map}
 use Rattle.serde_json.specs.View.{view}
-use Rattle.json_form.specs.Faults.{Fault, Gives}
+use Rattle.json_form.specs.meaning.Faults.{Fault}
+use Rattle.json_form.specs.Faults.{Gives}
 use Rattle.json_form.specs.Objects.{members_at}
 use Rattle.outage_schedule.specs.declared.document.Document.{Document}
 use Rattle.doc_reader.proofs.Parts.{rest_given}

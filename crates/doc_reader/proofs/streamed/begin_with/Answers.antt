@@ -1,7 +1,8 @@
 use Rattle.std.proofs.Common.{◌≡◌, option_map, Ok, List, codes, sym, ap, ◌∙◌, rules}
-use Rattle.json_form.specs.Objects.{has, members_at}
+use Rattle.json_form.specs.meaning.Objects.{has}
+use Rattle.json_form.specs.Objects.{members_at}
 use Rattle.outage_schedule.specs.declared.document.DocTable.{DocTable}
-use Rattle.doc_reader.specs.Documents.{begin_of}
+use Rattle.doc_reader.specs.meaning.Documents.{begin_of}
 use Rattle.json_form.proofs.Offered.{given}
 use Rattle.doc_reader.proofs.OneByOne.{of_given}
 use Rattle.doc_reader.proofs.Joined.{begin_without, begin_with_tables}

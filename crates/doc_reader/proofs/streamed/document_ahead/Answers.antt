@@ -1,13 +1,13 @@
 use Rattle.std.proofs.Common.{◌≡◌, [], Some, option_map, List, Bool, false, codes, length, sym, ap, subst, ◌∙◌, rules}
 use Rattle.std.specs.Option.{unwrap_or}
 use Rattle.json_form.specs.Faults.{Gives}
-use Rattle.json_form.specs.Objects.{named}
+use Rattle.json_form.specs.meaning.Objects.{named}
 use Rattle.outage_schedule.specs.declared.document.Client.{Client}
 use Rattle.outage_schedule.specs.declared.document.Document.{Document}
 use Rattle.outage_schedule.specs.declared.event.Event.{Event}
-use Rattle.document_forms.specs.Events.{schedule_of}
-use Rattle.doc_reader.specs.Counts.{if_small}
-use Rattle.doc_reader.specs.Documents.{document_with}
+use Rattle.document_forms.specs.meaning.Events.{schedule_of}
+use Rattle.doc_reader.specs.meaning.Counts.{if_small}
+use Rattle.doc_reader.specs.meaning.Documents.{document_with}
 use Rattle.doc_reader.specs.Ahead.{number_in}
 use Rattle.json_form.proofs.Offered.{given}
 use Rattle.doc_reader.proofs.OneByOne.{of_given}

@@ -1,9 +1,9 @@
 use Rattle.std.proofs.Common.{◌≡◌, ◌-◌, ◌<◌, length, Some, sym, subst, ◌∙◌, arith, rules, refl}
 use Rattle.json.specs.Json.{read_key, value}
 use Rattle.serde_json.specs.Data.{no_members, put}
-use Rattle.json_form.specs.Objects.{named}
+use Rattle.json_form.specs.meaning.Objects.{named}
 use Rattle.json_form.proofs.Offered.{member_turn, members_over, read_key-shorter, named_put, known_put}
-use Rattle.doc_reader.specs.Documents.{document_members}
+use Rattle.doc_reader.specs.meaning.Documents.{document_members}
 use Rattle.doc_reader.specs.Ahead.{AreRead}
 use Rattle.doc_reader.proofs.streamed.members_ahead.Goals as goal
 

@@ -2,9 +2,9 @@ use Rattle.std.proofs.Common.{◌≡◌, ◌≤◌, ℕ, length, Ok}
 use Rattle.json.specs.Json.{value, members}
 use Rattle.serde_json.specs.Data.{Members}
 use Rattle.serde_json.specs.Read.{of_members, converted}
-use Rattle.json_form.specs.Objects.{named, known}
+use Rattle.json_form.specs.meaning.Objects.{named, known}
 use Rattle.json_form.specs.Streams.{members_ahead}
-use Rattle.doc_reader.specs.Documents.{document_members}
+use Rattle.doc_reader.specs.meaning.Documents.{document_members}
 use Rattle.doc_reader.specs.Ahead.{AreRead}
 use Rattle.doc_reader.proofs.streamed.members_ahead.Given as goal
 

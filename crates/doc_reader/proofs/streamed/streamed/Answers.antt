@@ -3,11 +3,11 @@ use Rattle.std.proofs.lemmas.Bool.{le-ltb}
 use Rattle.std.specs.Str.{IsUtf8}
 use Rattle.serde_json.specs.Data.{Data}
 use Rattle.serde_json.specs.Read.{read}
-use Rattle.json_form.specs.Faults.{Fault, ◌>>=◌}
-use Rattle.json_form.specs.Texts.{json_of, json_at}
+use Rattle.json_form.specs.meaning.Faults.{Fault, ◌>>=◌}
+use Rattle.json_form.specs.meaning.Texts.{json_of, json_at}
 use Rattle.json_form.proofs.Offered.{is_json}
 use Rattle.outage_schedule.specs.declared.document.Document.{Document}
-use Rattle.doc_reader.specs.Documents.{document_of, document_at, limit}
+use Rattle.doc_reader.specs.meaning.Documents.{document_of, document_at, limit}
 use Rattle.document_forms.proofs.Offered.{of_each}
 use Rattle.doc_reader.proofs.streamed.streamed.Goals as goal
 

@@ -1,5 +1,5 @@
 use Rattle.std.proofs.Common.{◌≡◌, fold, []}
-use Rattle.svc_values.specs.SettingsList.{put_setting}
+use Rattle.svc_values.specs.meaning.SettingsList.{put_setting}
 use Rattle.document_forms.proofs.script.by_name.Given as goal
 
 abbrev pub invariant-loop-name : goal.invariant-loop-name

@@ -1,8 +1,8 @@
 use Rattle.std.proofs.Common.{◌≡◌, ◌+◌, length, []}
 use Rattle.serde_json.specs.View.{items_view}
-use Rattle.json_form.specs.Arrays.{each_after, is_key}
+use Rattle.json_form.specs.meaning.Arrays.{each_after, is_key}
 use Rattle.svc_values.specs.contracts.value.ValuePartialEq.TheImpl.{eq-value}
-use Rattle.document_forms.specs.Tables.{field_of}
+use Rattle.document_forms.specs.meaning.Tables.{field_of}
 use Rattle.document_forms.proofs.table.fields_from.Given as goal
 
 abbrev pub invariant-loop-value : goal.invariant-loop-value

@@ -1,6 +1,6 @@
 use Rattle.std.proofs.Common.{List, Result, sym, subst, rules}
 use Rattle.serde_json.specs.Data.{Data}
-use Rattle.json_form.specs.Faults.{Fault}
+use Rattle.json_form.specs.meaning.Faults.{Fault}
 use Rattle.json_form.specs.Streams.{Begins}
 use Rattle.svc_values.specs.declared.value.Value.{Value}
 use Rattle.document_forms.proofs.TablesAhead.{rows_by_key}

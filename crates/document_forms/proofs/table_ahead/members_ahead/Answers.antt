@@ -2,10 +2,10 @@ use Rattle.std.proofs.Common.{◌≡◌, ◌-◌, ◌<◌, length, Some, None, s
 use Rattle.std.specs.Str.{bytes_eq}
 use Rattle.json.specs.Json.{read_key, value}
 use Rattle.serde_json.specs.Data.{no_members, put}
-use Rattle.json_form.specs.Arrays.{is_key}
-use Rattle.json_form.specs.Objects.{named}
+use Rattle.json_form.specs.meaning.Arrays.{is_key}
+use Rattle.json_form.specs.meaning.Objects.{named}
 use Rattle.json_form.proofs.Offered.{member_turn, members_over, read_key-shorter, named_put, known_put}
-use Rattle.document_forms.specs.Tables.{table_members}
+use Rattle.document_forms.specs.meaning.Tables.{table_members}
 use Rattle.document_forms.specs.TablesAhead.{IsTableRead}
 use Rattle.document_forms.proofs.table_ahead.members_ahead.Goals as goal
 

@@ -3,10 +3,10 @@ use Rattle.std.specs.Str.{bytes_eq}
 use Rattle.json.specs.Json.{members, value}
 use Rattle.serde_json.specs.Data.{Members}
 use Rattle.serde_json.specs.Read.{of_members, converted}
-use Rattle.json_form.specs.Arrays.{is_key}
-use Rattle.json_form.specs.Objects.{named, known}
+use Rattle.json_form.specs.meaning.Arrays.{is_key}
+use Rattle.json_form.specs.meaning.Objects.{named, known}
 use Rattle.json_form.specs.Streams.{members_ahead}
-use Rattle.document_forms.specs.Tables.{table_members}
+use Rattle.document_forms.specs.meaning.Tables.{table_members}
 use Rattle.document_forms.specs.TablesAhead.{IsTableRead}
 use Rattle.document_forms.proofs.table_ahead.members_ahead.Given as goal
 

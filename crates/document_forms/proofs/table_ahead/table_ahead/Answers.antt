@@ -3,8 +3,8 @@ use Rattle.std.specs.Str.{bytes_eq}
 use Rattle.std.specs.Option.{unwrap_or}
 use Rattle.json.specs.Json.{parse_map}
 use Rattle.serde_json.specs.Data.{object}
-use Rattle.json_form.specs.Arrays.{is_key}
-use Rattle.document_forms.specs.Tables.{table_of}
+use Rattle.json_form.specs.meaning.Arrays.{is_key}
+use Rattle.document_forms.specs.meaning.Tables.{table_of}
 use Rattle.document_forms.proofs.TablesAhead.{made, table_joined}
 use Rattle.document_forms.proofs.table_ahead.table_ahead.Goals as goal
 

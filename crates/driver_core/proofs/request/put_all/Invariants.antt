@@ -1,5 +1,5 @@
 use Rattle.std.proofs.Common.{◌≡◌}
-use Rattle.client_model.specs.Talk.{settled}
+use Rattle.client_model.specs.meaning.Talk.{settled}
 use Rattle.driver_core.proofs.request.put_all.Given as goal
 
 abbrev pub invariant-loop-name : goal.invariant-loop-name

@@ -3,8 +3,8 @@ use Rattle.std.proofs.lemmas.List.{length_push}
 use Rattle.json.specs.Json.{parse_map, after_end_array, items, value}
 use Rattle.serde_json.specs.Read.{of_items, converted}
 use Rattle.serde_json.specs.View.{view}
-use Rattle.json_form.specs.Faults.{within_item}
-use Rattle.json_form.specs.Arrays.{each_after, array_of}
+use Rattle.json_form.specs.meaning.Faults.{within_item}
+use Rattle.json_form.specs.meaning.Arrays.{each_after, array_of}
 use Rattle.json_form.proofs.Ahead.{one_read, none_left, array_read}
 use Rattle.json_form.proofs.array.array_ahead.Goals as goal
 

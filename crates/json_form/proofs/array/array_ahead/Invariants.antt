@@ -1,7 +1,7 @@
 use Rattle.std.proofs.Common.{◌≡◌, ◌≤◌, ℕ, length, []}
 use Rattle.json.specs.Json.{items, value, parse_map}
 use Rattle.serde_json.specs.Read.{of_items, converted}
-use Rattle.json_form.specs.Arrays.{each_after}
+use Rattle.json_form.specs.meaning.Arrays.{each_after}
 use Rattle.json_form.specs.Streams.{items_ahead}
 use Rattle.json_form.proofs.array.array_ahead.Given as goal
 

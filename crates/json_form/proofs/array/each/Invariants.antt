@@ -1,6 +1,6 @@
 use Rattle.std.proofs.Common.{◌≡◌, ◌+◌, length}
 use Rattle.serde_json.specs.View.{items_view}
-use Rattle.json_form.specs.Arrays.{each_after, each_of}
+use Rattle.json_form.specs.meaning.Arrays.{each_after, each_of}
 use Rattle.json_form.proofs.array.each.Given as goal
 
 abbrev pub invariant-loop-value : goal.invariant-loop-value

@@ -2,8 +2,8 @@ use Rattle.std.proofs.Common.{◌≡◌, ◌-◌, ◌<◌, ◌||◌, [], ◌∷�
 use Rattle.std.proofs.lemmas.List.{length_push}
 use Rattle.json.specs.Json.{parse_map, after_end_array, items, value}
 use Rattle.serde_json.specs.Read.{of_items, converted}
-use Rattle.json_form.specs.Faults.{within_item}
-use Rattle.json_form.specs.Arrays.{each_after, array_of, is_key}
+use Rattle.json_form.specs.meaning.Faults.{within_item}
+use Rattle.json_form.specs.meaning.Arrays.{each_after, array_of, is_key}
 use Rattle.json_form.proofs.Keys.{still_has}
 use Rattle.json_form.specs.Streams.{Begins, value_ahead}
 use Rattle.json_form.proofs.Ahead.{begun, one_read, none_left, array_read}

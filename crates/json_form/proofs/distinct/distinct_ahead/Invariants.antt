@@ -1,7 +1,7 @@
 use Rattle.std.proofs.Common.{◌≡◌, ◌≤◌, ℕ, length, map, []}
 use Rattle.json.specs.Json.{items, value, parse_map}
 use Rattle.serde_json.specs.Read.{of_items, converted}
-use Rattle.json_form.specs.Arrays.{each_after, is_key}
+use Rattle.json_form.specs.meaning.Arrays.{each_after, is_key}
 use Rattle.json_form.specs.Streams.{items_ahead}
 use Rattle.json_form.proofs.distinct.distinct_ahead.Given as goal
 

@@ -1,6 +1,6 @@
 use Rattle.std.proofs.Common.{◌≡◌, ◌+◌, length, map}
 use Rattle.serde_json.specs.View.{items_view}
-use Rattle.json_form.specs.Arrays.{each_after, distinct, is_key}
+use Rattle.json_form.specs.meaning.Arrays.{each_after, distinct, is_key}
 use Rattle.json_form.proofs.distinct.each_distinct.Given as goal
 
 abbrev pub invariant-loop-value : goal.invariant-loop-value

@@ -1,6 +1,6 @@
 use Rattle.std.proofs.Common.{◌≡◌, map, sym}
 use Rattle.std.proofs.Math.Path.{fun_ext}
-use Rattle.json_form.specs.Arrays.{is_key}
+use Rattle.json_form.specs.meaning.Arrays.{is_key}
 use Rattle.json_form.proofs.distinct.next_ahead.Goals as goal
 
 pub returns-clause-begins : goal.returns-clause-begins

@@ -2,7 +2,7 @@ use Rattle.std.proofs.Common.{◌≡◌, ◌∙◌, List, [], ℕ, sym, map}
 use Rattle.std.specs.Str.{bytes_eq}
 use Rattle.serde_json.proofs.Views.{Entry}
 use Rattle.json_form.specs.declared.fault.DocCode.TheVariants.{Unknown}
-use Rattle.json_form.specs.Objects.{is_among}
+use Rattle.json_form.specs.meaning.Objects.{is_among}
 use Rattle.json_form.proofs.Known.{list_any-map, known_step, known_stop}
 use Rattle.json_form.proofs.Failures.{Fails-under}
 use Rattle.json_form.proofs.object.known.Goals as goal

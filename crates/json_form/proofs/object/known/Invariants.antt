@@ -1,6 +1,6 @@
 use Rattle.std.proofs.Common.{◌≡◌, map}
 use Rattle.serde_json.specs.View.{members_view}
-use Rattle.json_form.specs.Objects.{known}
+use Rattle.json_form.specs.meaning.Objects.{known}
 use Rattle.json_form.proofs.object.known.Given as goal
 
 abbrev pub invariant-loop-key : goal.invariant-loop-key

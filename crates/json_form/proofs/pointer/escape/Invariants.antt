@@ -1,7 +1,7 @@
 use Rattle.std.proofs.Common.{◌≡◌, string_bytes, take}
 use Rattle.std.specs.List.{flat_map}
 use Rattle.std.specs.Str.{chars}
-use Rattle.json_form.specs.Pointers.{escaped_char}
+use Rattle.json_form.specs.meaning.Pointers.{escaped_char}
 use Rattle.json_form.proofs.pointer.escape.Given as goal
 
 abbrev pub invariant-loop-c : goal.invariant-loop-c

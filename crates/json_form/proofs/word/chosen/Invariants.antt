@@ -1,5 +1,5 @@
 use Rattle.std.proofs.Common.{◌≡◌, drop, map}
-use Rattle.json_form.specs.Texts.{chosen}
+use Rattle.json_form.specs.meaning.Texts.{chosen}
 use Rattle.json_form.proofs.word.chosen.Given as goal
 
 abbrev pub invariant-loop-name : goal.invariant-loop-name

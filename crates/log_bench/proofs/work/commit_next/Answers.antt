@@ -1,5 +1,5 @@
 use Rattle.std.proofs.Common.{ap, sym, ◌∙◌}
-use Rattle.commit_log.specs.Journals.{journal_in}
+use Rattle.commit_log.specs.meaning.Journals.{journal_in}
 use Rattle.log_bench.proofs.Beside.{may_follow, followed_after}
 use Rattle.log_bench.proofs.work.commit_next.Goals as goal
 

@@ -1,6 +1,7 @@
 use Rattle.std.proofs.Common.{IsTrue, true, sym, ap, subst, ◌∙◌}
 use Rattle.ltxid_book.specs.declared.State.{State}
-use Rattle.ltxid_book.specs.Sessions.{Contents, state_in, sessions_in, may_commit, with_state}
+use Rattle.ltxid_book.specs.meaning.Sessions.{may_commit}
+use Rattle.ltxid_book.specs.Sessions.{Contents, state_in, sessions_in, with_state}
 use Rattle.ltxid_book.proofs.Lookups.{state_in-put}
 use Rattle.ltxid_book.proofs.Known.{may_known}
 use Rattle.ltxid_book.proofs.Books.{says_with}

@@ -1,5 +1,6 @@
 use Rattle.std.proofs.Common.{IsTrue, sym, subst}
-use Rattle.ltxid_book.specs.Sessions.{Contents, state_in, sessions_in, may_commit}
+use Rattle.ltxid_book.specs.meaning.Sessions.{may_commit}
+use Rattle.ltxid_book.specs.Sessions.{Contents, state_in, sessions_in}
 use Rattle.ltxid_book.proofs.Lookups.{state_in-put}
 use Rattle.ltxid_book.proofs.Known.{may_known}
 use Rattle.ltxid_book.proofs.Books.{says_with}

@@ -2,8 +2,8 @@ use Rattle.std.proofs.Common.{◌≡◌, ◌+◌, List, [], ◌∷◌, ◌++◌,
 use Rattle.std.proofs.lemmas.List.{take_more, map_push, length-map, length-take-le}
 use Rattle.svc_values.specs.declared.entry.Entry.{Entry}
 use Rattle.svc_values.specs.declared.entry.Ltxid.{Ltxid}
-use Rattle.ltxid_book.specs.Sessions.{Sessions}
-use Rattle.ltxid_book.specs.Journal.{Committed, committed_of, book_of}
+use Rattle.ltxid_book.specs.meaning.Sessions.{Sessions}
+use Rattle.ltxid_book.specs.meaning.Journal.{Committed, committed_of, book_of}
 use Rattle.ltxid_book.specs.InnerMaking.{counted, marked}
 use Rattle.ltxid_book.proofs.Making.{counted_on, marked_on, next_few}
 use Rattle.ltxid_book.proofs.Book.of_journal.Goals as goal

@@ -1,6 +1,6 @@
 use Rattle.std.proofs.Common.{◌≡◌, [], map, take}
 use Rattle.ltxid_book.specs.Sessions.{sessions_in}
-use Rattle.ltxid_book.specs.Journal.{committed_of, book_of}
+use Rattle.ltxid_book.specs.meaning.Journal.{committed_of, book_of}
 use Rattle.ltxid_book.proofs.Book.of_journal.Given as goal
 
 abbrev pub invariant-loop-entry : goal.invariant-loop-entry

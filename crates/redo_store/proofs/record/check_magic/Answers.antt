@@ -1,6 +1,6 @@
 use Rattle.std.proofs.Common.{◌≡◌, ℕ, List, take, ◌∙◌, ap, arith, true, false, not}
 use Rattle.std.specs.Str.{bytes_eq}
-use Rattle.redo_store.specs.Records.{magic}
+use Rattle.redo_store.specs.meaning.Records.{magic}
 use Rattle.redo_store.proofs.Walking.{short_image}
 use Rattle.redo_store.proofs.record.check_magic.Goals as goal
 

@@ -1,6 +1,6 @@
 use Rattle.std.proofs.Common.{sym}
 use Rattle.redo_store.proofs.Walking.{spelled_by}
-use Rattle.redo_store.specs.Records.{length_of}
+use Rattle.redo_store.specs.meaning.Records.{length_of}
 use Rattle.redo_store.proofs.record.length_in.Goals as goal
 
 pub returns-clause-spelling : goal.returns-clause-spelling

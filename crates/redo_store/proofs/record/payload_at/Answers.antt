@@ -1,7 +1,8 @@
 use Rattle.std.proofs.Common.{◌≡◌, ◌<◌, ◌+◌, length, take, drop, sym, ◌∙◌, ap, arith, length-drop}
 use Rattle.std.proofs.lemmas.List.{length-take-le}
 use Rattle.disk_model.specs.Moment.{DiskMoment}
-use Rattle.redo_store.specs.Records.{length_bytes, length_of}
+use Rattle.redo_store.specs.meaning.Records.{length_of}
+use Rattle.redo_store.specs.Records.{length_bytes}
 use Rattle.redo_store.proofs.Walking.{torn_record, torn_record_whole, record_is}
 use Rattle.redo_store.proofs.record.payload_at.Goals as goal
 

@@ -4,8 +4,8 @@ use Rattle.serde_json.specs.Events.{items_len}
 use Rattle.serde_json.specs.Find.{as_array}
 use Rattle.serde_json.specs.View.{view, items_view}
 use Rattle.serde_json.proofs.Views.{items_len-items_view}
-use Rattle.json_form.specs.Faults.{◌>>=◌}
-use Rattle.json_form.specs.Values.{expected}
+use Rattle.json_form.specs.meaning.Faults.{◌>>=◌}
+use Rattle.json_form.specs.meaning.Values.{expected}
 use Rattle.report_reader.proofs.note.count_from.Goals as goal
 
 pub returns-in-Some : goal.returns-in-Some

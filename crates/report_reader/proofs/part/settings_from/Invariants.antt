@@ -1,6 +1,6 @@
 use Rattle.std.proofs.Common.{◌≡◌, []}
 use Rattle.serde_json.specs.View.{items_view}
-use Rattle.json_form.specs.Arrays.{each_after}
+use Rattle.json_form.specs.meaning.Arrays.{each_after}
 use Rattle.report_reader.specs.Parts.{setting_in}
 use Rattle.report_reader.proofs.part.settings_from.Given as goal
 

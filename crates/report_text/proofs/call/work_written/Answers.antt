@@ -3,7 +3,7 @@ use Rattle.std.specs.List.{flat_map}
 use Rattle.json.specs.Token.{Token, begin_array}
 use Rattle.json_form.specs.Tokens.{tokens_of}
 use Rattle.report_text.specs.Tokens.{ending}
-use Rattle.report_text.specs.Calls.{statement_value, commit_values, call_value}
+use Rattle.report_text.specs.meaning.Calls.{statement_value, commit_values, call_value}
 use Rattle.report_text.proofs.PartsWritten.{ahead, on_ok, items_ending}
 use Rattle.report_text.proofs.call.work_written.Goals as goal
 

@@ -1,8 +1,8 @@
 use Rattle.std.proofs.Common.{List, [], ◌∷◌, ◌++◌, ◌∙◌}
 use Rattle.json.specs.Token.{Token, end_array}
 use Rattle.json_form.specs.Tokens.{tokens_of}
-use Rattle.json_form.specs.Writing.{whole}
-use Rattle.report_text.specs.Failures.{reason_value, failure_value}
+use Rattle.json_form.specs.meaning.Writing.{whole}
+use Rattle.report_text.specs.meaning.Failures.{reason_value, failure_value}
 use Rattle.report_text.proofs.PartsWritten.{ahead, on_ok}
 use Rattle.report_text.proofs.failure.disabled_written.Goals as goal
 

@@ -1,4 +1,4 @@
-use Rattle.report_text.specs.Failures.{failure_value}
+use Rattle.report_text.specs.meaning.Failures.{failure_value}
 use Rattle.report_text.proofs.failure.failure_written.Goals as goal
 
 pub returns-in-Incomplete : goal.returns-in-Incomplete

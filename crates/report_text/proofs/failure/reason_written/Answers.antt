@@ -1,4 +1,4 @@
-use Rattle.report_text.specs.Failures.{reason_value}
+use Rattle.report_text.specs.meaning.Failures.{reason_value}
 use Rattle.report_text.proofs.failure.reason_written.Goals as goal
 
 pub returns-in-AfterCommit : goal.returns-in-AfterCommit

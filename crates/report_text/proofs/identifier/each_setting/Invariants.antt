@@ -1,7 +1,7 @@
 use Rattle.std.proofs.Common.{◌≡◌, ◌++◌}
 use Rattle.std.specs.List.{flat_map}
 use Rattle.json_form.specs.Tokens.{tokens_of}
-use Rattle.report_text.specs.Values.{setting_value}
+use Rattle.report_text.specs.meaning.Values.{setting_value}
 use Rattle.report_text.proofs.identifier.each_setting.Given as goal
 
 abbrev pub invariant-loop-name : goal.invariant-loop-name

@@ -1,5 +1,5 @@
 use Rattle.json_form.proofs.Offered.{array_written}
-use Rattle.report_text.specs.Values.{setting_value}
+use Rattle.report_text.specs.meaning.Values.{setting_value}
 use Rattle.report_text.proofs.identifier.settings_written.Goals as goal
 
 pub returns : goal.returns

@@ -1,8 +1,8 @@
 use Rattle.std.proofs.Common.{List, [], ◌∷◌, ◌++◌, ◌∙◌}
 use Rattle.json.specs.Token.{Token, end_array}
 use Rattle.json_form.specs.Tokens.{tokens_of}
-use Rattle.report_text.specs.Values.{identifier_value}
-use Rattle.report_text.specs.Items.{item_value}
+use Rattle.report_text.specs.meaning.Values.{identifier_value}
+use Rattle.report_text.specs.meaning.Items.{item_value}
 use Rattle.report_text.proofs.PartsWritten.{ahead, on_ok}
 use Rattle.report_text.proofs.item.crashed_outcome_written.Goals as goal
 

@@ -2,9 +2,9 @@ use Rattle.std.proofs.Common.{List, ◌++◌, ◌∙◌}
 use Rattle.json.specs.Token.{Token}
 use Rattle.json_form.specs.Tokens.{tokens_of}
 use Rattle.report_text.specs.Tokens.{ending}
-use Rattle.report_text.specs.Values.{identifier_value}
-use Rattle.report_text.specs.Notes.{told_values}
-use Rattle.report_text.specs.Items.{item_value}
+use Rattle.report_text.specs.meaning.Values.{identifier_value}
+use Rattle.report_text.specs.meaning.Notes.{told_values}
+use Rattle.report_text.specs.meaning.Items.{item_value}
 use Rattle.report_text.proofs.PartsWritten.{ahead, on_ok}
 use Rattle.report_text.proofs.item.outcome_written.Goals as goal
 

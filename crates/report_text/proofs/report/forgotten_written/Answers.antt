@@ -1,7 +1,7 @@
 use Rattle.std.proofs.Common.{rules, ◌≡◌, ◌∷◌, [], codes, ◌∙◌}
 use Rattle.json_form.specs.Tokens.{tokens_of}
-use Rattle.json_form.specs.Writing.{whole}
-use Rattle.report_text.specs.Report.{forgotten_member}
+use Rattle.json_form.specs.meaning.Writing.{whole}
+use Rattle.report_text.specs.meaning.Report.{forgotten_member}
 use Rattle.report_text.proofs.PartsWritten.{ahead, on_ok}
 use Rattle.report_text.proofs.report.forgotten_written.Goals as goal
 

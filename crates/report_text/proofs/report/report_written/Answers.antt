@@ -1,14 +1,14 @@
 use Rattle.std.proofs.Common.{List, [], ◌∷◌, ◌==◌, ◌++◌, codes, ap, ◌∙◌}
 use Rattle.json.specs.Token.{Token, end_object, key}
 use Rattle.json_form.specs.Tokens.{tokens_of}
-use Rattle.json_form.specs.Writing.{list_by, text}
+use Rattle.json_form.specs.meaning.Writing.{list_by, text}
 use Rattle.report_text.specs.Tokens.{named}
-use Rattle.report_text.specs.Report.{forgotten_member, image_member, report_value}
-use Rattle.report_text.specs.Values.{identifier_value}
-use Rattle.report_text.specs.Entries.{entry_value, table_value}
-use Rattle.report_text.specs.Requests.{request_value}
-use Rattle.report_text.specs.Notes.{note_value}
-use Rattle.report_text.specs.Items.{served_value}
+use Rattle.report_text.specs.meaning.Report.{forgotten_member, image_member, report_value}
+use Rattle.report_text.specs.meaning.Values.{identifier_value}
+use Rattle.report_text.specs.meaning.Entries.{entry_value, table_value}
+use Rattle.report_text.specs.meaning.Requests.{request_value}
+use Rattle.report_text.specs.meaning.Notes.{note_value}
+use Rattle.report_text.specs.meaning.Items.{served_value}
 use Rattle.report_text.proofs.PartsWritten.{ahead, on_ok, all_named}
 use Rattle.report_text.proofs.report.report_written.Goals as goal
 

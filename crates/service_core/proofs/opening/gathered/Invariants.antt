@@ -1,7 +1,7 @@
 use Rattle.std.proofs.Common.{◌≡◌, ◌++◌, map}
 use Rattle.std.specs.List.{flat_map}
 use Rattle.table_store.specs.Given.{plain}
-use Rattle.commit_log.specs.Bases.{rows_of, schema_in}
+use Rattle.commit_log.specs.meaning.Bases.{rows_of, schema_in}
 use Rattle.service_core.proofs.opening.gathered.Given as goal
 
 abbrev pub invariant-loop-one : goal.invariant-loop-one

@@ -1,7 +1,7 @@
 use Rattle.std.proofs.Common.{◌≡◌, take, drop, map}
 use Rattle.std.specs.Prelude.{IsTrue}
 use Rattle.std.specs.List.{list_all}
-use Rattle.commit_log.specs.Bases.{is_sequence}
+use Rattle.commit_log.specs.meaning.Bases.{is_sequence}
 use Rattle.service_core.specs.InnerOpening.{ends_low, state_of}
 use Rattle.service_core.proofs.opening.sequences_of.Given as goal
 

@@ -5,7 +5,7 @@ use Rattle.svc_values.specs.declared.tables.PlainRow.{PlainRow}
 use Rattle.svc_values.specs.Fitting.{tables_fit}
 use Rattle.table_store.specs.Given.{plain}
 use Rattle.table_store.specs.Stored.{AreApart}
-use Rattle.commit_log.specs.Bases.{schemas_of}
+use Rattle.commit_log.specs.meaning.Bases.{schemas_of}
 use Rattle.service_core.proofs.BaseRows.{start_fits, start_apart}
 use Rattle.service_core.proofs.opening.start_of.Goals as goal
 

@@ -4,7 +4,7 @@ use Rattle.std.specs.Prelude.{IsTrue}
 use Rattle.std.specs.List.{list_all}
 use Rattle.svc_values.specs.declared.schema.Schema.{Schema}
 use Rattle.table_store.specs.Stored.{Stored}
-use Rattle.commit_log.specs.Bases.{schemas_of}
+use Rattle.commit_log.specs.meaning.Bases.{schemas_of}
 use Rattle.service_core.specs.InnerOpening.{entry_fits}
 use Rattle.service_core.proofs.opening.tables_of.Goals as goal
 

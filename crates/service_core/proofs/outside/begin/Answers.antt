@@ -1,7 +1,7 @@
 use Rattle.std.proofs.Common.{◌+◌, refl, ap, subst}
-use Rattle.svc_values.specs.SettingsList.{NamedValues}
+use Rattle.svc_values.specs.meaning.SettingsList.{NamedValues}
 use Rattle.svc_values.specs.declared.frame.Up.TheVariants as up
-use Rattle.svc_values.specs.Calls.{sequences_in}
+use Rattle.svc_values.specs.meaning.Calls.{sequences_in}
 use Rattle.server_session.specs.SeenSession.{is_alive}
 use Rattle.server_session.specs.Serving.{HasServed, served_as, told_of}
 use Rattle.service_core.proofs.Throughout.{has_begun, is_idle}

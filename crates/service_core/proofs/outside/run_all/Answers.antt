@@ -2,7 +2,7 @@ use Rattle.std.proofs.Common.{rules, ◌≡◌, ◌+◌, sym, subst, List, [], �
 use Rattle.std.proofs.lemmas.List.{drop_all}
 use Rattle.std.specs.Prelude.{Option}
 use Rattle.svc_values.specs.declared.call.Call.{Call}
-use Rattle.svc_values.specs.Identifiers.{session_of}
+use Rattle.svc_values.specs.meaning.Identifiers.{session_of}
 use Rattle.outage_schedule.specs.declared.note.NoteRun.{NoteRun}
 use Rattle.service_core.specs.Through.{HasRunAll, HasRunOne}
 use Rattle.service_core.proofs.Throughout.{SoFar, at_call, halts_all, so_far_all, so_far_blocked, so_far_more, so_far_none}

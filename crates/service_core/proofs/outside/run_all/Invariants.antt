@@ -1,5 +1,5 @@
 use Rattle.std.proofs.Common.{drop}
-use Rattle.svc_values.specs.Identifiers.{session_of}
+use Rattle.svc_values.specs.meaning.Identifiers.{session_of}
 use Rattle.service_core.proofs.Throughout.{SoFar}
 use Rattle.service_core.proofs.outside.run_all.Given as goal
 

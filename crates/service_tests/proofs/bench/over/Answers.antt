@@ -2,7 +2,7 @@ use Rattle.std.proofs.Common.{◌≡◌, ◌∙◌, sym, ap, subst, rules}
 use Rattle.std.specs.Prelude.{Ok}
 use Rattle.disk_model.specs.Disk.{DiskState, new_disk}
 use Rattle.disk_model.specs.Mem.{mem_state}
-use Rattle.commit_log.specs.Journals.{journal_of}
+use Rattle.commit_log.specs.meaning.Journals.{journal_of}
 use Rattle.service_core.specs.Seeing.{SeesIn, state_in}
 use Rattle.service_tests.specs.Facts.{Facts}
 use Rattle.service_tests.specs.Knows.{Knows}

@@ -1,5 +1,5 @@
-use Rattle.shown_clauses.specs.Parts.{has_its_sessions}
-use Rattle.shown_clauses.specs.Showings.{has_its_showings}
+use Rattle.shown_clauses.specs.meaning.Parts.{has_its_sessions}
+use Rattle.shown_clauses.specs.meaning.Showings.{has_its_showings}
 use Rattle.shown_laws.proofs.ReportsTold.{reports_hold, outcomes_listed}
 use Rattle.shown_laws.proofs.reports.reports_list_parts.Goals as goal
 

@@ -2,8 +2,8 @@ use Rattle.std.proofs.Common.{ap, sym, subst, ◌∙◌}
 use Rattle.std.proofs.lemmas.Result.{IfOk-weaker}
 use Rattle.stmt_meaning.specs.PlainRuns.{IsMeaning}
 use Rattle.svc_values.specs.declared.answer.Answer.TheVariants as answer
-use Rattle.svc_values.specs.SettingsList.{put_setting}
-use Rattle.stmt_meaning.specs.Meaning.{mean, worked, statements_done}
+use Rattle.svc_values.specs.meaning.SettingsList.{put_setting}
+use Rattle.stmt_meaning.specs.meaning.Meaning.{mean, worked, statements_done}
 use Rattle.stmt_meaning.proofs.Working.{command_gives}
 use Rattle.stmt_meaning.proofs.TablesFit.{run-base}
 use Rattle.stmt_meaning.proofs.plain.plain_call.Goals as goal

@@ -7,7 +7,7 @@ use Rattle.stmt_meaning.specs.Drawing.{Ends}
 use Rattle.stmt_meaning.specs.InnerAnswers.{DidAll}
 use Rattle.stmt_meaning.specs.InnerRunning.{all_left}
 use Rattle.stmt_meaning.specs.Listed.{Listing, TakesFirst}
-use Rattle.stmt_meaning.specs.Meaning.{statements_done, worked}
+use Rattle.stmt_meaning.specs.meaning.Meaning.{statements_done, worked}
 use Rattle.stmt_meaning.proofs.Working.{differs}
 use Rattle.stmt_meaning.proofs.plain.run_work.Goals as goal
 

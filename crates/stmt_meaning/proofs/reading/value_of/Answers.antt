@@ -1,5 +1,5 @@
 use Rattle.std.proofs.lemmas.Result.{err_from_is_err_and}
-use Rattle.stmt_meaning.specs.Operands.{wanted, value_of}
+use Rattle.stmt_meaning.specs.meaning.Operands.{wanted, value_of}
 use Rattle.stmt_meaning.proofs.Asking.{enough_taken}
 use Rattle.stmt_meaning.proofs.Drawn.{lacking_at_once}
 use Rattle.stmt_meaning.proofs.reading.value_of.Goals as goal

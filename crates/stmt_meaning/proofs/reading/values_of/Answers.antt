@@ -2,7 +2,7 @@ use Rattle.std.proofs.Common.{◌≡◌, length, ap, sym, ◌∙◌, arith, refl
 use Rattle.std.specs.Option.{option_copied}
 use Rattle.std.specs.Prelude.{slice_get, None}
 use Rattle.std.proofs.lemmas.Result.{err_from_is_err_and}
-use Rattle.svc_values.specs.Calls.{operands_of}
+use Rattle.svc_values.specs.meaning.Calls.{operands_of}
 use Rattle.stmt_meaning.proofs.Values.{begins, goes_on, fails, lacks, all_read}
 use Rattle.stmt_meaning.proofs.reading.values_of.Goals as goal
 

@@ -1,5 +1,5 @@
 use Rattle.std.proofs.Common.{◌≡◌, ◌≤◌, ◌-◌, vec_len}
-use Rattle.svc_values.specs.Calls.{operands_of}
+use Rattle.svc_values.specs.meaning.Calls.{operands_of}
 use Rattle.stmt_meaning.proofs.Values.{SoFar}
 use Rattle.stmt_meaning.proofs.reading.values_of.Given as goal
 

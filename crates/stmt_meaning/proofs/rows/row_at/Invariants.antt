@@ -1,6 +1,6 @@
 use Rattle.std.proofs.Common.{◌≡◌, [], take}
 use Rattle.std.specs.Prelude.{Some}
-use Rattle.stmt_meaning.specs.Meaning.{seen_at}
+use Rattle.stmt_meaning.specs.meaning.Meaning.{seen_at}
 use Rattle.svc_values.specs.declared.tables.Place.TheVariants as place
 use Rattle.stmt_meaning.proofs.rows.row_at.Given as goal
 

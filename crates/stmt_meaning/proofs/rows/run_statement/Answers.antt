@@ -1,6 +1,6 @@
 use Rattle.std.specs.Prelude.{option_to_list}
 use Rattle.stmt_meaning.specs.Listed.{TakesFirst}
-use Rattle.stmt_meaning.specs.Plans.{place_of}
+use Rattle.stmt_meaning.specs.meaning.Plans.{place_of}
 use Rattle.stmt_meaning.proofs.OneRun.{ran_plan}
 use Rattle.stmt_meaning.proofs.rows.run_statement.Goals as goal
 

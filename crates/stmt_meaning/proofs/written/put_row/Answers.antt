@@ -1,7 +1,7 @@
 use Rattle.std.proofs.Common.{◌≡◌, length, ap, ap₂, sym, ◌∙◌}
 use Rattle.std.specs.Prelude.{insert, unwrap_or, position}
 use Rattle.std.specs.List.{position_or_len}
-use Rattle.svc_values.specs.Tables.{comes_before}
+use Rattle.svc_values.specs.meaning.Tables.{comes_before}
 use Rattle.stmt_meaning.proofs.PutRow.{put_row-insert, place_is}
 use Rattle.stmt_meaning.proofs.written.put_row.Goals as goal
 

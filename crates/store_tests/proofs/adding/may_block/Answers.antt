@@ -1,5 +1,5 @@
 use Rattle.std.proofs.Common.{ap, ◌∙◌}
-use Rattle.ltxid_book.specs.Sessions.{Sessions, may_commit as may_note}
+use Rattle.ltxid_book.specs.meaning.Sessions.{Sessions, may_commit as may_note}
 use Rattle.store_tests.proofs.adding.may_block.Goals as goal
 
 pub returns : goal.returns

@@ -1,6 +1,6 @@
 use Rattle.std.proofs.Common.{rules, ◌≡◌, [], ◌∷◌, ◌++◌, ap, sym, subst, ◌∙◌}
 use Rattle.std.proofs.lemmas.List.{append-nil, nil_from_length}
-use Rattle.svc_values.specs.Tables.{in_order}
+use Rattle.svc_values.specs.meaning.Tables.{in_order}
 use Rattle.table_store.specs.Given.{plain, plain_given}
 use Rattle.table_store.specs.Stored.{AreApart}
 use Rattle.table_store.proofs.Filled.{none_yet, table_more, filled_with, split_next}

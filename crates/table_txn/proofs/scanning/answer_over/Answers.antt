@@ -1,9 +1,9 @@
 use Rattle.std.proofs.Common.{ap, ◌∙◌}
 use Rattle.std.specs.Prelude.{Some, fold}
 use Rattle.svc_values.specs.declared.tables.Place.TheVariants as place
-use Rattle.stmt_meaning.specs.Meaning.{seen_at}
+use Rattle.stmt_meaning.specs.meaning.Meaning.{seen_at}
 use Rattle.stmt_meaning.specs.InnerScans.{next_scan, last_answer}
-use Rattle.svc_values.specs.Tables.{with_writes}
+use Rattle.svc_values.specs.meaning.Tables.{with_writes}
 use Rattle.table_txn.proofs.ScanSteps.{answer_is}
 use Rattle.table_txn.proofs.scanning.answer_over.Goals as goal
 

@@ -2,10 +2,10 @@ use Rattle.std.proofs.Common.{ap, sym, ◌∙◌}
 use Rattle.std.specs.Prelude.{Some, fold}
 use Rattle.std.specs.Option.{option_copied}
 use Rattle.svc_values.specs.declared.tables.Place.TheVariants as place
-use Rattle.stmt_meaning.specs.Effects.{table_answer}
-use Rattle.stmt_meaning.specs.Meaning.{seen_at}
+use Rattle.stmt_meaning.specs.meaning.Effects.{table_answer}
+use Rattle.stmt_meaning.specs.meaning.Meaning.{seen_at}
 use Rattle.stmt_meaning.specs.InnerScans.{next_scan, last_answer}
-use Rattle.svc_values.specs.Tables.{with_writes}
+use Rattle.svc_values.specs.meaning.Tables.{with_writes}
 use Rattle.table_txn.proofs.ScanSteps.{answer_is}
 use Rattle.table_txn.proofs.Counts.{counted_is}
 use Rattle.table_txn.proofs.scanning.committed_answer.Goals as goal

@@ -6,7 +6,7 @@ use Rattle.std.specs.Range.Bound.{bound_map, IsForward}
 use Rattle.std.specs.declared.cmp.Ordering.{Ordering}
 use Rattle.std.specs.BTreeMap.Range.{entries_between, IsLeBy, IsLtBy}
 use Rattle.svc_values.specs.declared.value.Value.{Value}
-use Rattle.svc_values.specs.Order.{value_cmp}
+use Rattle.svc_values.specs.meaning.Order.{value_cmp}
 use Rattle.stmt_meaning.specs.InnerScans.{next_scan, last_answer}
 use Rattle.svc_values.proofs.Offered.{cmp_is}
 use Rattle.table_txn.specs.Found.{keyed_or_none}

@@ -7,7 +7,7 @@ use Rattle.std.specs.BTreeMap.{is_at}
 use Rattle.std.specs.Map.{keys_of, lookup}
 use Rattle.std.specs.List.Sorted.{IsStrictlySortedBy}
 use Rattle.std.specs.declared.ops.Bound.TheVariants.{Excluded}
-use Rattle.svc_values.specs.Order.{value_cmp}
+use Rattle.svc_values.specs.meaning.Order.{value_cmp}
 use Rattle.svc_values.specs.contracts.value.ValueOrd.TheImpl.{cmp-value}
 use Rattle.table_txn.proofs.Picks.{forward}
 use Rattle.table_txn.proofs.ScanSteps.{first_keys, key_from, left_next, answers_first, answers_next, answers_settled, answers_last}

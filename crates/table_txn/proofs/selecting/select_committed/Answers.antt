@@ -1,9 +1,9 @@
 use Rattle.std.proofs.Common.{ap, sym, ◌∙◌}
 use Rattle.std.specs.Prelude.{map}
 use Rattle.svc_values.specs.declared.tables.Place.TheVariants as place
-use Rattle.svc_values.specs.Tables.{rows_at}
-use Rattle.svc_values.specs.Tests.{selected}
-use Rattle.stmt_meaning.specs.Effects.{limited}
+use Rattle.svc_values.specs.meaning.Tables.{rows_at}
+use Rattle.svc_values.specs.meaning.Tests.{selected}
+use Rattle.stmt_meaning.specs.meaning.Effects.{limited}
 use Rattle.table_txn.specs.Selecting.{select_answer}
 use Rattle.table_txn.proofs.Selects.{answer_at_most, fits_of, seen_unwritten}
 use Rattle.table_txn.proofs.selecting.select_committed.Goals as goal

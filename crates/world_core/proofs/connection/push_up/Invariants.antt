@@ -1,6 +1,7 @@
 use Rattle.std.proofs.Common.{◌≡◌, drop}
 use Rattle.std.specs.List.{AllByRecursion}
-use Rattle.canon_bytes.specs.UpBytes.{spell_up, FitsUp, IsMadeUp}
+use Rattle.canon_bytes.specs.meaning.UpBytes.{spell_up}
+use Rattle.canon_bytes.specs.UpBytes.{FitsUp, IsMadeUp}
 use Rattle.frame_wire.specs.Stream.{with_bytes}
 use Rattle.frame_wire.specs.Steps.{stream, AreFrames}
 use Rattle.world_core.proofs.connection.push_up.Given as goal

@@ -1,6 +1,6 @@
 use Rattle.std.proofs.Common.{◌≡◌, refl, false}
-use Rattle.svc_values.specs.Texts.{is_name}
-use Rattle.canon_bytes.specs.TextBytes.{name_at}
+use Rattle.svc_values.specs.meaning.Texts.{is_name}
+use Rattle.canon_bytes.specs.meaning.TextBytes.{name_at}
 use Rattle.canon_bytes.proofs.Utf8.{is_name-refuted}
 use Rattle.canon_bytes.proofs.texts.NameTake.take.Goals as goal
 

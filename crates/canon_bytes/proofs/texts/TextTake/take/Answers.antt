@@ -1,7 +1,7 @@
 use Rattle.std.proofs.Common.{◌≡◌, refl, true, false}
 use Rattle.std.specs.Str.{is_utf8}
 use Rattle.std.proofs.lemmas.Str.{is_utf8-from_IsUtf8}
-use Rattle.canon_bytes.specs.TextBytes.{text_at}
+use Rattle.canon_bytes.specs.meaning.TextBytes.{text_at}
 use Rattle.canon_bytes.proofs.Utf8.{is_utf8-refuted}
 use Rattle.canon_bytes.proofs.texts.TextTake.take.Goals as goal
 

@@ -1,6 +1,6 @@
 use Rattle.std.proofs.Common.{sym, ap, ◌∙◌}
 use Rattle.std.specs.List.{list_all}
-use Rattle.commit_log.specs.Bases.{is_sequence}
+use Rattle.commit_log.specs.meaning.Bases.{is_sequence}
 use Rattle.commit_log.proofs.Reserving.{sequences_begin}
 use Rattle.commit_log.proofs.judge.Judge.begin.Goals as goal
 

@@ -2,7 +2,7 @@ use Rattle.std.proofs.Common.{◌≡◌, List, sym, ap, subst, ◌∙◌}
 use Rattle.svc_values.specs.declared.entry.Ltxid.{Ltxid}
 use Rattle.commit_log.specs.declared.journal.Journal.{Journal}
 use Rattle.commit_log.specs.declared.records.Record.TheVariants as kept
-use Rattle.commit_log.specs.Rules.{with_record}
+use Rattle.commit_log.specs.meaning.Rules.{with_record}
 use Rattle.commit_log.specs.Judging.{IsBookFor}
 use Rattle.commit_log.proofs.Committing.{block_beside, notes_block}
 use Rattle.commit_log.proofs.judge.Judge.block.Goals as goal

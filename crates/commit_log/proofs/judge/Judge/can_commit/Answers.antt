@@ -1,7 +1,8 @@
 use Rattle.std.proofs.Common.{sym, ap, ◌∙◌}
 use Rattle.std.proofs.lemmas.Bool.{le-leb, lt-leb}
-use Rattle.svc_values.specs.Fitting.{writes_fit}
-use Rattle.ltxid_book.specs.Sessions.{sessions_in, may_commit as may_note}
+use Rattle.svc_values.specs.meaning.Fitting.{writes_fit}
+use Rattle.ltxid_book.specs.meaning.Sessions.{may_commit as may_note}
+use Rattle.ltxid_book.specs.Sessions.{sessions_in}
 use Rattle.commit_log.proofs.Committing.{may_by_book, three_hold, second_fails, first_fails}
 use Rattle.commit_log.proofs.judge.Judge.can_commit.Goals as goal
 

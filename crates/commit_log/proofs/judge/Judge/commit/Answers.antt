@@ -2,7 +2,7 @@ use Rattle.std.proofs.Common.{◌≡◌, List, sym, ap, subst, ◌∙◌}
 use Rattle.svc_values.specs.declared.entry.Entry.{Entry}
 use Rattle.commit_log.specs.declared.journal.Journal.{Journal}
 use Rattle.commit_log.specs.declared.records.Record.TheVariants as kept
-use Rattle.commit_log.specs.Rules.{with_record}
+use Rattle.commit_log.specs.meaning.Rules.{with_record}
 use Rattle.commit_log.specs.Judging.{IsBookFor}
 use Rattle.commit_log.proofs.Committing.{book_lets, notes_commit}
 use Rattle.commit_log.proofs.judge.Judge.commit.Goals as goal

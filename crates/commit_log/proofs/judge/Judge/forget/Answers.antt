@@ -1,6 +1,6 @@
 use Rattle.std.proofs.Common.{◌≡◌, ◌+◌, true, sym, ◌∙◌}
 use Rattle.std.specs.Prelude.{nat_le}
-use Rattle.commit_log.specs.Rules.{rises}
+use Rattle.commit_log.specs.meaning.Rules.{rises}
 use Rattle.commit_log.proofs.Committing.{second_holds, notes_horizon}
 use Rattle.commit_log.proofs.judge.Judge.forget.Goals as goal
 

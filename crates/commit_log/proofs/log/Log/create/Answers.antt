@@ -1,9 +1,10 @@
 use Rattle.std.proofs.Common.{◌≡◌, ℕ, [], List, ap, ◌∙◌}
 use Rattle.std.specs.Prelude.{Ok}
 use Rattle.disk_model.specs.Moment.{DiskMoment}
-use Rattle.redo_store.specs.Records.{payload_in, records_of, with_last}
-use Rattle.commit_log.specs.Rules.{new_journal}
-use Rattle.commit_log.specs.Journals.{journal_of}
+use Rattle.redo_store.specs.meaning.Records.{records_of}
+use Rattle.redo_store.specs.Records.{payload_in, with_last}
+use Rattle.commit_log.specs.meaning.Rules.{new_journal}
+use Rattle.commit_log.specs.meaning.Journals.{journal_of}
 use Rattle.commit_log.proofs.Misfits.{on_ok}
 use Rattle.commit_log.proofs.Growing.{journal_of_base}
 use Rattle.commit_log.proofs.log.Log.create.Goals as goal

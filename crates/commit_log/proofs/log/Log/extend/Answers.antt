@@ -1,7 +1,7 @@
 use Rattle.std.proofs.Common.{◌∷◌, [], ap}
 use Rattle.disk_model.proofs.Offered.{weaker}
-use Rattle.commit_log.specs.Rules.{with_record}
-use Rattle.commit_log.specs.Journals.{journal_in}
+use Rattle.commit_log.specs.meaning.Rules.{with_record}
+use Rattle.commit_log.specs.meaning.Journals.{journal_in}
 use Rattle.commit_log.specs.Adding.{record_in, HasAlso, IsOldOrWith}
 use Rattle.commit_log.specs.Growth.{HasAdded, IsGrown}
 use Rattle.commit_log.proofs.Misfits.{on_ok, log_goes_on}

@@ -3,7 +3,7 @@ use Rattle.std.specs.Prelude.{Ok, Err}
 use Rattle.disk_model.specs.Moment.{DiskMoment}
 use Rattle.redo_store.specs.declared.fault.RedoFault.TheVariants as redo_fault
 use Rattle.commit_log.specs.declared.records.Record.TheVariants as kept
-use Rattle.commit_log.specs.Journals.{journal_in, so_far_of}
+use Rattle.commit_log.specs.meaning.Journals.{journal_in, so_far_of}
 use Rattle.commit_log.specs.Judging.{so_far_in}
 use Rattle.commit_log.specs.Growth.{first_of_opening}
 use Rattle.commit_log.proofs.Misfits.{begun_after, never_damaged, no_fault_then, cause_then, lowers_handed, caused_handed}

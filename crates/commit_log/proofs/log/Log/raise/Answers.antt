@@ -5,7 +5,7 @@ use Rattle.redo_store.specs.declared.fault.RedoFault.TheVariants as redo_fault
 use Rattle.commit_log.specs.declared.journal.Journal.{Journal}
 use Rattle.commit_log.specs.declared.records.Record.{Record}
 use Rattle.commit_log.specs.declared.records.Record.TheVariants as kept
-use Rattle.commit_log.specs.Rules.{rises}
+use Rattle.commit_log.specs.meaning.Rules.{rises}
 use Rattle.commit_log.specs.Growth.{IsGrown, horizon_of}
 use Rattle.commit_log.specs.Logs.{HasBegun}
 use Rattle.commit_log.specs.InnerOpening.{HasRaised}

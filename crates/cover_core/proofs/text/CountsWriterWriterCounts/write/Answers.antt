@@ -1,8 +1,8 @@
 use Rattle.std.proofs.Common.{◌∙◌, ℕ, List, [], ◌∷◌, ◌++◌, codes, ap}
 use Rattle.json.specs.Token.{Token, end_object, key}
 use Rattle.json_form.specs.Tokens.{tokens_of}
-use Rattle.json_form.specs.Writing.{whole}
-use Rattle.cover_core.specs.Text.{counts_value}
+use Rattle.json_form.specs.meaning.Writing.{whole}
+use Rattle.cover_core.specs.meaning.Text.{counts_value}
 use Rattle.cover_core.proofs.Written.{ahead, on_ok}
 use Rattle.cover_core.proofs.text.CountsWriterWriterCounts.write.Goals as goal
 

@@ -1,7 +1,7 @@
 use Rattle.std.proofs.Common.{sym}
 use Rattle.json_form.specs.Streams.{value_ahead}
 use Rattle.json_form.proofs.Offered.{begun}
-use Rattle.doc_reader.specs.Documents.{clients_of}
+use Rattle.doc_reader.specs.meaning.Documents.{clients_of}
 use Rattle.document_forms.proofs.Offered.{none_left}
 use Rattle.doc_reader.proofs.OneByOne.{clients_put}
 use Rattle.doc_reader.proofs.streamed.Ahead.take_clients.Goals as goal

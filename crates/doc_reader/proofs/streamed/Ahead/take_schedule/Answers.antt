@@ -1,7 +1,7 @@
 use Rattle.std.proofs.Common.{◌≡◌, false, Some, sym, ap, ◌∙◌, rules}
 use Rattle.json_form.specs.Streams.{value_ahead}
 use Rattle.json_form.proofs.Offered.{begun}
-use Rattle.document_forms.specs.Events.{schedule_of}
+use Rattle.document_forms.specs.meaning.Events.{schedule_of}
 use Rattle.doc_reader.proofs.OneByOne.{schedule_put}
 use Rattle.doc_reader.proofs.streamed.Ahead.take_schedule.Goals as goal
 

@@ -1,6 +1,6 @@
 use Rattle.json_form.specs.Streams.{value_ahead}
 use Rattle.json_form.proofs.Offered.{begun}
-use Rattle.document_forms.specs.Tables.{tables_of}
+use Rattle.document_forms.specs.meaning.Tables.{tables_of}
 use Rattle.doc_reader.proofs.OneByOne.{tables_put}
 use Rattle.doc_reader.proofs.streamed.Ahead.take_tables.Goals as goal
 

@@ -1,7 +1,7 @@
 use Rattle.std.proofs.Common.{List, Result, ap, rules}
 use Rattle.serde_json.specs.Data.{Data}
 use Rattle.serde_json.specs.View.{view}
-use Rattle.json_form.specs.Faults.{Fault}
+use Rattle.json_form.specs.meaning.Faults.{Fault}
 use Rattle.svc_values.specs.declared.value.Value.{Value}
 use Rattle.document_forms.proofs.TablesAhead.{rows_by_key}
 use Rattle.document_forms.proofs.table.RowsReaderReaderDocRows.read.Goals as goal

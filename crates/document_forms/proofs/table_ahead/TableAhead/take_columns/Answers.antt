@@ -1,6 +1,6 @@
 use Rattle.std.proofs.Common.{◌≡◌, Ok, sym, rules}
 use Rattle.serde_json.specs.View.{view}
-use Rattle.document_forms.specs.Tables.{columns_of}
+use Rattle.document_forms.specs.meaning.Tables.{columns_of}
 use Rattle.document_forms.proofs.OneByOne.{none_left}
 use Rattle.document_forms.proofs.TablesAhead.{columns_put}
 use Rattle.document_forms.proofs.table_ahead.TableAhead.take_columns.Goals as goal

@@ -1,8 +1,8 @@
 use Rattle.std.proofs.Common.{◌≡◌, Ok, rules}
 use Rattle.std.specs.Str.{bytes_eq}
 use Rattle.serde_json.specs.View.{view}
-use Rattle.json_form.specs.Arrays.{is_key}
-use Rattle.call_forms.specs.Values.{new_name}
+use Rattle.json_form.specs.meaning.Arrays.{is_key}
+use Rattle.call_forms.specs.meaning.Values.{new_name}
 use Rattle.document_forms.proofs.TablesAhead.{name_put}
 use Rattle.document_forms.proofs.table_ahead.TableAhead.take_name.Goals as goal
 

@@ -1,7 +1,7 @@
 use Rattle.std.proofs.Common.{◌≡◌, Some, rules}
 use Rattle.json_form.specs.Streams.{value_ahead}
 use Rattle.json_form.proofs.Offered.{begun}
-use Rattle.document_forms.specs.Tables.{rows_of}
+use Rattle.document_forms.specs.meaning.Tables.{rows_of}
 use Rattle.document_forms.proofs.TablesAhead.{rows_put}
 use Rattle.document_forms.proofs.table_ahead.TableAhead.take_rows.Goals as goal
 

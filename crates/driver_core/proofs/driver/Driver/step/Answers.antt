@@ -1,6 +1,6 @@
 use Rattle.std.proofs.Common.{rules, ap, ◌∙◌}
-use Rattle.client_model.specs.Terms.{Terms}
-use Rattle.client_model.specs.Talk.{talk_step}
+use Rattle.client_model.specs.meaning.Terms.{Terms}
+use Rattle.client_model.specs.meaning.Talk.{talk_step}
 use Rattle.driver_core.specs.declared.phase.Phase.{Phase}
 use Rattle.driver_core.specs.declared.request.Request.{Request}
 use Rattle.driver_core.specs.Driving.{terms_of}

@@ -1,4 +1,4 @@
-use Rattle.client_model.specs.Terms.{Terms}
+use Rattle.client_model.specs.meaning.Terms.{Terms}
 use Rattle.driver_core.specs.Driving.{terms_of}
 use Rattle.driver_core.specs.Talking.{phase_of, talk_of, rest_of}
 use Rattle.driver_core.proofs.Elsewhere.{told_as, running_takes, replaying_takes, hello_elsewhere, outcome_elsewhere, refusal_elsewhere, reply_elsewhere, refused_takes}

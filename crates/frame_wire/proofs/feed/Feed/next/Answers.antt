@@ -1,5 +1,5 @@
 use Rattle.std.proofs.Common.{◌≡◌, ◌++◌, ◌+◌, length, drop, ℕ, List, true, false, refl, sym, ap, ◌∙◌, inr}
-use Rattle.canon_bytes.specs.TextBytes.{spell_bytes}
+use Rattle.canon_bytes.specs.meaning.TextBytes.{spell_bytes}
 use Rattle.frame_wire.specs.Stream.{Pending}
 use Rattle.frame_wire.proofs.feed.Feed.next.Goals as goal
 

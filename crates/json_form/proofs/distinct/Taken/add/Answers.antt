@@ -1,5 +1,5 @@
 use Rattle.std.proofs.Common.{◌||◌, List, ap, ◌∙◌}
-use Rattle.json_form.specs.Arrays.{is_key}
+use Rattle.json_form.specs.meaning.Arrays.{is_key}
 use Rattle.json_form.proofs.Keys.{has_added, has_added_behind}
 use Rattle.json_form.proofs.distinct.Taken.add.Goals as goal
 

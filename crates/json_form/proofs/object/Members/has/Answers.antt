@@ -3,7 +3,7 @@ use Rattle.std.specs.Option.{is_some, option_copied}
 use Rattle.serde_json.specs.View.{view}
 use Rattle.serde_json.specs.declared.value.Value.{Value}
 use Rattle.serde_json.proofs.Views.{view-lookup}
-use Rattle.json_form.specs.Objects.{has}
+use Rattle.json_form.specs.meaning.Objects.{has}
 use Rattle.json_form.proofs.object.Members.has.Goals as goal
 
 is_some_copied : (r : Option (Bor Value)) → is_some r ≡ is_some (option_copied r)

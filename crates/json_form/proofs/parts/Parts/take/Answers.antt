@@ -3,7 +3,7 @@ use Rattle.serde_json.specs.View.{view, items_view}
 use Rattle.serde_json.specs.declared.value.Value.{Value, Null}
 use Rattle.serde_json.proofs.Views.{get_item_within, get_item_past, items_len-items_view}
 use Rattle.serde_json.specs.Events.{items_len}
-use Rattle.json_form.specs.Arrays.{placed}
+use Rattle.json_form.specs.meaning.Arrays.{placed}
 use Rattle.json_form.proofs.TakenOut.{item_taken}
 use Rattle.std.proofs.Math.ListN.{set}
 use Rattle.std.proofs.lemmas.List.{length-set}

@@ -1,5 +1,5 @@
 use Rattle.std.proofs.Common.{◌≡◌, filter, take}
-use Rattle.mutable_values.specs.Granting.{is_granted}
+use Rattle.mutable_values.specs.meaning.Granting.{is_granted}
 use Rattle.mutable_values.proofs.source.Source.granted.Given as goal
 
 abbrev pub invariant-loop-draw : goal.invariant-loop-draw

@@ -3,7 +3,8 @@ use Rattle.std.specs.Prelude.{IsTrue}
 use Rattle.disk_model.specs.Moment.{with_bytes}
 use Rattle.disk_model.specs.Disk.{DiskState, IsSettled}
 use Rattle.disk_model.specs.declared.disk.DiskFault.{DiskFault}
-use Rattle.redo_store.specs.Records.{payload_in, records_of, record_count}
+use Rattle.redo_store.specs.meaning.Records.{records_of}
+use Rattle.redo_store.specs.Records.{payload_in, record_count}
 use Rattle.redo_store.specs.Store.{IsStore}
 use Rattle.redo_store.specs.Redo.{StoreGoesOn}
 use Rattle.redo_store.proofs.Gates.{tail_within, few_records, one_more, gate_open, added}

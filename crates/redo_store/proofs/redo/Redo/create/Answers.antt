@@ -1,6 +1,6 @@
 use Rattle.std.proofs.Common.{◌≡◌, ◌++◌, ◌∷◌, [], ◌∙◌, ap, arith, Ok}
 use Rattle.disk_model.specs.Moment.{with_bytes}
-use Rattle.redo_store.specs.Records.{magic, records_of}
+use Rattle.redo_store.specs.meaning.Records.{magic, records_of}
 use Rattle.redo_store.proofs.Grammar.{read_image}
 use Rattle.redo_store.proofs.redo.Redo.create.Goals as goal
 

@@ -2,7 +2,7 @@ use Rattle.std.proofs.Common.{◌≡◌, ℕ, List, [], map, Vec, Global, sym, �
 use Rattle.std.specs.Prelude.{Result, IsErrOf}
 use Rattle.disk_model.specs.Moment.{DiskMoment, MayLeave}
 use Rattle.disk_model.proofs.Offered.{reads_then, reads_for}
-use Rattle.redo_store.specs.Records.{records_of}
+use Rattle.redo_store.specs.meaning.Records.{records_of}
 use Rattle.redo_store.specs.Walk.{HasRead}
 use Rattle.redo_store.specs.declared.fault.RedoFault.TheVariants.{Stopped}
 use Rattle.redo_store.proofs.redo.Redo.open.Goals as goal

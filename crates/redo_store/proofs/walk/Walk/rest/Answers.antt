@@ -1,6 +1,6 @@
 use Rattle.std.proofs.Common.{◌++◌, ℕ, map, Vec, Global, sym, ◌∙◌, ap, subst, rules}
 use Rattle.disk_model.specs.Moment.{DiskMoment}
-use Rattle.redo_store.specs.Records.{records_of}
+use Rattle.redo_store.specs.meaning.Records.{records_of}
 use Rattle.redo_store.specs.Walk.{HasRead}
 use Rattle.redo_store.proofs.walk.Walk.rest.Goals as goal
 

@@ -1,4 +1,4 @@
-use Rattle.report_text.specs.Calls.{call_value}
+use Rattle.report_text.specs.meaning.Calls.{call_value}
 use Rattle.report_text.proofs.call.CallWriterWriterCall.write.Goals as goal
 
 pub returns-in-Disable : goal.returns-in-Disable

@@ -1,9 +1,9 @@
 use Rattle.std.proofs.Common.{List, [], ◌∷◌, ◌++◌, codes, ◌∙◌}
 use Rattle.json.specs.Token.{Token, end_object, key}
 use Rattle.json_form.specs.Tokens.{tokens_of}
-use Rattle.json_form.specs.Writing.{flag, list_by}
-use Rattle.report_text.specs.Values.{identifier_value, settings_value}
-use Rattle.report_text.specs.Entries.{piece_value, entry_value}
+use Rattle.json_form.specs.meaning.Writing.{flag, list_by}
+use Rattle.report_text.specs.meaning.Values.{identifier_value, settings_value}
+use Rattle.report_text.specs.meaning.Entries.{piece_value, entry_value}
 use Rattle.report_text.proofs.PartsWritten.{ahead, on_ok}
 use Rattle.report_text.proofs.entry.EntryWriterWriterEntry.write.Goals as goal
 

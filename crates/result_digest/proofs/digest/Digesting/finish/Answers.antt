@@ -1,9 +1,9 @@
 use Rattle.std.proofs.Common.{◌++◌, sym, ap, ◌∙◌}
 use Rattle.std.specs.List.{flat_map}
 use Rattle.sha2.specs.Sha256.{sha256}
-use Rattle.canon_bytes.specs.Numbers.{spell_u64}
-use Rattle.canon_bytes.specs.Lists.{spell_list}
-use Rattle.canon_bytes.specs.AnswerBytes.{spell_answer}
+use Rattle.canon_bytes.specs.meaning.Numbers.{spell_u64}
+use Rattle.canon_bytes.specs.meaning.Lists.{spell_list}
+use Rattle.canon_bytes.specs.meaning.AnswerBytes.{spell_answer}
 use Rattle.result_digest.proofs.digest.Digesting.finish.Goals as goal
 
 -- all were taken in, so the count that was hashed first is the list's

@@ -1,6 +1,6 @@
 use Rattle.std.proofs.Common.{[], refl, subst, sym, ◌∙◌, append-nil}
 use Rattle.sha2.specs.Hashers.{Holds256}
-use Rattle.canon_bytes.specs.Numbers.{spell_u64}
+use Rattle.canon_bytes.specs.meaning.Numbers.{spell_u64}
 use Rattle.result_digest.proofs.digest.Digesting.new.Goals as goal
 
 pub returns : goal.returns

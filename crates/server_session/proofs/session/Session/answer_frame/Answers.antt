@@ -1,6 +1,6 @@
 use Rattle.std.proofs.Common.{◌+◌, sym, ◌∙◌, subst}
 use Rattle.svc_values.specs.declared.frame.Up.{Up}
-use Rattle.svc_values.specs.Calls.{sequences_in}
+use Rattle.svc_values.specs.meaning.Calls.{sequences_in}
 use Rattle.server_session.specs.Serving.{Serves, served_as}
 use Rattle.server_session.proofs.Framing.{refused, connected, began, came_to_end, was_closed, ran}
 use Rattle.server_session.proofs.session.Session.answer_frame.Goals as goal

@@ -1,6 +1,7 @@
 use Rattle.std.proofs.Common.{sym, ◌∙◌, ap}
 use Rattle.std.proofs.lemmas.Result.{err_from_is_err_and}
-use Rattle.ltxid_book.specs.Sessions.{sessions_in, can_commit}
+use Rattle.ltxid_book.specs.meaning.Sessions.{can_commit}
+use Rattle.ltxid_book.specs.Sessions.{sessions_in}
 use Rattle.server_session.specs.SeenSession.{SeenSession}
 use Rattle.server_session.proofs.Lifting.{lacked_nothing}
 use Rattle.server_session.proofs.Reaching.{marked_told, blocked_told, conflict_told, stored_so}

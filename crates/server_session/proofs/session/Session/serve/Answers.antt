@@ -1,5 +1,5 @@
 use Rattle.std.proofs.Common.{◌+◌}
-use Rattle.svc_values.specs.Calls.{sequences_in}
+use Rattle.svc_values.specs.meaning.Calls.{sequences_in}
 use Rattle.server_session.specs.Serving.{served_as}
 use Rattle.server_session.proofs.Lifting.{serves_fault}
 use Rattle.server_session.proofs.session.Session.serve.Goals as goal

@@ -4,8 +4,8 @@ use Rattle.std.specs.Prelude.{Err}
 use Rattle.svc_values.specs.declared.call.Call.TheVariants as call
 use Rattle.svc_values.specs.declared.frame.Down.TheVariants as down
 use Rattle.svc_values.specs.declared.frame.Up.TheVariants as up
-use Rattle.svc_values.specs.Calls.{sequences_in}
-use Rattle.svc_values.specs.Endings.{ends_committed}
+use Rattle.svc_values.specs.meaning.Calls.{sequences_in}
+use Rattle.svc_values.specs.meaning.Endings.{ends_committed}
 use Rattle.server_model.specs.Sessions.{piece_of}
 use Rattle.server_session.specs.Dealing.{AtDesk}
 use Rattle.server_session.specs.Fits.{Belongs}

@@ -1,7 +1,7 @@
 use Rattle.std.proofs.Common.{◌≡◌, ◌∙◌, ◌+◌, ◌<◌, ◌^◌, sym, ap, subst}
 use Rattle.std.specs.Prelude.{Option, Some, Err}
-use Rattle.svc_values.specs.Calls.{sequences_in}
-use Rattle.server_model.specs.Outcomes.{Stopped, telling_of}
+use Rattle.svc_values.specs.meaning.Calls.{sequences_in}
+use Rattle.server_model.specs.meaning.Outcomes.{Stopped, telling_of}
 use Rattle.server_model.specs.ServiceCalls.{ServedOne}
 use Rattle.server_model.specs.declared.fault.ServeFault.{ServeFault}
 use Rattle.server_session.specs.Serving.{Serves, served_as}

@@ -1,6 +1,6 @@
 use Rattle.std.proofs.Common.{◌≡◌, ◌∙◌, sym, ap₂, subst, rules}
 use Rattle.std.specs.Prelude.{Bool, not}
-use Rattle.server_model.specs.Outcomes.{telling_of}
+use Rattle.server_model.specs.meaning.Outcomes.{telling_of}
 use Rattle.server_model.specs.ServiceCalls.{ends_session}
 use Rattle.service_tests.specs.Facts.{Facts, with_living, worked}
 use Rattle.service_tests.specs.Knows.{Knows}

@@ -1,7 +1,7 @@
 use Rattle.std.proofs.Common.{List, cond, ap, ◌∙◌, Some}
 use Rattle.std.specs.Ordering.{is_eq}
 use Rattle.svc_values.specs.declared.value.Value.{Value}
-use Rattle.svc_values.specs.Order.{value_cmp}
+use Rattle.svc_values.specs.meaning.Order.{value_cmp}
 use Rattle.table_store.specs.Rows.{Keyed, keyed_of}
 use Rattle.table_store.proofs.ValueCmp.{keyed_changed}
 use Rattle.table_store.proofs.row_map.RowMap.put.Goals as goal

@@ -1,7 +1,7 @@
 use Rattle.std.proofs.Common.{◌≡◌, take}
 use Rattle.std.specs.Prelude.{IsTrue}
-use Rattle.svc_values.specs.Tables.{with_writes}
-use Rattle.svc_values.specs.Fitting.{writes_fit}
+use Rattle.svc_values.specs.meaning.Tables.{with_writes}
+use Rattle.svc_values.specs.meaning.Fitting.{writes_fit}
 use Rattle.table_store.specs.Stored.{AreKept}
 use Rattle.table_store.proofs.tables.Tables.apply.Given as goal
 

@@ -1,6 +1,6 @@
 use Rattle.std.proofs.Common.{ap, sym, ◌∙◌}
 use Rattle.svc_values.specs.declared.tables.Place.TheVariants as place
-use Rattle.svc_values.specs.Tables.{rows_at}
+use Rattle.svc_values.specs.meaning.Tables.{rows_at}
 use Rattle.table_store.specs.Rows.{row_if_any, keyed_if_any}
 use Rattle.table_store.specs.Stored.{Stored}
 use Rattle.table_store.proofs.Maps.{row_of_key}

@@ -1,7 +1,7 @@
 use Rattle.std.specs.Option.{option_map}
 use Rattle.svc_values.specs.declared.tables.Place.TheVariants as place
-use Rattle.svc_values.specs.Tables.{rows_at}
-use Rattle.svc_values.specs.Tests.{selected}
+use Rattle.svc_values.specs.meaning.Tables.{rows_at}
+use Rattle.svc_values.specs.meaning.Tests.{selected}
 use Rattle.table_store.specs.Selection.{at_most_32}
 use Rattle.table_store.proofs.Keeps.{of_rows}
 use Rattle.table_store.proofs.tables.Tables.select.Goals as goal

@@ -2,9 +2,9 @@ use Rattle.std.proofs.Common.{subst, ◌∙◌}
 use Rattle.std.proofs.lemmas.Result.{err_from_is_err_and}
 use Rattle.std.specs.Prelude.{List, Ok, Err}
 use Rattle.svc_values.specs.declared.schema.Schema.{Schema}
-use Rattle.svc_values.specs.Tables.{with_writes}
+use Rattle.svc_values.specs.meaning.Tables.{with_writes}
 use Rattle.stmt_meaning.specs.InnerReading.{ReadsAll}
-use Rattle.stmt_meaning.specs.Plans.{plan_of}
+use Rattle.stmt_meaning.specs.meaning.Plans.{plan_of}
 use Rattle.stmt_meaning.proofs.Offered.{lacks_work}
 use Rattle.table_txn.specs.Transactions.{shape_of}
 use Rattle.table_txn.proofs.Statements.{done_plan, done_refused}

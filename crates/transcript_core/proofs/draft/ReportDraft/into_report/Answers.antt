@@ -1,6 +1,6 @@
 use Rattle.std.proofs.Common.{◌≡◌, ◌∙◌}
 use Rattle.std.proofs.lemmas.Result.{IfOk-weaker}
-use Rattle.run_clauses.specs.Reports.{report_of}
+use Rattle.run_clauses.specs.meaning.Reports.{report_of}
 use Rattle.transcript_core.specs.Drafts.{drafted}
 use Rattle.transcript_core.proofs.Drafting.{drafted_so}
 use Rattle.transcript_core.proofs.draft.ReportDraft.into_report.Goals as goal

@@ -1,7 +1,7 @@
 use Rattle.std.proofs.Common.{◌<◌, false, true, Some, refl, subst}
-use Rattle.pool_core.specs.Slots.{Slots}
+use Rattle.pool_core.specs.meaning.Slots.{Slots}
 use Rattle.client_model.specs.declared.input.Input.TheVariants.{TryFailed}
-use Rattle.world_model.specs.Acting.{steps}
+use Rattle.world_model.specs.meaning.Acting.{steps}
 use Rattle.world_core.specs.Coursing.{terms_in}
 use Rattle.world_core.specs.Linked.{connection_at}
 use Rattle.world_core.specs.Stepping.{connection_in}

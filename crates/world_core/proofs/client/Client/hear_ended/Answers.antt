@@ -1,12 +1,12 @@
 use Rattle.std.proofs.Common.{false, true, Some, length, refl, sym, ap, ◌∙◌}
-use Rattle.pool_core.specs.Slots.{give_back_answer}
+use Rattle.pool_core.specs.meaning.Slots.{give_back_answer}
 use Rattle.client_model.specs.declared.input.Input.TheVariants.{Took}
 use Rattle.client_model.specs.declared.input.Wants.TheVariants as wants
 use Rattle.outage_schedule.specs.declared.note.GoNote.TheVariants as go
-use Rattle.world_model.specs.Acting.{act_at, frames_of, steps, loses}
-use Rattle.world_model.specs.Clients.{heard, doing_at}
-use Rattle.world_model.specs.Going.{noted, lost_at_once}
-use Rattle.world_model.specs.Machines.{Machine}
+use Rattle.world_model.specs.meaning.Acting.{act_at, frames_of, steps, loses}
+use Rattle.world_model.specs.meaning.Clients.{heard, doing_at}
+use Rattle.world_model.specs.meaning.Going.{noted, lost_at_once}
+use Rattle.world_model.specs.meaning.Machines.{Machine}
 use Rattle.world_core.specs.Coursing.{step_of}
 use Rattle.world_core.specs.Linked.{connection_at}
 use Rattle.world_core.specs.Stepping.{connection_in}

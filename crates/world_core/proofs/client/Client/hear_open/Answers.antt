@@ -1,10 +1,10 @@
 use Rattle.std.proofs.Common.{◌++◌, false, true, Some, length, refl}
-use Rattle.pool_core.specs.Slots.{give_back_answer}
+use Rattle.pool_core.specs.meaning.Slots.{give_back_answer}
 use Rattle.client_model.specs.declared.input.Input.TheVariants.{Took}
 use Rattle.client_model.specs.declared.input.Wants.TheVariants as wants
 use Rattle.outage_schedule.specs.declared.note.GoNote.TheVariants as go
-use Rattle.world_model.specs.Acting.{closing, act_at, frames_of, steps}
-use Rattle.world_model.specs.Going.{noted}
+use Rattle.world_model.specs.meaning.Acting.{closing, act_at, frames_of, steps}
+use Rattle.world_model.specs.meaning.Going.{noted}
 use Rattle.world_core.specs.Coursing.{step_of}
 use Rattle.world_core.specs.Stepping.{connection_in}
 use Rattle.world_core.proofs.Placing.{may_hear, ticks_past, his_release, his_may, opens_as, goes_by_step}

@@ -1,8 +1,8 @@
 use Rattle.std.proofs.Common.{true, Some, None, refl}
 use Rattle.client_model.specs.declared.input.Input.TheVariants.{Gone}
 use Rattle.client_model.specs.declared.input.Wants.TheVariants as wants
-use Rattle.world_model.specs.Acting.{loses}
-use Rattle.world_model.specs.Clients.{Doing}
+use Rattle.world_model.specs.meaning.Acting.{loses}
+use Rattle.world_model.specs.meaning.Clients.{Doing}
 use Rattle.world_core.specs.Linked.{connection_at}
 use Rattle.world_core.specs.Stepping.{connection_in}
 use Rattle.world_core.proofs.Placing.{may_hear, ticks_past, may_nothing, joined, goes_by_step}

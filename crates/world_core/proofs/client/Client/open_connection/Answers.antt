@@ -1,9 +1,9 @@
 use Rattle.std.proofs.Common.{◌∷◌, false, true, Some, [], refl}
 use Rattle.svc_values.specs.declared.frame.Up.TheVariants as up
 use Rattle.client_model.specs.declared.input.Input.TheVariants.{Opened}
-use Rattle.world_model.specs.Clients.{Doing}
-use Rattle.world_model.specs.Going.{tries_while}
-use Rattle.world_model.specs.Machines.{Machine}
+use Rattle.world_model.specs.meaning.Clients.{Doing}
+use Rattle.world_model.specs.meaning.Going.{tries_while}
+use Rattle.world_model.specs.meaning.Machines.{Machine}
 use Rattle.outage_schedule.specs.declared.note.GoNote.TheVariants as go
 use Rattle.world_core.proofs.Placing.{may_hear, ticks_past, opened_may, moved, joined, goes_by_step}
 use Rattle.world_core.proofs.Steps.{opened_wanted, opened_few, opening, tried_open}

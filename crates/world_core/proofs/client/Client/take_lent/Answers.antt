@@ -1,11 +1,11 @@
 use Rattle.std.proofs.Common.{◌≡◌, ◌++◌, false, true, Some, refl, ◌∙◌}
-use Rattle.pool_core.specs.Slots.{give_back_answer}
+use Rattle.pool_core.specs.meaning.Slots.{give_back_answer}
 use Rattle.client_model.specs.declared.input.Input.TheVariants.{Lent}
 use Rattle.client_model.specs.declared.input.Wants.TheVariants as wants
 use Rattle.outage_schedule.specs.declared.note.GoNote.TheVariants as go
-use Rattle.world_model.specs.Acting.{closing}
-use Rattle.world_model.specs.Clients.{Doing}
-use Rattle.world_model.specs.Going.{lends}
+use Rattle.world_model.specs.meaning.Acting.{closing}
+use Rattle.world_model.specs.meaning.Clients.{Doing}
+use Rattle.world_model.specs.meaning.Going.{lends}
 use Rattle.world_core.specs.Coursing.{step_of}
 use Rattle.world_core.specs.Stepping.{connection_in}
 use Rattle.world_core.proofs.Placing.{may_hear, ticks_past, his_release, his_may, joined, goes_by_step}

@@ -1,5 +1,5 @@
 use Rattle.std.proofs.Common.{Bool, false, sym, subst}
-use Rattle.world_model.specs.Going.{tries_while}
+use Rattle.world_model.specs.meaning.Going.{tries_while}
 use Rattle.world_core.specs.Stepping.{Follows}
 use Rattle.world_core.proofs.Standing.{if_ok}
 use Rattle.world_core.proofs.client.Client.try_connection.Goals as goal

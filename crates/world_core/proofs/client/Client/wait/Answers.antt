@@ -1,8 +1,8 @@
 use Rattle.std.proofs.Common.{false, Some, refl}
 use Rattle.client_model.specs.declared.input.Input.TheVariants.{Waiting}
 use Rattle.client_model.specs.declared.input.Wants.TheVariants as wants
-use Rattle.client_model.specs.Talk.{waits_from}
-use Rattle.world_model.specs.Acting.{steps}
+use Rattle.client_model.specs.meaning.Talk.{waits_from}
+use Rattle.world_model.specs.meaning.Acting.{steps}
 use Rattle.world_core.specs.Coursing.{terms_in}
 use Rattle.world_core.specs.Linked.{connection_at}
 use Rattle.world_core.specs.Stepping.{connection_in}

@@ -1,5 +1,6 @@
 use Rattle.std.proofs.Common.{subst, Err}
-use Rattle.canon_bytes.specs.UpBytes.{spell_up, FitsUp}
+use Rattle.canon_bytes.specs.meaning.UpBytes.{spell_up}
+use Rattle.canon_bytes.specs.UpBytes.{FitsUp}
 use Rattle.frame_wire.specs.declared.feed.FrameFault.{FrameFault}
 use Rattle.frame_wire.specs.Stream.{IsNext}
 use Rattle.world_core.specs.Linked.{up_frames}

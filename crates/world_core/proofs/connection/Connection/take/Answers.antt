@@ -1,5 +1,6 @@
 use Rattle.std.proofs.Common.{subst, refl, Err}
-use Rattle.canon_bytes.specs.DownBytes.{spell_down, FitsDown}
+use Rattle.canon_bytes.specs.meaning.DownBytes.{spell_down}
+use Rattle.canon_bytes.specs.DownBytes.{FitsDown}
 use Rattle.frame_wire.specs.declared.feed.FrameFault.{FrameFault}
 use Rattle.frame_wire.specs.Stream.{IsNext}
 use Rattle.world_core.specs.Linked.{down_frames}

@@ -1,4 +1,4 @@
-use Rattle.world_model.specs.Links.{ends}
+use Rattle.world_model.specs.meaning.Links.{ends}
 use Rattle.world_core.proofs.Ages.{ages_ends}
 use Rattle.world_core.proofs.Standing.{stand_changed, none_changed}
 use Rattle.world_core.proofs.connections.Connections.end.Goals as goal

@@ -1,5 +1,5 @@
 use Rattle.std.proofs.Common.{◌≡◌, ◌≤◌, length, map, refl, sym, ◌∙◌, subst, add-one, arith}
-use Rattle.world_model.specs.Crashing.{fallen_link}
+use Rattle.world_model.specs.meaning.Crashing.{fallen_link}
 use Rattle.world_core.specs.Linked.{AreLinks, HaveFallen}
 use Rattle.world_core.proofs.Ages.{all_fallen, none_living}
 use Rattle.world_core.proofs.Places.{set_length}

@@ -1,6 +1,6 @@
 use Rattle.std.proofs.Common.{◌≡◌, List, length}
-use Rattle.world_model.specs.Links.{Link}
-use Rattle.world_model.specs.Crashing.{fallen_link}
+use Rattle.world_model.specs.meaning.Links.{Link}
+use Rattle.world_model.specs.meaning.Crashing.{fallen_link}
 use Rattle.world_core.specs.Linked.{AreLinks, Stand}
 use Rattle.world_core.proofs.Standing.{first_changed}
 use Rattle.world_core.proofs.connections.Connections.fall.Given as goal

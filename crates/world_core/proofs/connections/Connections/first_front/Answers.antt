@@ -1,6 +1,6 @@
 use Rattle.std.proofs.Common.{◌∙◌}
 use Rattle.std.specs.Prelude.{is_some}
-use Rattle.world_model.specs.Serving.{front_of}
+use Rattle.world_model.specs.meaning.Serving.{front_of}
 use Rattle.world_core.specs.Linked.{may_be_served}
 use Rattle.world_core.proofs.Firsts.{finds_first, fronts_live}
 use Rattle.world_core.proofs.Linking.{front_stands}

@@ -1,5 +1,5 @@
 use Rattle.std.proofs.Common.{◌∙◌}
-use Rattle.world_model.specs.Links.{is_orphan}
+use Rattle.world_model.specs.meaning.Links.{is_orphan}
 use Rattle.world_core.specs.Linked.{lives_on}
 use Rattle.world_core.proofs.Firsts.{finds_first, orphans_agree, orphans_live}
 use Rattle.world_core.proofs.connections.Connections.first_orphan.Goals as goal

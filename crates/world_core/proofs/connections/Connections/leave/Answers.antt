@@ -1,7 +1,7 @@
 use Rattle.std.proofs.Common.{◌+◌, ◌≤◌, ℕ, suc, List, drop, fold, length, refl, sym, ap, ◌∙◌, add-one, arith}
 use Rattle.std.specs.Prelude.{if◌then◌else◌}
-use Rattle.pool_core.specs.Slots.{Slots, after_gone}
-use Rattle.world_model.specs.Links.{Link, open_from}
+use Rattle.pool_core.specs.meaning.Slots.{Slots, after_gone}
+use Rattle.world_model.specs.meaning.Links.{Link, open_from}
 use Rattle.world_core.proofs.Ages.{open_behind}
 use Rattle.world_core.proofs.Standing.{same_length}
 use Rattle.world_core.proofs.Underway.{rest_at, leave_one, none_left}

@@ -1,6 +1,6 @@
 use Rattle.std.proofs.Common.{◌≡◌, ◌+◌, List, drop, fold}
-use Rattle.pool_core.specs.Slots.{after_gone}
-use Rattle.world_model.specs.Links.{Link, open_from}
+use Rattle.pool_core.specs.meaning.Slots.{after_gone}
+use Rattle.world_model.specs.meaning.Links.{Link, open_from}
 use Rattle.world_core.specs.Linked.{Stand}
 use Rattle.world_core.proofs.connections.Connections.leave.Given as goal
 

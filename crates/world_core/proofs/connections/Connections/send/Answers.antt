@@ -1,4 +1,4 @@
-use Rattle.world_model.specs.Links.{sends}
+use Rattle.world_model.specs.meaning.Links.{sends}
 use Rattle.world_core.proofs.Ages.{ages_sends}
 use Rattle.world_core.proofs.Standing.{stand_changed, none_changed, sends_open, sends_none, on_ok}
 use Rattle.world_core.proofs.Places.{connection_other}

@@ -1,6 +1,6 @@
 use Rattle.std.proofs.Common.{◌∙◌, arith, ap, not}
-use Rattle.world_model.specs.Links.{Link}
-use Rattle.world_model.specs.Serving.{after_front}
+use Rattle.world_model.specs.meaning.Links.{Link}
+use Rattle.world_model.specs.meaning.Serving.{after_front}
 use Rattle.world_core.proofs.Ages.{living_with, living_without}
 use Rattle.world_core.proofs.Standing.{stand_served, is_there, no_link, none_there}
 use Rattle.world_core.proofs.connections.Connections.serve.Goals as goal

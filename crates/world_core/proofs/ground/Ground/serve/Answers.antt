@@ -1,5 +1,5 @@
 use Rattle.std.proofs.Common.{subst, Err}
-use Rattle.world_model.specs.Serving.{front_at}
+use Rattle.world_model.specs.meaning.Serving.{front_at}
 use Rattle.world_core.specs.Underway.{FrontOf}
 use Rattle.world_core.proofs.Coupling.{begun}
 use Rattle.world_core.proofs.ServedFrames.{serves_none, serves_some, lives_there, frame_made}

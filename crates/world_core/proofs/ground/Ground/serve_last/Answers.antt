@@ -4,7 +4,7 @@ use Rattle.server_model.specs.Seen.{ServiceState}
 use Rattle.server_model.specs.ServiceCalls.{ServedOne}
 use Rattle.service_calls.specs.Answers.{IfTold}
 use Rattle.service_calls.specs.Kept.{Goes}
-use Rattle.world_model.specs.Serving.{front_at}
+use Rattle.world_model.specs.meaning.Serving.{front_at}
 use Rattle.world_core.specs.Underway.{FrontOf}
 use Rattle.world_core.proofs.Coupling.{begun}
 use Rattle.world_core.proofs.ServedFrames.{lives_there, frame_made}

@@ -1,6 +1,6 @@
 use Rattle.std.proofs.Common.{◌≡◌, ◌+◌, ℕ, suc, [], ◌∷◌, drop, drop-cons, get_or, refl, sym, ap, ◌∙◌, subst, add-one}
-use Rattle.world_model.specs.Links.{changed, sends}
-use Rattle.world_model.specs.Outside.{closed_by_drain}
+use Rattle.world_model.specs.meaning.Links.{changed, sends}
+use Rattle.world_model.specs.meaning.Outside.{closed_by_drain}
 use Rattle.world_core.specs.Underway.{AreClosable, all_closed}
 use Rattle.world_core.proofs.Draining.{still_closable, one_closed}
 use Rattle.world_core.proofs.traffic.Traffic.close.Goals as goal

@@ -1,18 +1,18 @@
 use Rattle.std.proofs.Common.{◌≡◌, ℕ, ◌+◌, ◌-◌, Bool, Err, sym, ap, ap₂, subst, ◌∙◌, arith}
 use Rattle.request_bounds.specs.declared.clocked.Clocked.{Clocked}
-use Rattle.request_bounds.specs.Rules.{Rules}
+use Rattle.request_bounds.specs.meaning.Rules.{Rules}
 use Rattle.driver_core.specs.Driving.{terms_of as terms_by}
 use Rattle.outage_schedule.specs.declared.document.ServiceOf.{ServiceOf}
-use Rattle.pool_core.specs.Slots.{unused}
-use Rattle.run_clauses.specs.Before.{journal_before, was_opened}
-use Rattle.run_clauses.specs.Horizons.{first_opening}
+use Rattle.pool_core.specs.meaning.Slots.{unused}
+use Rattle.run_clauses.specs.meaning.Before.{journal_before, was_opened}
+use Rattle.run_clauses.specs.meaning.Horizons.{first_opening}
 use Rattle.server_model.specs.Seen.{ServiceState}
 use Rattle.server_model.specs.ServiceCalls.{Opened, StoppedOpening}
 use Rattle.server_model.specs.declared.fault.ServeFault.{ServeFault}
 use Rattle.service_calls.specs.Answers.{Ends}
 use Rattle.service_calls.specs.Kept.{Goes, HaveOneBase}
-use Rattle.world_model.specs.Machines.{per_record_of, start_of}
-use Rattle.world_model.specs.Settings.{terms_of}
+use Rattle.world_model.specs.meaning.Machines.{per_record_of, start_of}
+use Rattle.world_model.specs.meaning.Settings.{terms_of}
 use Rattle.world_core.specs.declared.traffic.Traffic.{Traffic}
 use Rattle.world_core.specs.Forgetting.{Tracks}
 use Rattle.world_core.specs.Underway.{IsUnderway}

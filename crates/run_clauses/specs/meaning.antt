@@ -1,0 +1,21 @@
+-- What the program's promise means: all that its definition uses of this crate.
+pub mod Before
+pub mod Blocks
+pub mod Comparing
+pub mod Copies
+pub mod EntryEvents
+pub mod Fresh
+pub mod Horizons
+pub mod Images
+pub mod Moments
+pub mod NoClash
+pub mod Once
+pub mod Outcomes
+pub mod Reports
+pub mod Same
+pub mod Serial
+pub mod ServiceBase
+pub mod Sessions
+pub mod Stored
+pub mod Transactions
+pub mod Tried

@@ -1,0 +1,20 @@
+-- What the program's promise means: all that its definition uses of this crate.
+pub mod Caused
+pub mod Causes
+pub mod Cover
+pub mod Facts
+pub mod Fronts
+pub mod Happenings
+pub mod KeptDraws
+pub mod Legal
+pub mod LegalItems
+pub mod Links
+pub mod Parts
+pub mod Places
+pub mod Reasons
+pub mod Showings
+pub mod Steps
+pub mod Submissions
+pub mod Things
+pub mod Turns
+pub mod Whole

@@ -1,0 +1,20 @@
+-- What the program's promise means: all that its definition uses of this crate.
+pub mod Acting
+pub mod Clients
+pub mod Crashing
+pub mod Cutting
+pub mod Finishing
+pub mod Followed
+pub mod Frames
+pub mod Going
+pub mod Judged
+pub mod Links
+pub mod Machines
+pub mod Matching
+pub mod Noting
+pub mod Opening
+pub mod Outside
+pub mod ServiceDid
+pub mod Serving
+pub mod Settings
+pub mod Walking
