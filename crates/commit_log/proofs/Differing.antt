@@ -2,9 +2,6 @@
 use Rattle.std.proofs.Common.{◌≡◌, ℕ, List, [], ◌∷◌, map, Bool, true, false, not, cond, ◌&&◌, ◌||◌, refl, sym, ap, ◌∙◌}
 use Rattle.std.proofs.Math.Path.{fun_ext}
 use Rattle.std.specs.List.{list_any}
-use Rattle.std.specs.Ordering.{is_eq}
-use Rattle.std.specs.declared.cmp.Ordering.{Ordering}
-use Rattle.std.specs.BTreeMap.{is_at}
 use Rattle.std.specs.Str.{bytes_eq}
 use Rattle.svc_values.specs.declared.value.Value.{Value}
 use Rattle.svc_values.specs.declared.value.Value.TheVariants as value
@@ -16,7 +13,7 @@ use Rattle.svc_values.specs.meaning.Names.{is_name_of, names_differ}
 use Rattle.svc_values.specs.meaning.Schemas.{key_of}
 use Rattle.commit_log.specs.meaning.Bases.{keys_differ}
 use Rattle.commit_log.specs.Bases.{column_name}
-use Rattle.commit_log.specs.Keys.{is_key}
+use Rattle.svc_values.specs.Keys.{is_key}
 
 -- ---- names
 
@@ -28,24 +25,6 @@ has_column_named (column ∷ columns) name = ap (λ b. bytes_eq column.name name
 pub columns_differ : (columns : List Column) → have_distinct_names columns ≡ names_differ (map column_name columns)
 columns_differ [] = refl
 columns_differ (column ∷ columns) = ap (λ b. not b && have_distinct_names columns) (has_column_named columns column.name) ∙ ap (λ b. not (is_name_of (map column_name columns) column.name) && b) (columns_differ columns)
-
--- ---- keys in an ordered set
-
-or_by_cases : (a b : Bool) → cond a true b ≡ (b || a)
-or_by_cases true true = refl
-or_by_cases true false = refl
-or_by_cases false true = refl
-or_by_cases false false = refl
-
--- a set with one more key has those of before and that key
-pub has_added : {K : Type 0} (same : K → K → Bool) (cmp : K → K → Ordering) → ((x y : K) → same x y ≡ is_eq (cmp x y)) → ((x y : K) → same x y ≡ same y x) → (old new : List K) (key : K)
-    → ((q : K) → list_any (is_at (cmp q)) new ≡ cond (is_at (cmp key) q) true (list_any (is_at (cmp q)) old)) → (k : K) → is_key same new k ≡ (is_key same old k || same k key)
-has_added same cmp ties symm old new key updates k =
-    let at_k : same k ≡ is_at (cmp k) = fun_ext (ties k) in
-    let now : is_key same new k ≡ list_any (is_at (cmp k)) new = ap (λ p. list_any p new) at_k in
-    let before : list_any (is_at (cmp k)) old ≡ is_key same old k = ap (λ p. list_any p old) (sym at_k) in
-    let test : is_at (cmp key) k ≡ same k key = sym (ties key k) ∙ symm key k in
-    now ∙ updates k ∙ ap (λ t. cond t true (list_any (is_at (cmp k)) old)) test ∙ ap (λ b. cond (same k key) true b) before ∙ or_by_cases (same k key) (is_key same old k)
 
 -- ---- rows whose keys differ
 

@@ -1,7 +1,6 @@
 pub mod Bases
 pub mod BaseBytes
 pub mod RecordBytes
-pub mod Keys
 pub mod Growth
 pub mod Adding
 pub mod Adds

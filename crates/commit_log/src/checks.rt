@@ -8,10 +8,9 @@ ghost use Rattle.commit_log.specs.meaning.Bases.{table_name, keys_differ as keys
 ghost use Rattle.commit_log.specs.Bases.{has_lower_key as has_lower_key_def};
 
 use crate::base::{Base, BaseSequence, BaseTable};
-use crate::keys::Keys;
 use crate::named::are_distinct;
 use std::alloc::Global;
-use svc_values::{Names, NoMemory, Row, Schema, Schemas, Shape, TryCopy, Value};
+use svc_values::{KeySet, Names, NoMemory, Row, Schema, Schemas, Shape, TryCopy, Value};
 
 // Whether there is a column, and no two have one name.
 fn is_declared(schema: &Schema) -> bool
@@ -62,7 +61,7 @@ fn keys_differ(alloc: Global, rows: &[Row]) -> Result<bool, NoMemory>
     if keys_rise(rows) {
         return Ok(true);
     }
-    let mut taken = Keys::new(alloc);
+    let mut taken = KeySet::new(alloc);
     for row in rows {
         let key = key_of(alloc, row)?;
         if taken.has(&key) {

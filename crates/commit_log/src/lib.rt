@@ -34,7 +34,6 @@ mod ends;
 mod journal;
 mod judge;
 mod judging;
-mod keys;
 pub mod laws;
 mod log;
 mod named;

@@ -94,16 +94,18 @@ impl Log {
         Ok(judge.into_journal())
     }
 
-    /// Whether the store was opened before. It reads as `read` does, and changes nothing.
-    pub fn was_opened<D: Disk>(alloc: Global, disk: &mut D) -> Result<bool, LogFault>
-        ensures opened { IfOk result (λ opened. opened ≡ is_opened (so_far_of (D.state disk.old).now.seen)) }
+    /// Reads the journal and whether the store was opened before, at the cost of one `read`, and changes nothing.
+    pub fn look<D: Disk>(alloc: Global, disk: &mut D) -> Result<(Journal, bool), LogFault>
+        ensures journal { IfOk result (λ found. journal_of (D.state disk.old).now.seen ≡ Ok found.0) }
+        ensures opened { IfOk result (λ found. found.1 ≡ is_opened (so_far_of (D.state disk.old).now.seen)) }
 
         // The place is the first at which the bytes are no journal.
         ensures damaged { (place : ℕ) → IsErrOf result (LogFault.Damaged place) → journal_of (D.state disk.old).now.seen ≡ Err place }
         ensures only_reads { OnlyReads (IsErrOf result LogFault.Stopped) (D.state disk.old) (D.state disk.new) }
     {
         let (_, judge) = judge_all(alloc, disk)?;
-        Ok(judge.is_opened())
+        let is_opened = judge.is_opened();
+        Ok((judge.into_journal(), is_opened))
     }
 
     /// Opens the store: reads the journal, stores the horizon where it rises, and adds an opening with the next incarnation,

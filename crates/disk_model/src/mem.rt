@@ -55,6 +55,18 @@ impl MemDisk {
         Ok(MemDisk::holding(alloc, bytes.to_vec(alloc)?))
     }
 
+    /// A disk that has these bytes, all of them durable. It copies none.
+    pub fn over(alloc: Global, bytes: Vec<u8>) -> Result<Self, AllocError>
+        ensures state { IfOk result (λ disk. mem_state disk ≡ new_disk bytes.items) }
+        ensures settled { IfOk result (λ disk. IsSettled (mem_state disk)) }
+        ensures calls { IfOk result (λ disk. calls_of disk ≡ 0) }
+    {
+        if bytes.len() > MAX_SIZE {
+            return Err(AllocError);
+        }
+        Ok(MemDisk::holding(alloc, bytes))
+    }
+
     fn holding(alloc: Global, bytes: Vec<u8>) -> Self
         requires { length bytes.items ≤ 2 ^ 62 }
         ensures state { mem_state result ≡ new_disk bytes.items }
@@ -91,6 +103,13 @@ impl MemDisk {
         ensures { result.now ≡ (mem_state self.now).now.seen }
     {
         &self.bytes
+    }
+
+    /// All that a read gives, without a copy of it.
+    pub fn into_bytes(self) -> Vec<u8>
+        ensures { result.items ≡ (mem_state self).now.seen }
+    {
+        self.bytes
     }
 }
 

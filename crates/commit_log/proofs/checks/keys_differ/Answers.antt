@@ -3,7 +3,7 @@ use Rattle.std.proofs.lemmas.List.{drop_more}
 use Rattle.svc_values.specs.declared.value.Value.{Value}
 use Rattle.svc_values.specs.contracts.value.ValuePartialEq.TheImpl.{eq-value}
 use Rattle.svc_values.specs.meaning.Schemas.{key_of}
-use Rattle.commit_log.specs.Keys.{is_key}
+use Rattle.svc_values.specs.Keys.{is_key}
 use Rattle.commit_log.proofs.Differing.{differ_from, differ_at_first, differ_on}
 use Rattle.commit_log.proofs.checks.keys_differ.Goals as goal
 
@@ -20,5 +20,5 @@ loop-row-preserved c =
     let key : c.in_ok-key.key ≡ key_of row = c.in_ok-key.ensures in
     let old = c.loop-row.taken in
     let fresh : is_key eq-value.it old (key_of row) ≡ false = ap (is_key eq-value.it old) (sym key) ∙ sym c.has.ensures ∙ c.if-has.false in
-    let added = λ (k : Value). c.in_ok-add.ensures k ∙ ap (λ (v : Value). is_key eq-value.it old k || eq-value.it k v) key in
+    let added = λ (k : Value). c.in_ok-add.ensures.ok k ∙ ap (λ (v : Value). is_key eq-value.it old k || eq-value.it k v) key in
     sym (differ_on old c.add.new.self row rest fresh added) ∙ ap (differ_from (is_key eq-value.it old)) (sym here) ∙ c.loop-row.invariant

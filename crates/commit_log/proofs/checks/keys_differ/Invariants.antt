@@ -1,7 +1,7 @@
 use Rattle.std.proofs.Common.{◌≡◌, drop}
 use Rattle.svc_values.specs.contracts.value.ValuePartialEq.TheImpl.{eq-value}
 use Rattle.commit_log.specs.meaning.Bases.{keys_differ}
-use Rattle.commit_log.specs.Keys.{is_key}
+use Rattle.svc_values.specs.Keys.{is_key}
 use Rattle.commit_log.proofs.Differing.{differ_from}
 use Rattle.commit_log.proofs.checks.keys_differ.Given as goal
 
