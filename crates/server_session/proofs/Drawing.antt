@@ -92,7 +92,7 @@ module _ (now : ℕ) (asked : DrawKind) (opening : Opening) (left : List Draw) (
 
     -- which was stored
     module _ (later : Opening) (last : Log) (end : DiskState) (reserved : HasReserved name upto between disk later last end) where
-      names_reserved : names_of later.sequences ≡ names_of opening.sequences
+      pub names_reserved : names_of later.sequences ≡ names_of opening.sequences
       names_reserved = same_names later (reserved_to between name upto) reserved.told ∙ names_told between name upto ∙ names_between
 
       -- and then the source lacked memory

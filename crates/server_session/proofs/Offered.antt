@@ -6,3 +6,5 @@ pub use Rattle.server_session.proofs.Fronts.{stopped_leaves, telling_leaves}
 -- a front of one record is none of it or all, and what a crash leaves behind a stop is a front
 pub use Rattle.server_session.proofs.Gaining.{grown_left}
 pub use Rattle.server_session.proofs.Fronts.{left_grown}
+-- records of one step behind those of another, answered or stopped
+pub use Rattle.server_session.proofs.Gaining.{gained_none, gained_then, halted_then}

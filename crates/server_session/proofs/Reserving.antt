@@ -9,6 +9,7 @@ use Rattle.disk_model.specs.Disk.{DiskState}
 use Rattle.svc_values.specs.declared.draw.Draw.{Draw}
 use Rattle.svc_values.specs.declared.draw.DrawKind.{DrawKind}
 use Rattle.svc_values.specs.declared.draw.DrawKind.TheVariants as kind
+use Rattle.svc_values.specs.Draws.{is_there}
 use Rattle.mutable_values.specs.declared.source.SeqState.{SeqState}
 use Rattle.mutable_values.specs.declared.source.Drawn.{Drawn}
 use Rattle.mutable_values.specs.declared.source.Drawn.TheVariants as drawn
@@ -114,6 +115,22 @@ asks_by opening left asked now name upto after rest result e (reserves sequence 
 pub asks_reservation : (opening : Opening) (left : List Draw) (asked : DrawKind) (now : ℕ) (name : List ℕ) (upto : ℤ) (after : Opening) (rest : List Draw)
     → draw_of opening left asked now ≡ Some (record { answer = drawn.Reserve name upto; opening = after; kept = rest }) → AsksReservation opening left asked name after rest
 asks_reservation opening left asked now name upto after rest is = asks_by opening left asked now name upto after rest (draw_of opening left asked now) is (draws_by opening left now asked)
+
+-- ---- what is there is drawn
+
+never_none : (told : DrawnFrom) → ◌≡◌ {A = Option DrawnFrom} None (Some told) → ⊥
+never_none told clash = cc
+
+draws_by_case : (opening : Opening) (left : List Draw) (asked : DrawKind) (now : ℕ) (result : Option DrawnFrom) → is_there (names_of opening.sequences) asked ≡ true → result ≡ None → DrawsBy opening left asked now result → ⊥
+draws_by_case opening left asked now result there none (absent gone is) = let clash : ◌≡◌ {A = Bool} true false = sym there ∙ gone in cc
+draws_by_case opening left asked now result there none (first one here found is) = never_none _ (sym none ∙ is)
+draws_by_case opening left asked now result there none (ticked which unkept is) = never_none _ (sym none ∙ is)
+draws_by_case opening left asked now result there none (named which unkept is) = never_none _ (sym none ∙ is)
+draws_by_case opening left asked now result there none (valued sequence here which unkept found within is) = never_none _ (sym none ∙ is)
+draws_by_case opening left asked now result there none (reserves sequence here which unkept found past is) = never_none _ (sym none ∙ is)
+
+pub draws_there : (opening : Opening) (left : List Draw) (asked : DrawKind) (now : ℕ) → is_there (names_of opening.sequences) asked ≡ true → draw_of opening left asked now ≡ None → ⊥
+draws_there opening left asked now there none = draws_by_case opening left asked now (draw_of opening left asked now) there none (draws_by opening left now asked)
 
 -- ---- it may be stored
 

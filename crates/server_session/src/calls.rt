@@ -10,7 +10,7 @@ ghost use Rattle.server_session.specs.SeenSession.{begun_so, started_with};
 use crate::session::Session;
 use std::alloc::Global;
 use svc_values::{
-    Answer, Answers, Call, Down, Draws, Name, NoMemory, Piece, Settings, TryCopy, Value,
+    Answer, Answers, Call, Down, Draws, ListFault, Name, NoMemory, Piece, Settings, TryCopy, Value,
 };
 
 /// One answer.
@@ -20,7 +20,8 @@ pub(crate) fn alone(alloc: Global, answer: Answer) -> Result<Answers, NoMemory>
     let mut answers = Answers::new(alloc);
     match answers.push(answer) {
         Ok(()) => Ok(answers),
-        Err(_) => Err(NoMemory),
+        Err(ListFault::NoMemory) => Err(NoMemory),
+        Err(ListFault::TooMany) => unreachable!(),
     }
 }
 

@@ -24,7 +24,9 @@ use server_model::ServeFault;
 use std::alloc::Global;
 use std::mem;
 use stmt_meaning::ends_refused;
-use svc_values::{Answer, Answers, Call, Down, Draws, Entry, NoMemory, Piece, Settings, TryCopy};
+use svc_values::{
+    Answer, Answers, Call, Down, Draws, Entry, ListFault, NoMemory, Piece, Settings, TryCopy,
+};
 use table_txn::Txn;
 
 /// The answers of statements, and that of a commit behind them where one is asked for and none of them
@@ -35,7 +37,8 @@ pub(crate) fn closed(mut answers: Answers, commit: bool) -> Result<Answers, NoMe
     if commit && !ends_refused(answers.as_slice()) {
         match answers.push(Answer::Committed) {
             Ok(()) => {}
-            Err(_) => return Err(NoMemory),
+            Err(ListFault::NoMemory) => return Err(NoMemory),
+            Err(ListFault::TooMany) => unreachable!(),
         }
     }
     Ok(answers)

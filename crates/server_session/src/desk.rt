@@ -8,7 +8,7 @@ ghost use Rattle.server_session.specs.Dealing.{IsPrepared, IsReady, Reserves, De
 use crate::store::stored;
 use commit_log::Log;
 use disk_model::Disk;
-use mutable_values::{Drawn, Kept, Source};
+use mutable_values::{DrawFault, Drawn, Kept, Source};
 use server_model::ServeFault;
 use std::alloc::Global;
 use stmt_meaning::{DrawFrom, DrawFromFault};
@@ -87,7 +87,8 @@ fn draw_value<D: Disk>(
     }
 }
 
-/// What the source answers to a draw. Where it has no room for another value there is no memory.
+/// What the source answers to a draw, of a kind that is there. Where it has no room for another value
+/// there is no memory.
 fn ask(
     alloc: Global,
     kind: &DrawKind,
@@ -95,6 +96,7 @@ fn ask(
     kept: &mut Kept,
     now: u64,
 ) -> Result<Drawn, ServeFault>
+    requires { is_there_def (names_of source.old.sequences) kind.now ≡ true }
     ensures asked { IfOk result (λ told. draw_of source.old kept.old kind.now now ≡ Some (record { answer = told; opening = source.new; kept = kept.new })) }
     ensures room { IfOk result (λ told. HasRoom source.old) }
     ensures source { OnErr result (source.new ≡ source.old) }
@@ -106,7 +108,8 @@ fn ask(
     }
     match source.draw(alloc, kind, kept, now) {
         Ok(told) => Ok(told),
-        Err(_) => Err(ServeFault::NoMemory),
+        Err(DrawFault::NoMemory) => Err(ServeFault::NoMemory),
+        Err(DrawFault::NoSequence) => unreachable!(),
     }
 }
 

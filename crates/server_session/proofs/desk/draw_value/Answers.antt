@@ -1,11 +1,12 @@
-use Rattle.std.proofs.Common.{◌≡◌, ℤ, to_z, of_z, w64, rules, sym, subst, ◌∙◌}
+use Rattle.std.proofs.Common.{◌≡◌, ℕ, ℤ, true, List, to_z, of_z, w64, rules, sym, subst, ◌∙◌}
 use Rattle.std.specs.Prelude.{IsTrue, Err}
 use Rattle.std.proofs.lemmas.Int.{to_z-of_z}
 use Rattle.std.proofs.lemmas.Result.{err_from_is_err_and}
+use Rattle.svc_values.specs.Draws.{is_there}
 use Rattle.mutable_values.specs.declared.source.Drawn.TheVariants as drawn
 use Rattle.mutable_values.specs.Sources.{may_reserve}
 use Rattle.server_session.specs.Dealing.{HasReserved, Reserves}
-use Rattle.server_session.proofs.Drawing.{told_as, answered_value, answered_unreserved, answered_lacked_behind, answered_again, answered_reserved, may_between, prepared_between}
+use Rattle.server_session.proofs.Drawing.{told_as, answered_value, answered_unreserved, answered_lacked_behind, answered_again, answered_reserved, may_between, names_reserved, prepared_between}
 use Rattle.server_session.proofs.desk.draw_value.Goals as goal
 
 pub returns-in-Value : goal.returns-in-Value
@@ -40,6 +41,18 @@ returns-in_err-reserve-in-Reserve g c =
     c.in_err-reserve-in-Reserve.field-0.0 c.reserve.new.source c.reserve.new.log (state c.reserve.new.disk) reserves in
     let p = err_from_is_err_and c.from_residual-in_err-reserve-in-Reserve.result c.from_residual-in_err-reserve-in-Reserve.ensures.1 in
     rw (p.1, p.2) (record { drawn = h.drawn; names = h.names; ready = h.ready })
+
+pub ask-requires-in-Reserve : goal.ask-requires-in-Reserve
+ask-requires-in-Reserve g c =
+    let state = g.D.Disk.state in
+    let disk = state c.args.disk.now in
+    let prepared = c.requires.ready (sym c.is_live.ensures ∙ c.if-not-is_live.false) in
+    let told = told_as c.args.source.now c.args.kept.now c.args.kind.now c.args.now c.in_ok-draw.field-0 (drawn.Reserve c.in-Reserve.name c.in-Reserve.upto) c.ask.new.source c.ask.new.kept c.in_ok-draw.ensures.asked c.in-Reserve.is in
+    let same : to_z w64 (of_z w64 c.in-Reserve.upto) ≡ c.in-Reserve.upto = to_z-of_z w64 c.in-Reserve.upto (search rules) in
+    let reserved = subst (λ (z : ℤ). HasReserved c.in-Reserve.name z c.ask.new.source disk c.reserve.new.source c.reserve.new.log (state c.reserve.new.disk)) same c.in_ok-reserve-in-Reserve.ensures in
+    subst (λ (names : List (List ℕ)). is_there names c.args.kind.now ≡ true)
+    (sym (names_reserved c.args.now c.args.kind.now c.args.source.now c.args.kept.now c.args.log.now disk c.in-Reserve.name c.in-Reserve.upto c.ask.new.source c.ask.new.kept prepared told
+    c.reserve.new.source c.reserve.new.log (state c.reserve.new.disk) reserved)) c.requires.there
 
 pub returns-in_err-draw-in-Reserve-clause-names : goal.returns-in_err-draw-in-Reserve-clause-names
 returns-in_err-draw-in-Reserve-clause-names g c =
