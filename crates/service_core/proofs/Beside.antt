@@ -33,6 +33,7 @@ use Rattle.service_core.proofs.Gained.{adds_between}
 use Rattle.service_core.proofs.Splits.{stays_between}
 use Rattle.service_core.proofs.Taken.{IsReady, stays_so}
 use Rattle.service_core.proofs.Throughout.{going_on}
+use Rattle.service_core.proofs.Faulty.{still_room}
 
 -- ---- the service
 
@@ -51,7 +52,7 @@ beside_on grants frame now most told core later disk end held notes session new 
       up = record {
         fits = served.fits;
         granted = stay.grants ∙ beside.up.granted;
-        faults = omega (arith, beside.up.faults, served.gained.faults);
+        faults = still_room disk.faults end.faults notes notes beside.up.faults served.gained.faults (omega arith) refl;
         settled = beside.up.settled;
         room = omega (arith, beside.up.room, stay.incarnation);
         few = beside.up.few;

@@ -19,13 +19,14 @@ use Rattle.service_core.specs.Held.{Held}
 use Rattle.service_core.specs.Seeing.{Came, Leaves, StandsDown, StandsUp, state_of, store_of}
 use Rattle.service_core.specs.Sound.{IsDown, IsUp}
 use Rattle.service_core.specs.Through.{HasHaltedFrom, HasHaltedIn, Item, begun_items, happened_in}
+use Rattle.service_core.proofs.Answered.{Went, went, went_on}
 use Rattle.service_core.proofs.Beside.{Follows, IsBeside, gains_on, through_beside, through_follows}
 use Rattle.service_core.proofs.Faulty.{never_falls, none_before, rises, still_counted, still_none_by_less}
 use Rattle.service_core.proofs.Gained.{grew_base}
 use Rattle.service_core.proofs.Standing.{seen_with}
 use Rattle.service_core.proofs.Stopping.{stopped_adds_at, stopped_base, stopped_came, stopped_down}
 use Rattle.service_core.proofs.Taken.{IsReady, next_ready}
-use Rattle.service_core.proofs.Went.{Went, made_beside, made_id, made_is_next, made_notes, made_session, one_base_on, through_grew, went, went_on}
+use Rattle.service_core.proofs.Went.{made_beside, made_id, made_is_next, made_notes, made_session, one_base_on, through_grew}
 
 -- what one session was served is its own
 own_one : (session : SessionId) (happened : Happened) → IsOf session happened → All (IsOf session) (happened ∷ [])
@@ -59,7 +60,7 @@ module _ (grants : Grants) (now : ℕ) (core : Core) (disk end : DiskState) (hel
   pub halted_down : IsDown end [] halted_notes
   halted_down =
       stopped_down grants last.at end last.between held (made_notes notes) now last.frame last.mid beside_last.going.reads beside_last.going.noted beside_last.up last.stopped reads_now halted_notes (omega arith) refl refl
-      (still_counted disk.faults end.faults notes.calls up.faults one_fault)
+      (still_counted disk.faults end.faults notes halted_notes up.faults one_fault refl refl)
 
   pub halted_base : HaveOneBase disk.now.seen end.now.seen
   halted_base =
@@ -131,7 +132,7 @@ module _ (grants : Grants) (now : ℕ) (core : Core) (disk end : DiskState) (hel
         is_quiet = last.stopped.halted.quiet ∙ went_all.quiet;
         per_record = refl;
         crashes = (refl, refl, refl);
-        faults = never_falls disk.faults end.faults notes.calls up.faults few one_fault;
+        faults = never_falls disk.faults end.faults notes up.faults few one_fault;
         stop = λ none. still_none_by_less (4 * length last.stopped.records + 4) last.at.stop end.stop last.stopped.halted.stop (went_all.stop none);
         calls = refl;
         is_spent = live;
@@ -143,7 +144,7 @@ module _ (grants : Grants) (now : ℕ) (core : Core) (disk end : DiskState) (hel
       gains = gains_at end.now.seen reads_now;
       left = λ store leaves. subst (Gains halted_in (store_of disk.now.seen)) (sym leaves.store_is) (gains_at leaves.image leaves.left);
       cause = record {
-        rose = λ is. rises disk.faults end.faults notes.calls up.faults few one_fault;
+        rose = λ is. rises disk.faults end.faults notes up.faults few one_fault;
         quiet = λ quiet changed none. none_before (4 * length last.stopped.records + 4) last.at.stop end.stop last.stopped.halted.stop (last.stopped.halted.reached (went_all.quiet ∙ quiet)) (went_all.stop none);
       };
     }

@@ -21,11 +21,12 @@ use Rattle.service_core.specs.Held.{Held}
 use Rattle.service_core.specs.Seeing.{Came, StandsUp, state_of, store_of}
 use Rattle.service_core.specs.Sound.{IsUp}
 use Rattle.service_core.specs.Through.{HasRunFrom, begun_items, happened_in}
+use Rattle.service_core.proofs.Answered.{Went, went, went_on}
 use Rattle.service_core.proofs.Beside.{Follows, IsBeside, through_beside, through_follows}
 use Rattle.service_core.proofs.Gained.{grew_base}
 use Rattle.service_core.proofs.Standing.{seen_with}
 use Rattle.service_core.proofs.Taken.{IsReady, next_ready}
-use Rattle.service_core.proofs.Went.{Went, made_beside, made_id, made_is_next, made_notes, made_session, through_grew, went, went_on}
+use Rattle.service_core.proofs.Went.{made_beside, made_id, made_is_next, made_notes, made_session, through_grew}
 
 module _ (grants : Grants) (now : ℕ) (calls : List Call) (runs : List NoteRun) (core later : Core) (disk end : DiskState) (held : Held) (notes : Notes) (new : Session) (up : IsUp grants disk core held notes) (ran : HasRunFrom now calls runs (made_session core notes) core disk new later end) where
   beside_begun : IsBeside grants ran.at ran.between held (made_notes notes) ran.mid

@@ -16,8 +16,9 @@ use Rattle.service_core.specs.declared.notes.Notes.{Notes}
 use Rattle.service_core.specs.Held.{Held}
 use Rattle.service_core.specs.Within.{Within}
 use Rattle.service_core.specs.Seeing.{store_of, StandsDown, Stands, SeesIn}
-use Rattle.service_core.specs.Sound.{HasRoom, IsUp, IsSound, IsSoundWithin, Reads}
+use Rattle.service_core.specs.Sound.{HasFaultRoom, HasRoom, IsUp, IsSound, IsSoundWithin, Reads}
 use Rattle.service_core.proofs.Standing.{goes_from}
+use Rattle.service_core.proofs.Faulty.{still_room}
 
 -- What a crash with this pick leaves of a disk.
 pub record IsFallen (old new : DiskState) : Type 0 where
@@ -81,7 +82,7 @@ pub few_crashes : (grants : Grants) (disk : DiskState) (core : Option Core) (hel
 few_crashes grants disk None held notes down = down.crashes
 few_crashes grants disk (Some core) held notes up = up.crashes
 
-pub counted : (grants : Grants) (disk : DiskState) (core : Option Core) (held : Held) (notes : Notes) → IsSound grants disk core held notes → HasRoom disk.faults notes
+pub counted : (grants : Grants) (disk : DiskState) (core : Option Core) (held : Held) (notes : Notes) → IsSound grants disk core held notes → HasFaultRoom disk.faults notes
 counted grants disk None held notes down = down.faults
 counted grants disk (Some core) held notes up = up.faults
 
@@ -93,7 +94,7 @@ falls_soundly old end pick sound fall =
       none = refl;
       base = read.0;
       leaves = λ image leaves. subst (λ (i : List ℕ). Reads read.0 (fallen old.notes pick) i) (sym (fall.durable image leaves)) read.1.1;
-      faults = omega (arith, fall.faults, counted old.grants old.disk old.core old.held old.notes sound);
+      faults = still_room old.disk.faults end.faults old.notes (fallen old.notes pick) (counted old.grants old.disk old.core old.held old.notes sound) fall.faults (omega arith) refl;
       crashes = omega (arith, few_crashes old.grants old.disk old.core old.held old.notes sound);
       reads_now = fall.reads_now;
       settled = λ settled. fall.durable;

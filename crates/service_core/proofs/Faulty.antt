@@ -3,20 +3,26 @@ use Rattle.std.proofs.Common.{◌≡◌, ◌≢◌, ◌∙◌, ◌+◌, ◌-◌,
 use Rattle.std.proofs.Math.Nat.{min-eq_left, min-le_left}
 use Rattle.std.specs.Prelude.{Option, Some, None, Result, Err, IsErrOf}
 use Rattle.disk_model.specs.Disk.{Caused, DiskState, OnlyReads, Lowered, LoweredByLess, with_fault}
+use Rattle.service_core.specs.declared.notes.Notes.{Notes}
+use Rattle.service_core.specs.Sound.{HasFaultRoom}
 
 -- Where a count leaves room, each fault is one more.
-pub one_more : (old new calls : ℕ) → old ≤ 2 ^ 62 + calls → calls < 2 ^ 48 → new ≡ with_fault old → new ≡ old + 1
-one_more old new calls room few is = is ∙ min-eq_left (omega (arith, room, few))
+pub one_more : (old new : ℕ) (notes : Notes) → HasFaultRoom old notes → notes.calls < 2 ^ 48 → new ≡ with_fault old → new ≡ old + 1
+one_more old new notes room few is = is ∙ min-eq_left (omega (arith, room.0, room.1, few))
 
-pub rises : (old new calls : ℕ) → old ≤ 2 ^ 62 + calls → calls < 2 ^ 48 → new ≡ with_fault old → old < new
-rises old new calls room few is = omega (arith, one_more old new calls room few is)
+pub rises : (old new : ℕ) (notes : Notes) → HasFaultRoom old notes → notes.calls < 2 ^ 48 → new ≡ with_fault old → old < new
+rises old new notes room few is = omega (arith, one_more old new notes room few is)
 
-pub never_falls : (old new calls : ℕ) → old ≤ 2 ^ 62 + calls → calls < 2 ^ 48 → new ≡ with_fault old → old ≤ new
-never_falls old new calls room few is = omega (arith, one_more old new calls room few is)
+pub never_falls : (old new : ℕ) (notes : Notes) → HasFaultRoom old notes → notes.calls < 2 ^ 48 → new ≡ with_fault old → old ≤ new
+never_falls old new notes room few is = omega (arith, one_more old new notes room few is)
 
 -- it leaves room one call later
-pub still_counted : (old new calls : ℕ) → old ≤ 2 ^ 62 + calls → new ≡ with_fault old → new ≤ 2 ^ 62 + (calls + 1)
-still_counted old new calls room is = omega (arith, room, is, min-le_left (old + 1) (2 ^ 64 - 1))
+pub still_counted : (old new : ℕ) (notes later : Notes) → HasFaultRoom old notes → new ≡ with_fault old → later.calls ≡ notes.calls + 1 → later.reads ≡ notes.reads → HasFaultRoom new later
+still_counted old new notes later room is calls reads = (omega (arith, room.0, is, calls, reads, min-le_left (old + 1) (2 ^ 64 - 1)), omega (arith, room.1, calls, reads))
+
+-- and so does a call without a fault
+pub still_room : (old new : ℕ) (notes later : Notes) → HasFaultRoom old notes → new ≡ old → notes.calls ≤ later.calls → later.reads ≡ notes.reads → HasFaultRoom new later
+still_room old new notes later room is calls reads = (omega (arith, room.0, is, calls, reads), omega (arith, room.1, calls, reads))
 
 -- no stop, no stop
 pub still_none : (n : ℕ) (before after : Option ℕ) → Lowered n before after → before ≡ None → after ≡ None

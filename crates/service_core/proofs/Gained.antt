@@ -71,7 +71,7 @@ grew_base old added journal image is grew first second reads reads_second =
 -- ---- how many records
 
 -- a journal is read from whole records
-record HasRecords (image : List ℕ) : Type 0 where
+pub record HasRecords (image : List ℕ) : Type 0 where
   pub payloads : List (List ℕ)
   pub are : records_of image ≡ Ok payloads
 
@@ -80,11 +80,11 @@ whole image (Err place) found journal is reads = absurd (let none : ⊥ = cc in 
 whole image (Ok so_far) (Err place) journal is reads = absurd (let none : ⊥ = cc in none)
 whole image (Ok so_far) (Ok payloads) journal is reads = record { payloads = payloads; are = is }
 
-has_records : (image : List ℕ) (journal : Journal) → journal_of image ≡ Ok journal → HasRecords image
+pub has_records : (image : List ℕ) (journal : Journal) → journal_of image ≡ Ok journal → HasRecords image
 unfolding so_far_of
 has_records image journal reads = whole image _ (records_of image) journal refl reads
 
-count_more : (old : List ℕ) (added : List Record) (image : List ℕ) (journal : Journal) → journal_of old ≡ Ok journal → HasAdded old added image → record_count (records_of image) ≡ record_count (records_of old) + length added
+pub count_more : (old : List ℕ) (added : List Record) (image : List ℕ) (journal : Journal) → journal_of old ≡ Ok journal → HasAdded old added image → record_count (records_of image) ≡ record_count (records_of old) + length added
 count_more old added image journal reads has =
     let found = has_records old journal reads in
     let more : record_count (records_of image) ≡ length (found.payloads ++ map spell_record added) = ap record_count has.records ∙ ap (λ (r : Result (List (List ℕ)) ℕ). record_count (with_payloads added r)) found.are in

@@ -13,13 +13,15 @@ use Rattle.svc_values.specs.meaning.Names.{names_differ}
 use Rattle.svc_values.specs.meaning.Tables.{with_writes}
 use Rattle.svc_values.proofs.Offered.{with_writes-append}
 use Rattle.table_store.specs.Stored.{Stored}
+use Rattle.table_store.specs.Given.{is_index_of}
+use Rattle.table_store.specs.declared.shelves.IndexOf.{IndexOf}
 use Rattle.mutable_values.specs.declared.grants.Grants.{Grants}
 use Rattle.mutable_values.specs.declared.source.SeqState.{SeqState}
 use Rattle.mutable_values.specs.Sources.{Opening, are_sequences, is_within, names_of}
 use Rattle.commit_log.specs.declared.base.BaseSequence.{BaseSequence}
 use Rattle.commit_log.specs.declared.journal.Journal.{Journal}
 use Rattle.commit_log.specs.declared.log.Log.{Log}
-use Rattle.commit_log.specs.meaning.Bases.{is_sequence, sequence_name}
+use Rattle.commit_log.specs.meaning.Bases.{is_sequence, schemas_of, sequence_name}
 use Rattle.commit_log.specs.Bases.{IsBase}
 use Rattle.commit_log.specs.Growth.{HasAdded, opening_of, with_opening}
 use Rattle.commit_log.specs.meaning.Journals.{so_far_of, journal_of}
@@ -30,6 +32,7 @@ use Rattle.ltxid_book.specs.meaning.Sessions.{is_forgotten}
 use Rattle.server_model.specs.Core.{tables_with, writes_in}
 use Rattle.server_session.specs.declared.shared.Core.{Core}
 use Rattle.server_session.specs.Fits.{Fits, sequence_in, sequence_of}
+use Rattle.service_core.specs.Indexed.{FitBase}
 use Rattle.service_core.specs.Opening.{CanOpen, HasOpened, source_of, stop_of}
 use Rattle.service_core.specs.InnerOpening.{CanGoOn, IsCoreOf, ends_low, entry_fits, state_of}
 use Rattle.service_core.proofs.BaseRows.{sequences_begin, sequence_names_differ, second_true, both_true}
@@ -121,6 +124,12 @@ core_fits log journal grants core disk is ready reads keeps current = record {
   source = record { incarnation = ap (λ (o : Opening). o.incarnation) is.source; sequences = ap (λ (o : Opening). map sequence_in o.sequences) is.source ∙ same_sequences journal journal.base.sequences };
   current = current;
 }
+
+-- an opening leaves the base as it was
+pub indexes_go_on : (horizon : ℕ) (image : List ℕ) (can : CanOpen horizon image) (journal : Journal) (indexes : List IndexOf) → with_opening horizon (journal_of image) ≡ Ok journal → FitBase indexes image
+    → IsTrue (list_all (is_index_of (schemas_of journal.base)) indexes)
+indexes_go_on horizon image can journal indexes opened fit =
+    subst (λ (j : Journal). IsTrue (list_all (is_index_of (schemas_of j.base)) indexes)) (sym (opened_is horizon image can.journal journal can.reads opened)) (fit can.journal can.reads)
 
 -- an opened store's journal is one to go on from
 pub goes_on : (image : List ℕ) (journal : Journal) → EachKeeps → journal_of image ≡ Ok journal → length image ≤ 2 ^ 62 → CanGoOn journal

@@ -23,7 +23,7 @@ use Rattle.service_core.specs.declared.notes.Notes.{Notes}
 use Rattle.service_core.specs.Held.{Held}
 use Rattle.service_core.specs.InnerHonest.{store_is}
 use Rattle.service_core.specs.Within.{Within}
-use Rattle.service_core.specs.Seeing.{store_in, store_of, state_in, Stands, StandsIn, SeesIn, LeavesIn}
+use Rattle.service_core.specs.Seeing.{Came, StandsDown, store_in, store_of, state_in, Stands, StandsIn, SeesIn, LeavesIn}
 use Rattle.service_core.specs.Sound.{IsDown, IsSound, IsSoundWithin, Reads}
 use Rattle.service_core.proofs.Falling.{one_base}
 use Rattle.service_core.proofs.Faulty.{rises, never_falls, still_counted, still_none_by_less, none_before}
@@ -94,7 +94,7 @@ halts_soundly old new stop below calls raises off settled sound halted =
       none = down.none;
       base = down.base;
       leaves = λ image leaves. part_reads old stop down below image (reaches_in old new below calls raises settled down halted image leaves);
-      faults = still_counted old.disk.faults new.faults old.notes.calls down.faults halted.faults;
+      faults = still_counted old.disk.faults new.faults old.notes (halted_notes old.notes stop) down.faults halted.faults refl refl;
       crashes = omega (arith, down.crashes);
       reads_now = halted.reads_now;
       settled = λ settled. absurd (let e : ◌≡◌ {A = Bool} false true = settled in cc);
@@ -115,18 +115,16 @@ down_stands grants disk (Some core) held notes start history off stands = absurd
 never_on : Off ≢ On
 never_on same = absurd (cc)
 
-halted_stands : (old : Within) (new : DiskState) (stop : Option ℕ) (below calls : ℕ) (start : Base) (history : List Happened) → RaisesHorizon → old.notes.calls < 2 ^ 48 → is_some old.core ≡ false → old.notes.is_settled ≡ true → IsSoundWithin old → MayForgetAt (state_in old) below → IsHalted below calls old.disk new
-    → StandsIn old start history → StandsIn (halted_from old new stop) start history
-halted_stands old new stop below calls start history raises few off settled sound may halted stands =
+-- a plain server has come to whatever an opening reaches
+pub reached_came : (old : Within) (below : ℕ) (start : Base) (history : List Happened) → old.notes.calls < 2 ^ 48 → (off : is_some old.core ≡ false) → old.notes.is_settled ≡ true → (sound : IsSoundWithin old) → MayForgetAt (state_in old) below → StandsIn old start history → (image : List ℕ)
+    → Reaches ((down_of old off sound).leaves old.disk.now.seen (down_of old off sound).reads_now).journal below image → Came start history (StandsDown old.grants false image)
+reached_came old below start history few off settled sound may stands image reached =
     let down = down_of old off sound in
     let read = down.leaves old.disk.now.seen down.reads_now in
     let came = stands_down old start history off stands old.disk.now.seen down.reads_now in
     let stored = subst (λ (r : Result Journal ℕ). IfOk r (IsStored came.server.core)) read.reads came.stands.stored in
     let power : came.server.power ≡ Off = subst (λ (b : Bool). HasPower false b came.server.power) settled came.stands.power in
     let opens : MayOpen came.server.core below = may_open came.server.core read.journal below stored (omega (arith, few, read.room)) (may_forget old read.journal below read.reads may) in
-    down_stands old.grants new old.core old.held (halted_notes old.notes stop) start history off
-    (λ image leaves.
-    let reached = reaches_in old new below calls raises settled down halted image leaves in
     let follow = follows came.server.core read.journal below reached.reached stored reached.part in
     let server : Server = record { power = Off; core = follow.core; sessions = []; count = 0 } in
     record {
@@ -138,7 +136,13 @@ halted_stands old new stop below calls start history raises few off settled soun
         stored = subst (λ (r : Result Journal ℕ). IfOk r (IsStored follow.core)) (sym reached.reads) follow.stored;
         grants_are = ap (λ (b : Base). b.grants) follow.base ∙ came.stands.grants_are;
       };
-    })
+    }
+
+halted_stands : (old : Within) (new : DiskState) (stop : Option ℕ) (below calls : ℕ) (start : Base) (history : List Happened) → RaisesHorizon → old.notes.calls < 2 ^ 48 → is_some old.core ≡ false → old.notes.is_settled ≡ true → IsSoundWithin old → MayForgetAt (state_in old) below → IsHalted below calls old.disk new
+    → StandsIn old start history → StandsIn (halted_from old new stop) start history
+halted_stands old new stop below calls start history raises few off settled sound may halted stands =
+    down_stands old.grants new old.core old.held (halted_notes old.notes stop) start history off
+    (λ image leaves. reached_came old below start history few off settled sound may stands image (reaches_in old new below calls raises settled (down_of old off sound) halted image leaves))
 
 -- ---- the store
 
@@ -150,7 +154,7 @@ part_stored journal below records more reached (inr (inl same)) =
 part_stored journal below records more reached (inr (inr same)) =
     record { lists = record { entries = ap (λ (j : Journal). j.entries) same; blocked = ap (λ (j : Journal). j.blocked) same; alerts = ap (λ (j : Journal). j.alerts) same }; so_far = Both (ap (λ (j : Journal). j.incarnation) same) (ap (λ (j : Journal). j.horizon) same) }
 
-so_far_stored : (journal : Journal) (below : ℕ) (old image : List ℕ) → journal_of old ≡ Ok journal → Reaches journal below image → OpenedSoFar below (store_of old) (store_of image)
+pub so_far_stored : (journal : Journal) (below : ℕ) (old image : List ℕ) → journal_of old ≡ Ok journal → Reaches journal below image → OpenedSoFar below (store_of old) (store_of image)
 so_far_stored journal below old image reads reached =
     subst (λ (s : Store). OpenedSoFar below s (store_of image)) (sym (store_is old journal reads))
     (subst (λ (s : Store). OpenedSoFar below (store_in (Ok journal) (record_count (records_of old))) s) (sym (store_is image reached.reached reached.reads))
@@ -176,7 +180,7 @@ halts old new stop below calls same raises live few off settled sound may halted
           is_quiet = halted.quiet;
           per_record = refl;
           crashes = (refl, refl, refl);
-          faults = never_falls old.disk.faults new.faults old.notes.calls down.faults few halted.faults;
+          faults = never_falls old.disk.faults new.faults old.notes down.faults few halted.faults;
           stop = λ none. still_none_by_less calls old.disk.stop new.stop halted.stop none;
           kept = same;
           calls = refl;
@@ -185,6 +189,6 @@ halts old new stop below calls same raises live few off settled sound may halted
         is_up = (off, refl);
         so_far = part new.now.seen halted.reads_now;
         left = λ store leaves. subst (OpenedSoFar below (store_of old.disk.now.seen)) (sym leaves.store_is) (part leaves.image leaves.left);
-        cause = record { rose = λ stopped. rises old.disk.faults new.faults old.notes.calls down.faults few halted.faults; quiet = λ is_quiet changed. none_before calls old.disk.stop new.stop halted.stop (halted.at_stop is_quiet) };
+        cause = record { rose = λ stopped. rises old.disk.faults new.faults old.notes down.faults few halted.faults; quiet = λ is_quiet changed. none_before calls old.disk.stop new.stop halted.stop (halted.at_stop is_quiet) };
       };
     })

@@ -1,3 +1,6 @@
+mod Answered
+mod AskFronts
+mod AskHalts
 mod Asks
 mod BaseRows
 mod Beginning
@@ -9,16 +12,24 @@ mod CallsRan
 mod Ending
 mod Falling
 mod Faulty
+mod Fronting
 mod Gained
 mod GoingOn
+mod Growths
 mod Halted
+mod Indexing
 mod Limits
+mod LostFrames
+mod LostFronts
 mod Made
 mod Opened
+mod OpeningHalts
+mod OutsideHalts
 mod Reaching
 mod Read
 mod Reopening
 mod Replied
+mod Second
 mod Served
 mod Serves
 mod Splits
@@ -28,4 +39,5 @@ mod Stopping
 mod Taken
 mod Throughout
 mod Told
+mod Unanswering
 mod Went

@@ -23,7 +23,7 @@ made_soundly disk grants can reads_now = record {
   none = refl;
   base = can.journal.base;
   leaves = λ image leaves. subst (λ (i : List ℕ). Reads can.journal.base first_notes i) (sym (can.settled image leaves)) (record { journal = can.journal; reads = can.reads; base_is = refl; room = omega (arith, can.room) });
-  faults = omega (arith, can.faults);
+  faults = (omega (arith, can.faults), omega arith);
   crashes = omega arith;
   reads_now = reads_now;
   settled = λ settled. can.settled;

@@ -34,7 +34,7 @@ use Rattle.service_core.specs.Opening.{HasOpened}
 use Rattle.service_core.specs.Within.{Within}
 use Rattle.service_core.specs.Seeing.{store_in, store_of, state_in, Stands, StandsIn, SeesIn}
 use Rattle.service_core.specs.Sound.{IsDown, IsSoundWithin, Reads}
-use Rattle.service_core.proofs.Faulty.{still_none}
+use Rattle.service_core.proofs.Faulty.{still_none, still_room}
 use Rattle.service_core.proofs.Reaching.{opened_journal}
 use Rattle.service_core.proofs.Reopening.{opened_plain, opened_is, opened_reads, plain_again}
 use Rattle.service_core.proofs.Standing.{goes_from}
@@ -124,7 +124,7 @@ opens_soundly old new core stop below keeps off settled sound opening =
     record {
       fits = opened.fits;
       granted = opened.grants_are;
-      faults = omega (arith, opening.faults, down.faults);
+      faults = still_room old.disk.faults new.faults old.notes (opened_from old new core stop).notes down.faults opening.faults (omega arith) refl;
       settled = settled;
       room = omega (arith, number, read.room);
       few = omega arith;

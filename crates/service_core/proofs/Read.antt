@@ -93,7 +93,7 @@ is_lost fault old new stopped reads reads_now = record {
 }
 
 -- each image that a crash may leave is that of a journal with one base
-left_reads : (grants : Grants) (disk : DiskState) (core : Option Core) (held : Held) (notes : Notes) → IsSound grants disk core held notes → (base : Begun) × ((image : List ℕ) → MayLeave disk.now image → Reads base notes image)
+pub left_reads : (grants : Grants) (disk : DiskState) (core : Option Core) (held : Held) (notes : Notes) → IsSound grants disk core held notes → (base : Begun) × ((image : List ℕ) → MayLeave disk.now image → Reads base notes image)
 left_reads grants disk None held notes down = (down.base, down.leaves)
 left_reads grants disk (Some core) held notes up =
     (up.fits.journal.base, λ image left. subst (λ (i : List ℕ). Reads up.fits.journal.base notes i) (sym (up.fits.log.append.settled image left)) (reads_up grants disk core held notes up))
@@ -109,7 +109,7 @@ loses_soundly old new sound lost =
       none = refl;
       base = left.0;
       leaves = λ image leaves. reads_later left.0 old.notes (called old.notes) image refl (left.1 image (subst (λ (m : DiskMoment). MayLeave m image) lost.now leaves));
-      faults = still_counted old.disk.faults new.faults old.notes.calls (counted old.grants old.disk old.core old.held old.notes sound) lost.faults;
+      faults = still_counted old.disk.faults new.faults old.notes (called old.notes) (counted old.grants old.disk old.core old.held old.notes sound) lost.faults refl refl;
       crashes = omega (arith, few_crashes old.grants old.disk old.core old.held old.notes sound);
       reads_now = lost.reads_now;
       settled = λ settled. subst (λ (m : DiskMoment). (image : List ℕ) → MayLeave m image → image ≡ m.seen) (sym lost.now) (settled_in old.grants old.disk old.core old.held old.notes sound settled);
@@ -147,13 +147,13 @@ loses old new live few sound lost =
           is_quiet = lost.quiet;
           per_record = refl;
           crashes = (refl, refl, refl);
-          faults = never_falls old.disk.faults new.faults old.notes.calls (counted old.grants old.disk old.core old.held old.notes sound) few lost.faults;
+          faults = never_falls old.disk.faults new.faults old.notes (counted old.grants old.disk old.core old.held old.notes sound) few lost.faults;
           stop = λ none. lost.stop ∙ none;
           calls = refl;
           is_spent = live;
         };
         unchanged = (refl, ap (λ (m : DiskMoment). store_of m.seen) lost.now, refl);
         down = (λ connection. refl, refl);
-        cause = record { rose = λ stopped. rises old.disk.faults new.faults old.notes.calls (counted old.grants old.disk old.core old.held old.notes sound) few lost.faults; quiet = λ is_quiet changed. set_before old.disk.stop new.stop lost.stop (lost.at_stop is_quiet) };
+        cause = record { rose = λ stopped. rises old.disk.faults new.faults old.notes (counted old.grants old.disk old.core old.held old.notes sound) few lost.faults; quiet = λ is_quiet changed. set_before old.disk.stop new.stop lost.stop (lost.at_stop is_quiet) };
       };
     })

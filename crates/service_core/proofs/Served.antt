@@ -34,7 +34,7 @@ use Rattle.service_core.specs.Seeing.{Attends, Came, StandsUp, store_of, state_o
 use Rattle.service_core.specs.Sound.{IsHeld, IsUp, unmade}
 use Rattle.service_core.specs.Taking.{IsTaken, kept_of}
 use Rattle.service_core.proofs.Ending.{serve_ends, serve_tells}
-use Rattle.service_core.proofs.Faulty.{still_none}
+use Rattle.service_core.proofs.Faulty.{still_none, still_room}
 use Rattle.service_core.proofs.Gained.{added_grew, adds_between, grew_base, book_stored, records_more, stored_between, blocks_between}
 use Rattle.service_core.proofs.Limits.{IfMade, Limits, limits_so}
 use Rattle.service_core.proofs.Splits.{stays_between}
@@ -146,7 +146,7 @@ module _ (grants : Grants) (disk end : DiskState) (core later : Core) (held rest
       record {
         fits = served.fits;
         granted = stay.grants ∙ up.granted;
-        faults = omega (arith, up.faults, served.gained.faults);
+        faults = still_room disk.faults end.faults notes served_notes up.faults served.gained.faults (omega arith) refl;
         settled = up.settled;
         room = omega (arith, up.room, stay.incarnation);
         few = omega (arith, up.few, more.1);

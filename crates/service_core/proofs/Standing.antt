@@ -17,6 +17,7 @@ use Rattle.service_core.specs.Held.{Held, held_at, Holds, id_of, shown, living_o
 use Rattle.service_core.specs.Within.{Within}
 use Rattle.service_core.specs.Seeing.{state_in, Stands, StandsIn, SeesIn, called}
 use Rattle.service_core.specs.Sound.{IsUp, IsDown, IsSound, IsSoundWithin}
+use Rattle.service_core.proofs.Faulty.{still_room}
 
 abbrev pub seen_with : Base → List Happened → ServiceState → Seen
 seen_with start history state = record { start = start; history = history; state = state }
@@ -59,7 +60,7 @@ fewer_up : (grants : Grants) (disk : DiskState) (core : Core) (held less : Held)
 fewer_up grants disk core held less notes fewer up = record {
   fits = up.fits;
   granted = up.granted;
-  faults = omega (arith, up.faults);
+  faults = still_room disk.faults disk.faults notes (called notes) up.faults refl (omega arith) refl;
   settled = up.settled;
   room = omega (arith, up.room);
   few = omega (arith, up.few);
@@ -75,7 +76,7 @@ none_down disk held after notes empty down = record {
   none = empty down.none;
   base = down.base;
   leaves = λ image leaves. let read = down.leaves image leaves in record { journal = read.journal; reads = read.reads; base_is = read.base_is; room = omega (arith, read.room) };
-  faults = omega (arith, down.faults);
+  faults = still_room disk.faults disk.faults notes (called notes) down.faults refl (omega arith) refl;
   crashes = omega (arith, down.crashes);
   reads_now = down.reads_now;
   settled = down.settled;
@@ -202,7 +203,7 @@ stop_sound grants disk None held notes stop down = let same = none_down disk hel
 stop_sound grants disk (Some core) held notes stop up = record {
   fits = stop_fits core disk stop up.fits;
   granted = up.granted;
-  faults = omega (arith, up.faults);
+  faults = still_room disk.faults disk.faults notes (called notes) up.faults refl (omega arith) refl;
   settled = up.settled;
   room = omega (arith, up.room);
   few = omega (arith, up.few);

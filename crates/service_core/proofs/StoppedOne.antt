@@ -57,7 +57,7 @@ module _ (grants : Grants) (disk end : DiskState) (core : Core) (held rest : Hel
   own = taken_held grants disk core held notes connection session made up taken.session_is
 
   pub one_down : IsDown end [] stopped_notes
-  one_down = stopped_down grants disk end core held notes now frame session own.reads own.noted up stopped reads_now stopped_notes (omega arith) refl refl (still_counted disk.faults end.faults notes.calls up.faults stopped.halted.faults)
+  one_down = stopped_down grants disk end core held notes now frame session own.reads own.noted up stopped reads_now stopped_notes (omega arith) refl refl (still_counted disk.faults end.faults notes stopped_notes up.faults stopped.halted.faults refl refl)
 
   pub one_base : HaveOneBase disk.now.seen end.now.seen
   one_base = stopped_base grants disk end core held notes now frame session own.reads own.noted up stopped reads_now
@@ -87,7 +87,7 @@ module _ (grants : Grants) (disk end : DiskState) (core : Core) (held rest : Hel
       is_quiet = stopped.halted.quiet;
       per_record = refl;
       crashes = (refl, refl, refl);
-      faults = never_falls disk.faults end.faults notes.calls up.faults few stopped.halted.faults;
+      faults = never_falls disk.faults end.faults notes up.faults few stopped.halted.faults;
       stop = λ none. still_none_by_less (4 * length stopped.records + 4) disk.stop end.stop stopped.halted.stop none;
       calls = refl;
       is_spent = live;
@@ -95,7 +95,7 @@ module _ (grants : Grants) (disk end : DiskState) (core : Core) (held rest : Hel
 
     cause : notes.calls < 2 ^ 48 → StopCause before behind (1 + sequences_in frame) Stopped
     cause few = record {
-      rose = λ same. rises disk.faults end.faults notes.calls up.faults few stopped.halted.faults;
+      rose = λ same. rises disk.faults end.faults notes up.faults few stopped.halted.faults;
       quiet = λ quiet changed. reached_from (4 * length stopped.records + 4) (4 * (1 + sequences_in frame)) disk.stop end.stop stopped.halted.stop (stopped.halted.reached quiet) (omega (arith, stopped.few));
       reached = λ left set changed answered. absurd (answered refl);
     }

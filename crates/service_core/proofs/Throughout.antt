@@ -1,7 +1,7 @@
 -- How frames that are served one after the other go on.
 use Rattle.std.proofs.Common.{◌≡◌, ◌∙◌, ◌+◌, ◌<◌, ℕ, refl, sym, ap, subst, List, [], ◌∷◌, ◌++◌, map, length, drop, get_or, append_assoc, append-nil}
 use Rattle.std.proofs.lemmas.List.{map-append, drop_more}
-use Rattle.std.specs.Prelude.{Option, Some, None, Result, Ok, Err}
+use Rattle.std.specs.Prelude.{Option, Some, None, Result, Ok, Err, IsErrOf}
 use Rattle.std.specs.List.{AllByRecursion}
 use Rattle.disk_model.specs.Disk.{DiskState}
 use Rattle.svc_values.specs.declared.answer.Answer.{Answer}
@@ -28,9 +28,10 @@ use Rattle.server_model.specs.Sessions.{New, Idle, Begun}
 use Rattle.server_model.proofs.Offered.{serve_stays}
 use Rattle.server_session.specs.declared.shared.Core.{Core}
 use Rattle.server_session.specs.SeenSession.{SeenSession as Session, sess_of}
-use Rattle.server_session.specs.Serving.{HasServed, HasStopped, served_as, told_of}
+use Rattle.server_session.specs.Serving.{HasServed, HasStopped, Serves, served_as, told_of}
 use Rattle.service_calls.specs.Answers.{run_of}
 use Rattle.service_core.specs.Through.{Item, item, Through, Still, Then, IsGoing, Begins, HasBegun, HasHaltedIn, HasRunAll, HasRunOne, RunsAll, RunsFrom, RunsOne, call_frame, happened_in, run_in}
+use Rattle.service_core.proofs.Answered.{went}
 use Rattle.service_core.proofs.Replied.{CallTold, Replies, begin_tells, call_tells, may_tell, connect_tells}
 use Rattle.service_core.proofs.Taken.{has_plain, stays_so}
 
@@ -85,6 +86,12 @@ has_begun now first second core between later disk at end old mid new going is s
       same = same' ∙ same;
       session = same_session (up.Begin []) now 1 second between later at end mid new going' served' ∙ same_session up.Connect now 1 first core between disk at old mid going served;
     }
+
+-- it could not begin: a frame that touches no store is not stopped
+pub begins_lacked : (error : ServeFault) (frame : Up) (now most : ℕ) (mid : Session) (between : Core) (at : DiskState) (old : Session) (core : Core) (disk : DiskState) (new : Session) (later : Core) (end : DiskState)
+    → Serves (served_as frame now) most (Err error) mid between at new later end → at ≡ disk → (IsErrOf {T = Option Down} {E = ServeFault} (Err error) fault.Stopped → ⊥) → Begins now (Err error) old core disk new later end
+begins_lacked fault.Stopped frame now most mid between at old core disk new later end stopped same never = never refl
+begins_lacked fault.NoMemory frame now most mid between at old core disk new later end lacked same never = lacked.faults ∙ ap (λ (d : DiskState). d.faults) same
 
 -- ---- its calls
 
@@ -175,6 +182,11 @@ pub so_far_halted : (now : ℕ) (id : SessionId) (calls rest : List Call) (calle
     → HasStopped (served_as (call_frame called) now) (1 + sequences_in (call_frame called)) session between at end → HasHaltedIn now old core disk end
 so_far_halted now id calls rest called runs old core disk session between at end so_far stopped = record { items = so_far.items; mid = session; between = between; at = at; through = so_far.through; frame = call_frame called; stopped = stopped }
 
+-- no call so far, nor one that was answered behind them, failed
+pub so_far_uncounted : (now : ℕ) (id : SessionId) (calls rest : List Call) (called : Call) (runs : List NoteRun) (run : Option NoteRun) (old : Session) (core : Core) (disk : DiskState) (session : Session) (between : Core) (at : DiskState) (new : Session) (later : Core) (end : DiskState)
+    → SoFar now id calls rest runs old core disk session between at → HasRunOne now called run session between at new later end → end.faults ≡ disk.faults
+so_far_uncounted now id calls rest called runs run old core disk session between at new later end so_far one = one.served.gained.faults ∙ (went now old core disk so_far.items session between at so_far.through).faults
+
 -- ---- in a loop over them
 
 -- the next one is in front of those that are left
@@ -186,7 +198,7 @@ at_call now id calls i called runs old core disk session between at within is so
 pub halts_all : (fault : ServeFault) (now : ℕ) (id : SessionId) (calls rest : List Call) (called : Call) (runs : List NoteRun) (old : Session) (core : Core) (disk : DiskState) (session : Session) (between : Core) (at : DiskState) (new : Session) (later : Core) (end : DiskState)
     → SoFar now id calls rest runs old core disk session between at → RunsOne now called (Err fault) session between at new later end → RunsAll now id calls (Err fault) old core disk new later end
 halts_all fault.Stopped now id calls rest called runs old core disk session between at new later end so_far stopped = so_far_halted now id calls rest called runs old core disk session between at end so_far stopped
-halts_all fault.NoMemory now id calls rest called runs old core disk session between at new later end so_far lacked = tt
+halts_all fault.NoMemory now id calls rest called runs old core disk session between at new later end so_far lacked = lacked ∙ (went now old core disk so_far.items session between at so_far.through).faults
 
 -- ---- a request, begun and run
 
@@ -194,8 +206,8 @@ pub runs_from : (now : ℕ) (calls : List Call) (result : Result (List NoteRun) 
     → HasBegun now old core disk mid between at → RunsAll now (session_of mid.ltxid) calls result mid between at new later end → RunsFrom now calls result old core disk new later end
 runs_from now calls (Ok runs) old core disk mid between at new later end begun ran = record { mid = mid; between = between; at = at; begun = begun; ran = ran }
 runs_from now calls (Err fault.Stopped) old core disk mid between at new later end begun halted = record { mid = mid; between = between; at = at; begun = begun; halted = halted }
-runs_from now calls (Err fault.NoMemory) old core disk mid between at new later end begun lacked = tt
+runs_from now calls (Err fault.NoMemory) old core disk mid between at new later end begun lacked = lacked ∙ ap (λ (d : DiskState). d.faults) begun.same
 
 pub begins_not : (fault : ServeFault) (now : ℕ) (calls : List Call) (old : Session) (core : Core) (disk : DiskState) (new : Session) (later : Core) (end : DiskState) → Begins now (Err fault) old core disk new later end → RunsFrom now calls (Err fault) old core disk new later end
 begins_not fault.Stopped now calls old core disk new later end never = absurd never
-begins_not fault.NoMemory now calls old core disk new later end lacked = tt
+begins_not fault.NoMemory now calls old core disk new later end lacked = lacked

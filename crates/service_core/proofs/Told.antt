@@ -1,6 +1,6 @@
 -- An outcome that was asked for from outside.
 use Rattle.std.proofs.Common.{◌≡◌, ◌∙◌, ◌+◌, ◌*◌, ◌<◌, ◌^◌, ℕ, false, refl, sym, ap, subst, List, [], ◌∷◌, ◌++◌, length, arith}
-use Rattle.std.specs.Prelude.{◌≢◌, Some, None, Result, IfOk}
+use Rattle.std.specs.Prelude.{Some, None, Result, IfOk}
 use Rattle.disk_model.specs.Moment.{MayLeave}
 use Rattle.disk_model.specs.Disk.{DiskState}
 use Rattle.svc_values.specs.declared.entry.Ltxid.{Ltxid}
@@ -13,12 +13,12 @@ use Rattle.mutable_values.specs.declared.grants.Grants.{Grants}
 use Rattle.mutable_values.specs.Sources.{Opening}
 use Rattle.commit_log.specs.declared.journal.Journal.{Journal}
 use Rattle.commit_log.specs.declared.records.Record.TheVariants as kept
-use Rattle.commit_log.specs.meaning.Journals.{journal_of}
+use Rattle.commit_log.specs.Growth.{IsGrown}
 use Rattle.server_model.specs.meaning.Base.{Base}
 use Rattle.server_model.specs.Core.{Core as Plain}
 use Rattle.server_model.specs.meaning.Outcomes.{Says, Stopped}
-use Rattle.server_model.specs.Outcomes.{IsTold, Outcomes, BlockStops, down_of, if_blocks}
-use Rattle.server_model.specs.Runs.{Happened, Asked, On, Halted, Then, AnswersAsk, HaltsInAsk, is_running}
+use Rattle.server_model.specs.Outcomes.{IsTold, Outcomes, down_of, if_blocks}
+use Rattle.server_model.specs.Runs.{Happened, Asked, Then, AnswersAsk}
 use Rattle.server_model.specs.Seen.{Seen}
 use Rattle.server_model.specs.ServiceCalls.{AddsBlock, AskedOne, IsAnswer, StoppedAsk}
 use Rattle.server_session.specs.declared.shared.Core.{Core}
@@ -26,18 +26,18 @@ use Rattle.server_session.specs.Fits.{Belongs}
 use Rattle.server_session.specs.Plain.{IsStored, IsPlain}
 use Rattle.server_session.specs.SeenSession.{begins}
 use Rattle.server_session.specs.Storing.{HasStoppedTelling, HasTold}
-use Rattle.server_session.proofs.Offered.{telling_leaves}
+use Rattle.server_session.proofs.Offered.{left_grown}
 use Rattle.service_calls.specs.Kept.{HaveOneBase}
 use Rattle.service_core.specs.declared.notes.Notes.{Notes}
 use Rattle.service_core.specs.Held.{Held}
 use Rattle.service_core.specs.Seeing.{Came, Leaves, StandsDown, StandsUp, called, store_of, state_of}
 use Rattle.service_core.specs.Sound.{IsDown, IsUp, unmade}
-use Rattle.service_core.proofs.Blocking.{MayBlock, adds_block, block_stays, same_in, told_blocks}
-use Rattle.service_core.proofs.Faulty.{never_falls, none_before, rises, still_counted, still_none, still_none_by_less}
-use Rattle.service_core.proofs.Gained.{Grew, added_grew, asked_between, book_stored, grew_base}
+use Rattle.service_core.proofs.Blocking.{adds_block, block_stays, same_in, told_blocks}
+use Rattle.service_core.proofs.Faulty.{never_falls, none_before, rises, still_counted, still_none, still_none_by_less, still_room}
+use Rattle.service_core.proofs.Gained.{added_grew, asked_between, book_stored, grew_base}
 use Rattle.service_core.proofs.Standing.{later_call, seen_with}
-use Rattle.service_core.proofs.Stopping.{HasSome, has_some}
 use Rattle.service_core.proofs.Taken.{has_plain}
+use Rattle.service_core.proofs.AskFronts.{ask_adds, ask_base, ask_came, ask_reads}
 
 module _ (grants : Grants) (disk end : DiskState) (core : Core) (held : Held) (notes : Notes) (x : Ltxid) (up : IsUp grants disk core held notes) where
   stored_before : (plain : Plain) → IsPlain plain core disk → IsStored plain up.fits.journal
@@ -62,7 +62,7 @@ module _ (grants : Grants) (disk end : DiskState) (core : Core) (held : Held) (n
     asked_up = record {
       fits = asked.fits;
       granted = same_grants ∙ up.granted;
-      faults = omega (arith, up.faults, asked.gained.faults);
+      faults = still_room disk.faults end.faults notes (called notes) up.faults asked.gained.faults (omega arith) refl;
       settled = up.settled;
       room = omega (arith, up.room, same_incarnation);
       few = omega (arith, up.few);
@@ -138,62 +138,26 @@ module _ (grants : Grants) (disk end : DiskState) (core : Core) (held : Held) (n
     abbrev pub halted_notes : Notes
     halted_notes = record notes { is_settled = false; calls = notes.calls + 1 }
 
-    some_in : (image : List ℕ) → MayLeave end.now image → HasSome disk.now.seen 1 image
-    some_in image left = has_some disk.now.seen [] (kept.Blocked x) 1 image (omega arith) (stopped.halted.left image left)
-
-    grew_in : (image : List ℕ) (left : MayLeave end.now image) → Grew disk.now.seen (some_in image left).added up.fits.journal image
-    grew_in image left = added_grew disk.now.seen (some_in image left).added up.fits.journal image up.fits.reads (some_in image left).has
-
-    -- the plain server was stopped with it
-    record Halting (plain : Plain) (image : List ℕ) : Type 0 where
-      pub after : Plain
-      pub may : MayBlock x plain after
-      pub outcomes : Outcomes plain x after Stopped
-      pub stored : IfOk (journal_of image) (IsStored after)
-
-    blocks : (plain after : Plain) → Outcomes plain x after Stopped → MayBlock x plain after
-    blocks plain _ (BlockStops stored judged may) = may
-
-    halting : (plain : Plain) (image : List ℕ) → IsPlain plain core disk → MayLeave end.now image → Halting plain image
-    halting plain image is left = let steps = telling_leaves x core disk end stopped plain is image left in record { after = steps.0; may = blocks plain steps.0 steps.1.1; outcomes = steps.1.1; stored = steps.1.0 }
-
-    stored_in : (image : List ℕ) (left : MayLeave end.now image) (plain : Plain) (one : Halting plain image) → IsStored one.after (grew_in image left).later
-    stored_in image left plain one = subst (λ (r : Result Journal ℕ). IfOk r (IsStored one.after)) (grew_in image left).reads one.stored
-
-    still_incarnation : (image : List ℕ) (left : MayLeave end.now image) → (grew_in image left).later.incarnation ≡ core.source.incarnation
-    still_incarnation image left =
-        let beside = has_plain core disk up.fits in
-        let one = halting beside.plain image beside.stands left in
-        sym (stored_in image left beside.plain one).source.incarnation ∙ (block_stays x beside.plain one.after one.may).incarnation ∙ ap (λ (o : Opening). o.incarnation) beside.stands.opening
+    grown : (image : List ℕ) → MayLeave end.now image → IsGrown disk.now.seen (kept.Blocked x ∷ []) image
+    grown image left = left_grown disk.now.seen [] (kept.Blocked x) image (stopped.halted.left image left)
 
     pub halted_down : IsDown end [] halted_notes
     halted_down = record {
       none = refl;
       base = up.fits.journal.base;
-      leaves = λ image left. let grew = grew_in image left in record { journal = grew.later; reads = grew.reads; base_is = grew.base_is; room = omega (arith, still_incarnation image left, up.room) };
-      faults = still_counted disk.faults end.faults notes.calls up.faults stopped.halted.faults;
+      leaves = λ image left. ask_reads grants disk core held notes x up (kept.Blocked x ∷ []) (omega arith) stopped.steps halted_notes (omega arith) image (grown image left);
+      faults = still_counted disk.faults end.faults notes halted_notes up.faults stopped.halted.faults refl refl;
       crashes = omega (arith, up.crashes);
       reads_now = reads_now;
       settled = λ settled. absurd (let no : ⊥ = cc in no);
     }
 
     pub halted_base : HaveOneBase disk.now.seen end.now.seen
-    halted_base = grew_base disk.now.seen (some_in end.now.seen reads_now).added up.fits.journal end.now.seen up.fits.reads (grew_in end.now.seen reads_now)
+    halted_base = ask_base grants disk core held notes x up (kept.Blocked x ∷ []) (omega arith) stopped.steps end.now.seen (grown end.now.seen reads_now)
 
     module _ (start : Base) (history : List Happened) (came : Came start history (StandsUp disk core held notes.sessions)) where
-      not_on : Halted ≢ On
-      not_on is = let no : ⊥ = cc in no
-
       pub halted_came : (image : List ℕ) → MayLeave end.now image → Came start (history ++ Asked x Stopped ∷ []) (StandsDown grants false image)
-      halted_came image left =
-          let one = halting came.server.core image came.stands.plain left in
-          let stays = block_stays x came.server.core one.after one.may in
-          record {
-            server = record came.server { power = Halted; core = one.after };
-            runs = Then history (Asked x Stopped ∷ []) came.server (record came.server { power = Halted; core = one.after }) came.runs (HaltsInAsk x one.after Stopped (ap is_running came.stands.power) one.outcomes);
-            is_base = stays.base ∙ came.is_base;
-            stands = record { power = not_on; stored = one.stored; grants_are = ap (λ (b : Base). b.grants) stays.base ∙ came.stands.plain.grants ∙ up.granted };
-          }
+      halted_came image left = ask_came grants disk core held notes x up (kept.Blocked x ∷ []) (omega arith) stopped.steps start history came image (grown image left)
 
       abbrev halted_before : Seen
       halted_before = seen_with start history (state_of disk (Some core) held notes)
@@ -202,10 +166,7 @@ module _ (grants : Grants) (disk end : DiskState) (core : Core) (held : Held) (n
       halted_behind = seen_with start (history ++ Asked x Stopped ∷ []) (state_of end None [] halted_notes)
 
       adds_at : (image : List ℕ) → MayLeave end.now image → AddsBlock x (store_of disk.now.seen) (store_of image)
-      adds_at image left =
-          let one = halting came.server.core image came.stands.plain left in
-          adds_block x came.server.core one.after one.may disk.now.seen image (some_in image left).added up.fits.journal (grew_in image left).later up.fits.reads (grew_in image left).reads
-          (stored_before came.server.core came.stands.plain) (stored_in image left came.server.core one) (some_in image left).has (some_in image left).few
+      adds_at image left = ask_adds grants disk core held notes x up (kept.Blocked x ∷ []) (omega arith) stopped.steps start history came image (grown image left)
 
       pub halted_does : notes.is_spent ≡ false → notes.calls < 2 ^ 48 → StoppedAsk halted_before x (Leaves end) halted_behind
       halted_does live few = record {
@@ -215,7 +176,7 @@ module _ (grants : Grants) (disk end : DiskState) (core : Core) (held : Held) (n
           is_quiet = stopped.halted.quiet;
           per_record = refl;
           crashes = (refl, refl, refl);
-          faults = never_falls disk.faults end.faults notes.calls up.faults few stopped.halted.faults;
+          faults = never_falls disk.faults end.faults notes up.faults few stopped.halted.faults;
           stop = λ none. still_none_by_less 4 disk.stop end.stop stopped.halted.stop none;
           calls = refl;
           is_spent = live;
@@ -224,5 +185,5 @@ module _ (grants : Grants) (disk end : DiskState) (core : Core) (held : Held) (n
         others = ((λ connection. refl), refl, refl);
         adds = adds_at end.now.seen reads_now;
         left = λ store leaves. subst (AddsBlock x (store_of disk.now.seen)) (sym leaves.store_is) (adds_at leaves.image leaves.left);
-        cause = record { rose = λ is. rises disk.faults end.faults notes.calls up.faults few stopped.halted.faults; quiet = λ quiet changed. none_before 4 disk.stop end.stop stopped.halted.stop (stopped.halted.reached quiet) };
+        cause = record { rose = λ is. rises disk.faults end.faults notes up.faults few stopped.halted.faults; quiet = λ quiet changed. none_before 4 disk.stop end.stop stopped.halted.stop (stopped.halted.reached quiet) };
       }

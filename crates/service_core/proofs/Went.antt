@@ -1,6 +1,6 @@
 -- Calls that are run from outside: the session that is made for them, and what stands beside it throughout.
-use Rattle.std.proofs.Common.{◌≡◌, ◌∙◌, ◌+◌, ◌*◌, ℕ, refl, sym, ap, List, [], length, arith}
-use Rattle.std.specs.Prelude.{Some, None, Ok}
+use Rattle.std.proofs.Common.{◌≡◌, ◌∙◌, ◌+◌, ℕ, refl, sym, ap, List, [], arith}
+use Rattle.std.specs.Prelude.{Some, Ok}
 use Rattle.disk_model.specs.Disk.{DiskState}
 use Rattle.svc_values.specs.declared.entry.SessionId.{SessionId}
 use Rattle.mutable_values.specs.declared.grants.Grants.{Grants}
@@ -18,31 +18,10 @@ use Rattle.service_core.specs.Seeing.{state_of}
 use Rattle.service_core.specs.Sound.{IsUp, unmade}
 use Rattle.service_core.specs.Through.{Item, Through, Still, Then}
 use Rattle.service_core.proofs.Beside.{IsBeside}
-use Rattle.service_core.proofs.Faulty.{still_none}
+use Rattle.service_core.proofs.Faulty.{still_room}
 use Rattle.service_core.proofs.Gained.{Grew, added_grew}
 use Rattle.service_core.proofs.Standing.{later_call, seen_with}
 use Rattle.service_core.proofs.Taken.{incarnation_is}
-
--- ---- the disk
-
--- Frames that are answered change no count of faults, and set no stop.
-pub record Went (disk end : DiskState) : Type 0 where
-  pub quiet : end.quiet ≡ disk.quiet
-  pub faults : end.faults ≡ disk.faults
-  pub stop : disk.stop ≡ None → end.stop ≡ None
-
-pub went : (now : ℕ) (session : Session) (core : Core) (disk : DiskState) (items : List Item) (new : Session) (later : Core) (end : DiskState) → Through now session core disk items new later end → Went disk end
-went now session core disk _ _ _ _ Still = record { quiet = refl; faults = refl; stop = λ none. none }
-went now session core disk _ _ _ _ (Then items mid between at frame told new later end through served answered) =
-    let first = went now session core disk items mid between at through in
-    record {
-      quiet = served.gained.quiet ∙ first.quiet;
-      faults = served.gained.faults ∙ first.faults;
-      stop = λ none. still_none (4 * length served.records) at.stop end.stop served.gained.stop (first.stop none);
-    }
-
-pub went_on : (disk at end : DiskState) → Went disk at → Went at end → Went disk end
-went_on disk at end first second = record { quiet = second.quiet ∙ first.quiet; faults = second.faults ∙ first.faults; stop = λ none. second.stop (first.stop none) }
 
 -- ---- the base
 
@@ -76,7 +55,7 @@ made_beside grants disk core held notes up = record {
   up = record {
     fits = up.fits;
     granted = up.granted;
-    faults = omega (arith, up.faults);
+    faults = still_room disk.faults disk.faults notes (made_notes notes) up.faults refl (omega arith) refl;
     settled = up.settled;
     room = omega (arith, up.room);
     few = omega (arith, up.few);

@@ -1,10 +1,13 @@
 pub mod Held
+pub mod Indexed
 pub mod InnerHonest
 pub mod InnerOpening
 pub mod Opening
 pub mod Seeing
+pub mod Shipping
 pub mod Sound
 pub mod Starting
 pub mod Taking
 pub mod Through
+pub mod Unanswered
 pub mod Within

@@ -17,9 +17,13 @@ use Rattle.service_core.specs.declared.notes.Notes.{Notes}
 use Rattle.service_core.specs.Held.{Held, held_at}
 use Rattle.service_core.specs.Within.{Within}
 
--- Each opening is a call, and a call has one fault at most: so of either a count of at most 2^62 leaves room for all that may come.
+-- Each opening is a call: so a count of at most 2^62 leaves room for all that may come.
 abbrev pub HasRoom : ℕ → Notes → Type 0
 HasRoom count notes = count ≤ 2 ^ 62 + notes.calls
+
+-- A call has one fault at most, and so has the reading for a second store, which comes once behind a call.
+abbrev pub HasFaultRoom : ℕ → Notes → Type 0
+HasFaultRoom count notes = (count ≤ 2 ^ 62 + (notes.calls + notes.reads)) × (notes.reads ≤ notes.calls)
 
 -- a session of a living connection, and what it has read
 pub record IsHeld (core : Core) (made : ℕ) (session : Session) : Type 0 where
@@ -36,7 +40,7 @@ unmade core session = begins (ltxid_of (record { incarnation = core.source.incar
 pub record IsUp (grants : Grants) (disk : DiskState) (core : Core) (held : Held) (notes : Notes) : Type 0 where
   pub fits : Fits core disk
   pub granted : core.grants ≡ grants
-  pub faults : HasRoom disk.faults notes
+  pub faults : HasFaultRoom disk.faults notes
   pub settled : notes.is_settled ≡ true
   pub room : HasRoom core.source.incarnation notes
   pub few : notes.sessions ≤ notes.calls
@@ -60,7 +64,7 @@ pub record IsDown (disk : DiskState) (held : Held) (notes : Notes) : Type 0 wher
   pub none : held ≡ []
   pub base : Base
   pub leaves : (image : List ℕ) → MayLeave disk.now image → Reads base notes image
-  pub faults : HasRoom disk.faults notes
+  pub faults : HasFaultRoom disk.faults notes
   pub crashes : notes.crashes ≤ notes.calls
   pub reads_now : MayLeave disk.now disk.now.seen
   pub settled : notes.is_settled ≡ true → IsSettled disk

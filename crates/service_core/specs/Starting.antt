@@ -23,7 +23,7 @@ pub record CanBegin (disk : DiskState) : Type 0 where
 
 -- nothing was called
 abbrev pub first_notes : Notes
-first_notes = record { is_settled = true; is_opened = false; sessions = 0; kept = None; crashes = 0; last_pick = None; last_stop = None; calls = 0; is_spent = false }
+first_notes = record { is_settled = true; is_opened = false; sessions = 0; kept = None; crashes = 0; last_pick = None; last_stop = None; calls = 0; reads = 0; is_spent = false }
 
 -- a service that is down on this disk
 abbrev pub made_on : DiskState → Grants → Within

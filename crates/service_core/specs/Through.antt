@@ -1,4 +1,5 @@
--- Frames that a session serves one after the other, apart from the connections.
+-- Frames that a session serves one after the other, apart from the connections. Where there was no memory, the disk has not
+-- failed since the first of them.
 use Rattle.std.specs.Prelude.{◌≡◌, ◌+◌, ℕ, false, IsTrue, List, [], ◌∷◌, ◌++◌, map, Option, Some, None, Result, Ok, Err}
 use Rattle.disk_model.specs.Disk.{DiskState}
 use Rattle.svc_values.specs.declared.call.Call.{Call}
@@ -76,7 +77,7 @@ pub record HasBegun (now : ℕ) (old : Session) (core : Core) (disk : DiskState)
 abbrev pub Begins : ℕ → Result (Unit {0}) ServeFault → Session → Core → DiskState → Session → Core → DiskState → Type 0
 Begins now (Ok done) old core disk new later end = HasBegun now old core disk new later end
 Begins now (Err fault.Stopped) old core disk new later end = ⊥
-Begins now (Err fault.NoMemory) old core disk new later end = Unit {0}
+Begins now (Err fault.NoMemory) old core disk new later end = end.faults ≡ disk.faults
 
 -- ---- its calls
 
@@ -96,7 +97,7 @@ pub record HasRunOne (now : ℕ) (called : Call) (run : Option NoteRun) (old : S
 abbrev pub RunsOne : ℕ → Call → Result (Option NoteRun) ServeFault → Session → Core → DiskState → Session → Core → DiskState → Type 0
 RunsOne now called (Ok run) old core disk new later end = HasRunOne now called run old core disk new later end
 RunsOne now called (Err fault.Stopped) old core disk new later end = HasStopped (served_as (call_frame called) now) (1 + sequences_in (call_frame called)) old core disk end
-RunsOne now called (Err fault.NoMemory) old core disk new later end = Unit {0}
+RunsOne now called (Err fault.NoMemory) old core disk new later end = end.faults ≡ disk.faults
 
 -- all of them, up to the first that was answered Blocked
 pub record HasRunAll (now : ℕ) (session : SessionId) (calls : List Call) (runs : List NoteRun) (old : Session) (core : Core) (disk : DiskState) (new : Session) (later : Core) (end : DiskState) : Type 0 where
@@ -107,7 +108,7 @@ pub record HasRunAll (now : ℕ) (session : SessionId) (calls : List Call) (runs
 abbrev pub RunsAll : ℕ → SessionId → List Call → Result (List NoteRun) ServeFault → Session → Core → DiskState → Session → Core → DiskState → Type 0
 RunsAll now session calls (Ok runs) old core disk new later end = HasRunAll now session calls runs old core disk new later end
 RunsAll now session calls (Err fault.Stopped) old core disk new later end = HasHaltedIn now old core disk end
-RunsAll now session calls (Err fault.NoMemory) old core disk new later end = Unit {0}
+RunsAll now session calls (Err fault.NoMemory) old core disk new later end = end.faults ≡ disk.faults
 
 -- a request was begun, and its calls were run
 pub record HasRunFrom (now : ℕ) (calls : List Call) (runs : List NoteRun) (old : Session) (core : Core) (disk : DiskState) (new : Session) (later : Core) (end : DiskState) : Type 0 where
@@ -128,4 +129,4 @@ pub record HasHaltedFrom (now : ℕ) (old : Session) (core : Core) (disk end : D
 abbrev pub RunsFrom : ℕ → List Call → Result (List NoteRun) ServeFault → Session → Core → DiskState → Session → Core → DiskState → Type 0
 RunsFrom now calls (Ok runs) old core disk new later end = HasRunFrom now calls runs old core disk new later end
 RunsFrom now calls (Err fault.Stopped) old core disk new later end = HasHaltedFrom now old core disk end
-RunsFrom now calls (Err fault.NoMemory) old core disk new later end = Unit {0}
+RunsFrom now calls (Err fault.NoMemory) old core disk new later end = end.faults ≡ disk.faults

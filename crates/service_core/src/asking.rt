@@ -1,11 +1,13 @@
 //! Outcomes that are asked for from outside.
-ghost use Rattle.std.specs.Prelude.{◌≡◌, ◌<◌, ◌^◌, IsErrOf, false, true};
+ghost use Rattle.std.specs.Prelude.{◌≡◌, ◌<◌, ◌^◌, IfOk, IsErrOf, false, true};
 ghost use Rattle.svc_values.specs.Identifiers.{IsLtxid};
 ghost use Rattle.server_model.specs.Outcomes.{down_of};
 ghost use Rattle.server_model.specs.ServiceCalls.{AskedOne, IsAnswer, StoppedAsk};
 ghost use Rattle.service_calls.specs.Answers.{Ends, NotMemory};
 ghost use Rattle.service_calls.specs.Kept.{Goes, HaveOneBase};
 ghost use Rattle.service_core.specs.Seeing.{LeavesIn, SeesIn, bytes_in, state_in};
+ghost use Rattle.service_core.specs.Shipping.{Broke, GrewBy};
+ghost use Rattle.service_core.specs.Unanswered.{HaltedAsk, IsHaltedAs, MayHalt, StandsBetween};
 
 use crate::one::OneService;
 use disk_model::{Disk, StopDisk};
@@ -35,6 +37,9 @@ impl<D: StopDisk> OneService<D> {
         requires identifier { IsLtxid x.now }
         ensures asked { Ends result (λ told. Goes (SeesIn self.old) (SeesIn self.new) (λ old new. AskedOne old x.now told new)) (Goes (SeesIn self.old) (SeesIn self.new) (λ old new. StoppedAsk old x.now (LeavesIn self.new) new)) }
         ensures base { NotMemory result (HaveOneBase (bytes_in self.old) (bytes_in self.new)) }
+        ensures grew { IfOk result (λ _. GrewBy self.old self.new) }
+        ensures broke { IsErrOf result ServeFault.Stopped → Broke self.old self.new }
+        ensures halted { MayHalt result self.old self.new → Goes (SeesIn self.old) (IsHaltedAs self.old self.new) (λ old new. HaltedAsk old x.now (StandsBetween self.old self.new) new) }
         ensures uncounted { IsErrOf result ServeFault.NoMemory → self.new.disk.faults ≡ self.old.disk.faults }
     {
         self.notes.calls += 1;

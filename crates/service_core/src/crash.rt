@@ -3,6 +3,7 @@ ghost use Rattle.std.specs.Prelude.{◌≡◌, ◌<◌, ◌^◌, false};
 ghost use Rattle.server_model.specs.ServiceCalls.{Crashed, MayCrash};
 ghost use Rattle.service_calls.specs.Kept.{Goes, HaveOneBase};
 ghost use Rattle.service_core.specs.Seeing.{LeavesIn, SeesIn, bytes_in, state_in};
+ghost use Rattle.service_core.specs.Shipping.{Fell};
 
 use crate::one::OneService;
 use disk_model::StopDisk;
@@ -17,6 +18,7 @@ impl<D: StopDisk> OneService<D> {
         ensures left { LeavesIn self.old (state_in self.new).store }
         ensures crashed { Goes (SeesIn self.old) (SeesIn self.new) (λ old new. Crashed old pick new) }
         ensures base { HaveOneBase (bytes_in self.old) (bytes_in self.new) }
+        ensures fell { Fell self.old self.new }
     {
         self.disk.crash(pick % 4);
         self.core = None;

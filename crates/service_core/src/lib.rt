@@ -12,6 +12,7 @@ mod opening;
 mod outside;
 mod service;
 mod serving;
+mod shipping;
 mod up;
 
 pub use one::OneService;

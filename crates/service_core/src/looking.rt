@@ -6,6 +6,7 @@ ghost use Rattle.server_model.specs.ServiceCalls.{Looked, StoppedLook};
 ghost use Rattle.service_calls.specs.Answers.{Ends, NotMemory};
 ghost use Rattle.service_calls.specs.Kept.{Goes};
 ghost use Rattle.service_core.specs.Seeing.{SeesIn, bytes_in};
+ghost use Rattle.service_core.specs.Shipping.{Looks};
 
 use crate::one::OneService;
 use commit_log::{Journal, Log, LogFault};
@@ -14,12 +15,13 @@ use server_model::ServeFault;
 use std::alloc::Global;
 
 impl<D: StopDisk + Drop> OneService<D> {
-    /// What the store holds. What the service has in memory goes first, so that the store is read
-    /// into the room of the tables.
-    pub(crate) fn read_at_end(self, alloc: Global) -> Result<Journal, ServeFault>
+    /// What the store holds, and the disk. What the service has in memory goes first, so that the
+    /// store is read into the room of the tables.
+    pub(crate) fn read_at_end(self, alloc: Global) -> (Result<Journal, ServeFault>, D)
         requires live { self.notes.is_spent ≡ false }
-        ensures told { IfOk result (λ journal. journal_of (bytes_in self) ≡ Ok journal) }
-        ensures cause { IsErrOf result ServeFault.Stopped → self.disk.quiet ≡ true → self.disk.stop ≢ None }
+        ensures told { IfOk result.0 (λ journal. journal_of (bytes_in self) ≡ Ok journal) }
+        ensures cause { IsErrOf result.0 ServeFault.Stopped → self.disk.quiet ≡ true → self.disk.stop ≢ None }
+        ensures uncounted { IsErrOf result.0 ServeFault.NoMemory → (D.state result.1).faults ≡ self.disk.faults }
     {
         let OneService {
             mut disk,
@@ -30,9 +32,9 @@ impl<D: StopDisk + Drop> OneService<D> {
         drop(core);
         drop(held);
         match Log::read(alloc, &mut disk) {
-            Ok(journal) => Ok(journal),
-            Err(LogFault::Stopped) => Err(ServeFault::Stopped),
-            Err(LogFault::NoMemory) => Err(ServeFault::NoMemory),
+            Ok(journal) => (Ok(journal), disk),
+            Err(LogFault::Stopped) => (Err(ServeFault::Stopped), disk),
+            Err(LogFault::NoMemory) => (Err(ServeFault::NoMemory), disk),
             Err(LogFault::Damaged(_)) => unreachable!(),
         }
     }
@@ -45,6 +47,7 @@ impl<D: StopDisk> OneService<D> {
         requires few { self.old.notes.calls < 2 ^ 48 }
         ensures told { IfOk result (λ journal. journal_of (bytes_in self.new) ≡ Ok journal) }
         ensures unwritten { NotMemory result (bytes_in self.new ≡ bytes_in self.old) }
+        ensures looks { NotMemory result (Looks (IsErrOf result ServeFault.Stopped) self.old self.new) }
         ensures looked { Ends result (λ journal. Goes (SeesIn self.old) (SeesIn self.new) Looked) (Goes (SeesIn self.old) (SeesIn self.new) StoppedLook) }
         ensures uncounted { IsErrOf result ServeFault.NoMemory → self.new.disk.faults ≡ self.old.disk.faults }
     {
@@ -71,6 +74,7 @@ impl<D: StopDisk> OneService<D> {
         requires few { self.old.notes.calls < 2 ^ 48 }
         ensures told { IfOk result (λ image. image.items ≡ bytes_in self.new) }
         ensures unwritten { NotMemory result (bytes_in self.new ≡ bytes_in self.old) }
+        ensures looks { NotMemory result (Looks (IsErrOf result ServeFault.Stopped) self.old self.new) }
         ensures looked { Ends result (λ image. Goes (SeesIn self.old) (SeesIn self.new) Looked) (Goes (SeesIn self.old) (SeesIn self.new) StoppedLook) }
         ensures uncounted { IsErrOf result ServeFault.NoMemory → self.new.disk.faults ≡ self.old.disk.faults }
     {

@@ -16,6 +16,8 @@ pub struct Notes {
     pub last_pick: Option<u8>,
     pub last_stop: Option<u64>,
     pub calls: u64,
+    /// How often its records were read for a second store: at most once behind each call.
+    pub reads: u64,
     /// A call found no memory.
     pub is_spent: bool,
 }

@@ -1,8 +1,10 @@
 //! One service on one store.
-ghost use Rattle.std.specs.Prelude.{◌≡◌, ◌<◌, ◌^◌, None, IfOk, is_some, false, true};
+ghost use Rattle.std.specs.Prelude.{◌≡◌, ◌<◌, ◌^◌, None, IfOk, OnErr, is_some, false, true};
 ghost use Rattle.server_model.specs.ServiceCalls.{Connected, Reaped, with_stop};
 ghost use Rattle.service_calls.specs.Kept.{Goes, HaveOneBase};
+ghost use Rattle.service_core.specs.Indexed.{FitBase};
 ghost use Rattle.service_core.specs.Seeing.{SeesIn, bytes_in, state_in};
+ghost use Rattle.service_core.specs.Shipping.{SetsStop, Stays};
 
 use crate::connections::Connections;
 use crate::notes::Notes;
@@ -12,6 +14,7 @@ use server_session::Core;
 use std::alloc::Global;
 use std::marker::Model;
 use svc_values::NoMemory;
+use table_store::IndexOf;
 
 /// One service on one store: its disk, what its sessions share while it is up, and its connections.
 #[derive(Drop)]
@@ -21,8 +24,11 @@ pub struct OneService<D: StopDisk> {
     pub(crate) core: Option<Core>,
     pub(crate) held: Connections,
     pub(crate) notes: Notes,
+    /// The columns by which the tables of each opening are indexed.
+    pub(crate) indexes: Vec<IndexOf>,
     // One that found no memory serves no more.
     ghost spent: { notes.is_spent ≡ true → is_some core ≡ false },
+    ghost fitting: { notes.is_spent ≡ false → FitBase indexes.items (D.state disk).now.seen },
 }
 
 impl<D: StopDisk> Model for OneService<D> {
@@ -61,6 +67,8 @@ impl<D: StopDisk> OneService<D> {
         requires new { (state_in self.old).living connection ≡ None }
         ensures connected { IfOk result (λ up. Goes (SeesIn self.old) (SeesIn self.new) (λ old new. Connected old connection up new)) }
         ensures base { IfOk result (λ up. HaveOneBase (bytes_in self.old) (bytes_in self.new)) }
+        ensures stays { IfOk result (λ up. Stays self.old self.new) }
+        ensures uncounted { OnErr result (self.new.disk ≡ self.old.disk) }
     {
         self.notes.calls += 1;
         if self.core.is_none() {
@@ -82,6 +90,7 @@ impl<D: StopDisk> OneService<D> {
         requires few { self.old.notes.calls < 2 ^ 48 }
         ensures reaped { Goes (SeesIn self.old) (SeesIn self.new) (λ old new. Reaped old connection new) }
         ensures base { HaveOneBase (bytes_in self.old) (bytes_in self.new) }
+        ensures stays { Stays self.old self.new }
     {
         self.held.end(connection);
         self.notes.calls += 1;
@@ -93,6 +102,7 @@ impl<D: StopDisk> OneService<D> {
         requires few { self.old.notes.calls < 2 ^ 48 }
         ensures stop { Goes (SeesIn self.old) (SeesIn self.new) (λ old new. new ≡ with_stop old calls) }
         ensures base { HaveOneBase (bytes_in self.old) (bytes_in self.new) }
+        ensures sets { SetsStop calls self.old self.new }
     {
         self.disk.stop_after(calls);
         self.notes.calls += 1;

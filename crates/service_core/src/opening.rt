@@ -3,12 +3,13 @@ ghost use Rattle.std.specs.Prelude.{◌≡◌, ◌≤◌, All, IfOk, OnOk, IsErr
 ghost use Rattle.std.specs.List.{flat_map, list_all};
 ghost use Rattle.disk_model.specs.Disk.{Meanwhile, IsSettled, LoweredByLess, Caused};
 ghost use Rattle.svc_values.specs.meaning.Fitting.{writes_fit};
-ghost use Rattle.table_store.specs.Given.{plain};
+ghost use Rattle.table_store.specs.Given.{is_index_of, plain};
 ghost use Rattle.commit_log.specs.meaning.Bases.{is_sequence, rows_of, schema_in, schemas_of, start_of as start_def};
 ghost use Rattle.commit_log.specs.Bases.{IsBase};
 ghost use Rattle.commit_log.specs.meaning.Journals.{so_far_of};
 ghost use Rattle.commit_log.specs.Growth.{IsGrown, opening_of};
 ghost use Rattle.server_model.specs.Core.{tables_with};
+ghost use Rattle.service_core.specs.Indexed.{FitBase};
 ghost use Rattle.service_core.specs.Opening.{CanOpen, HasOpened, source_of as source_def, stop_of};
 ghost use Rattle.service_core.specs.InnerOpening.{CanGoOn, IsCoreOf, ends_low, entry_fits, state_of};
 
@@ -21,7 +22,7 @@ use server_model::ServeFault;
 use server_session::Core;
 use std::alloc::Global;
 use svc_values::{Entry, NoMemory, Schema, Schemas, TryCopy};
-use table_store::{TableRows, Tables};
+use table_store::{IndexOf, TableRows, Tables};
 
 /// Opens the store of a disk for the next incarnation, with the outcomes of all incarnations below
 /// `horizon` forgotten: what its sessions share.
@@ -33,9 +34,11 @@ pub(crate) fn open<D: Disk>(
     disk: &mut D,
     horizon: u64,
     grants: Grants,
+    indexes: &[IndexOf],
 ) -> Result<Core, ServeFault>
     requires settled { IsSettled (D.state disk.old) }
     requires journal { CanOpen horizon (D.state disk.old).now.seen }
+    requires indexes { FitBase indexes.now (D.state disk.old).now.seen }
     ensures opened { IfOk result (λ core. HasOpened horizon grants (D.state disk.old) core (D.state disk.new)) }
 
     // A crash at any moment of the call leaves the old records, or these with the horizon, if it is stored, or with
@@ -48,7 +51,7 @@ pub(crate) fn open<D: Disk>(
 {
     keeps_journal();
     match Log::open(alloc, disk, horizon) {
-        Ok((log, journal)) => Ok(core_of(alloc, log, journal, grants)?),
+        Ok((log, journal)) => Ok(core_of(alloc, log, journal, grants, indexes)?),
         Err(LogFault::NoMemory) => Err(ServeFault::NoMemory),
         Err(LogFault::Stopped) => Err(ServeFault::Stopped),
         Err(LogFault::Damaged(_)) => unreachable!(),
@@ -56,8 +59,15 @@ pub(crate) fn open<D: Disk>(
 }
 
 /// What sessions share at an opening with this log and journal.
-fn core_of(alloc: Global, log: Log, journal: Journal, grants: Grants) -> Result<Core, NoMemory>
-    requires { CanGoOn journal }
+fn core_of(
+    alloc: Global,
+    log: Log,
+    journal: Journal,
+    grants: Grants,
+    indexes: &[IndexOf],
+) -> Result<Core, NoMemory>
+    requires journal { CanGoOn journal }
+    requires indexes { IsTrue (list_all (is_index_of (schemas_of journal.base)) indexes.now) }
     ensures { IfOk result (IsCoreOf log journal grants) }
 {
     let book = Book::of_journal(
@@ -68,7 +78,7 @@ fn core_of(alloc: Global, log: Log, journal: Journal, grants: Grants) -> Result<
     )?;
     let source = source_of(alloc, &journal)?;
     let Journal { base, entries, .. } = journal;
-    let tables = tables_of(alloc, base, entries.as_slice())?;
+    let tables = tables_of(alloc, base, entries.as_slice(), indexes)?;
     Ok(Core {
         tables,
         commits: 0,
@@ -124,13 +134,20 @@ fn sequence_of(
     })
 }
 
-/// The tables of a base, with what these entries wrote. n log n for n rows and writes.
-pub fn tables_of(alloc: Global, base: Base, entries: &[Entry]) -> Result<Tables, NoMemory>
+/// The tables of a base, indexed by these columns, with what these entries wrote. n log n for n rows and
+/// writes, and for n rows of each index.
+pub fn tables_of(
+    alloc: Global,
+    base: Base,
+    entries: &[Entry],
+    indexes: &[IndexOf],
+) -> Result<Tables, NoMemory>
     requires base { IsBase base }
     requires fitting { All (λ entry. IsTrue (writes_fit (schemas_of base) entry.writes)) entries.now }
+    requires indexes { IsTrue (list_all (is_index_of (schemas_of base)) indexes.now) }
     ensures { IfOk result (λ tables. tables ≡ record { schemas = schemas_of base; rows = tables_with (start_def base) entries.now }) }
 {
-    let mut tables = start_of(alloc, base)?;
+    let mut tables = start_of(alloc, base, indexes)?;
     apply_each(&mut tables, entries)?;
     Ok(tables)
 }
@@ -146,14 +163,15 @@ fn apply_each(tables: &mut Tables, entries: &[Entry]) -> Result<(), NoMemory>
     Ok(())
 }
 
-/// The tables of the base.
-fn start_of(alloc: Global, base: Base) -> Result<Tables, NoMemory>
-    requires { IsBase base }
+/// The tables of the base, indexed by these columns.
+fn start_of(alloc: Global, base: Base, indexes: &[IndexOf]) -> Result<Tables, NoMemory>
+    requires base { IsBase base }
+    requires indexes { IsTrue (list_all (is_index_of (schemas_of base)) indexes.now) }
     ensures { IfOk result (λ tables. tables ≡ record { schemas = schemas_of base; rows = start_def base }) }
 {
     let Base { tables, .. } = base;
     let (schemas, given) = gathered(alloc, tables)?;
-    Tables::new(alloc, Schemas::from_vec(schemas), given)
+    Tables::indexed(alloc, Schemas::from_vec(schemas), given, indexes)
 }
 
 /// The declarations of the tables, and the rows of each, which are moved.

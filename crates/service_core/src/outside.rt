@@ -1,5 +1,5 @@
 //! Calls that are run from outside, in a session of their own.
-ghost use Rattle.std.specs.Prelude.{◌≡◌, ◌<◌, ◌^◌, false, true};
+ghost use Rattle.std.specs.Prelude.{◌≡◌, ◌<◌, ◌^◌, IfOk, IsErrOf, false, true};
 ghost use Rattle.std.specs.List.{AllByRecursion};
 ghost use Rattle.svc_values.specs.Calls.{IsMade};
 ghost use Rattle.svc_values.specs.meaning.Identifiers.{session_of};
@@ -8,6 +8,8 @@ ghost use Rattle.server_model.specs.ServiceCalls.{RanOutside, StoppedOutside};
 ghost use Rattle.service_calls.specs.Answers.{Ends, NotMemory, runs_of};
 ghost use Rattle.service_calls.specs.Kept.{Goes, HaveOneBase};
 ghost use Rattle.service_core.specs.Seeing.{LeavesIn, SeesIn, bytes_in, state_in};
+ghost use Rattle.service_core.specs.Shipping.{Broke, GrewBy};
+ghost use Rattle.service_core.specs.Unanswered.{HaltedCalls, IsHaltedAs, MayHalt, StandsBetween};
 ghost use Rattle.service_core.specs.Through.{Begins, IsGoing, RunsAll, RunsFrom, RunsOne, run_in as run_in_def};
 
 use crate::one::OneService;
@@ -140,6 +142,10 @@ impl<D: StopDisk> OneService<D> {
         requires made { AllByRecursion IsMade calls.now }
         ensures ran { Ends result (λ ran. Goes (SeesIn self.old) (SeesIn self.new) (λ old new. RanOutside old calls.now now ran.ltxid (runs_of ran) new)) (Goes (SeesIn self.old) (SeesIn self.new) (λ old new. StoppedOutside old (LeavesIn self.new) new)) }
         ensures base { NotMemory result (HaveOneBase (bytes_in self.old) (bytes_in self.new)) }
+        ensures grew { IfOk result (λ _. GrewBy self.old self.new) }
+        ensures broke { IsErrOf result ServeFault.Stopped → Broke self.old self.new }
+        ensures halted { MayHalt result self.old self.new → Goes (SeesIn self.old) (IsHaltedAs self.old self.new) (λ old new. HaltedCalls old (StandsBetween self.old self.new) new) }
+        ensures uncounted { IsErrOf result ServeFault.NoMemory → self.new.disk.faults ≡ self.old.disk.faults }
     {
         self.notes.calls += 1;
         let mut core = match self.core.take() {

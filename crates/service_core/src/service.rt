@@ -75,7 +75,8 @@ impl<D: StopDisk + Drop> Service for OneService<D> {
     }
 
     fn into_journal(self, alloc: Global) -> Result<Journal, ServeFault> {
-        self.read_at_end(alloc)
+        let (read, _disk) = self.read_at_end(alloc);
+        read
     }
 
     fn image(&mut self, alloc: Global) -> Result<Vec<u8>, ServeFault> {

@@ -9,6 +9,8 @@ ghost use Rattle.service_calls.specs.Answers.{IfTold, NotMemory};
 ghost use Rattle.service_calls.specs.Kept.{Goes, HaveOneBase};
 ghost use Rattle.service_core.specs.Held.{Holds, held_at};
 ghost use Rattle.service_core.specs.Seeing.{LeavesIn, SeesIn, bytes_in, state_in};
+ghost use Rattle.service_core.specs.Shipping.{Broke, GrewBy};
+ghost use Rattle.service_core.specs.Unanswered.{HaltedFrame, IsHaltedAs, MayHalt, StandsBetween};
 ghost use Rattle.service_core.specs.Taking.{IsTaken, kept_of};
 
 use crate::connections::Connections;
@@ -80,6 +82,9 @@ impl<D: StopDisk> OneService<D> {
         ensures made { IfOk result (λ told. IfSome told IsMadeDown) }
         ensures served { IfTold result (λ told. Goes (SeesIn self.old) (SeesIn self.new) (λ old new. ServedOne old connection now frame.now told (LeavesIn self.new) new)) }
         ensures base { NotMemory result (HaveOneBase (bytes_in self.old) (bytes_in self.new)) }
+        ensures grew { IfOk result (λ _. GrewBy self.old self.new) }
+        ensures broke { IsErrOf result ServeFault.Stopped → Broke self.old self.new }
+        ensures halted { MayHalt result self.old self.new → Goes (SeesIn self.old) (IsHaltedAs self.old self.new) (λ old new. HaltedFrame old connection now frame.now (StandsBetween self.old self.new) new) }
         ensures uncounted { IsErrOf result ServeFault.NoMemory → self.new.disk.faults ≡ self.old.disk.faults }
     {
         self.notes.calls += 1;

@@ -1,9 +1,11 @@
 //! Openings of a service.
-ghost use Rattle.std.specs.Prelude.{◌≡◌, ◌<◌, ◌^◌, IsErrOf, false, true};
+ghost use Rattle.std.specs.Prelude.{◌≡◌, ◌<◌, ◌^◌, IfOk, IsErrOf, false, true};
 ghost use Rattle.server_model.specs.ServiceCalls.{MayForget, Opened, StoppedOpening};
 ghost use Rattle.service_calls.specs.Answers.{Ends, NotMemory};
 ghost use Rattle.service_calls.specs.Kept.{Goes, HaveOneBase};
 ghost use Rattle.service_core.specs.Seeing.{LeavesIn, SeesIn, bytes_in, state_in};
+ghost use Rattle.service_core.specs.Shipping.{Broke, GrewBy};
+ghost use Rattle.service_core.specs.Unanswered.{HaltedOpening, IsHaltedAs, MayHalt, StandsBetween};
 
 use crate::one::OneService;
 use crate::opening::open;
@@ -22,13 +24,16 @@ impl<D: StopDisk> OneService<D> {
         requires may { MayForget (state_in self.old) horizon }
         ensures opened { Ends result (λ done. Goes (SeesIn self.old) (SeesIn self.new) (λ old new. Opened old horizon new)) (Goes (SeesIn self.old) (SeesIn self.new) (λ old new. StoppedOpening old horizon (LeavesIn self.new) new)) }
         ensures base { NotMemory result (HaveOneBase (bytes_in self.old) (bytes_in self.new)) }
+        ensures grew { IfOk result (λ _. GrewBy self.old self.new) }
+        ensures broke { IsErrOf result ServeFault.Stopped → Broke self.old self.new }
+        ensures halted { MayHalt result self.old self.new → Goes (SeesIn self.old) (IsHaltedAs self.old self.new) (λ old new. HaltedOpening old horizon (StandsBetween self.old self.new) new) }
         ensures uncounted { IsErrOf result ServeFault.NoMemory → self.new.disk.faults ≡ self.old.disk.faults }
     {
         keeps_journal();
         raises_horizon();
         self.notes.kept = self.disk.left();
         self.notes.calls += 1;
-        match open(alloc, &mut self.disk, horizon, self.grants) {
+        match open(alloc, &mut self.disk, horizon, self.grants, &self.indexes) {
             Ok(core) => {
                 self.core = Some(core);
                 self.notes.is_opened = true;

@@ -1,8 +1,11 @@
-use Rattle.service_core.proofs.GoingOn.{goes_on, has_opened}
+use Rattle.service_core.proofs.GoingOn.{goes_on, has_opened, indexes_go_on}
 use Rattle.service_core.proofs.opening.open.Goals as goal
 
-pub core_of-requires : goal.core_of-requires
-core_of-requires g c = goes_on (g.D.Disk.state c.open.new.disk).now.seen c.in-Ok.journal c.keeps_journal.ensures.keeps c.in-Ok.ensures.journal (g.met.D.Disk.bounded c.open.new.disk)
+pub core_of-requires-clause-journal : goal.core_of-requires-clause-journal
+core_of-requires-clause-journal g c = goes_on (g.D.Disk.state c.open.new.disk).now.seen c.in-Ok.journal c.keeps_journal.ensures.keeps c.in-Ok.ensures.journal (g.met.D.Disk.bounded c.open.new.disk)
+
+pub core_of-requires-clause-indexes : goal.core_of-requires-clause-indexes
+core_of-requires-clause-indexes g c = indexes_go_on c.args.horizon (g.D.Disk.state c.args.disk.now).now.seen c.requires.journal c.in-Ok.journal c.args.indexes.now c.in-Ok.ensures.opened c.requires.indexes
 
 pub returns-in_ok-core_of-in-Ok-clause-opened : goal.returns-in_ok-core_of-in-Ok-clause-opened
 returns-in_ok-core_of-in-Ok-clause-opened g c =

@@ -5,7 +5,7 @@ use Rattle.svc_values.specs.declared.call.Call.{Call}
 use Rattle.svc_values.specs.meaning.Identifiers.{session_of}
 use Rattle.outage_schedule.specs.declared.note.NoteRun.{NoteRun}
 use Rattle.service_core.specs.Through.{HasRunAll, HasRunOne}
-use Rattle.service_core.proofs.Throughout.{SoFar, at_call, halts_all, so_far_all, so_far_blocked, so_far_more, so_far_none}
+use Rattle.service_core.proofs.Throughout.{SoFar, at_call, halts_all, so_far_all, so_far_blocked, so_far_more, so_far_none, so_far_uncounted}
 use Rattle.service_core.proofs.outside.run_all.Goals as goal
 
 pub loop-call-init : goal.loop-call-init
@@ -25,6 +25,15 @@ returns-in-Ok-None g c =
     let one = subst (λ (r : Option NoteRun). HasRunOne c.args.now c.call-item.result r c.loop-call.session c.loop-call.core at c.run_one.new.session c.run_one.new.core end) c.in-Ok-None.field-0-is c.in-Ok-None.ensures in
     subst (λ (r : List NoteRun). HasRunAll c.args.now id c.args.calls.now r c.args.session.now c.args.core.now disk c.run_one.new.session c.run_one.new.core end) (sym c.from_vec.ensures)
     (so_far_blocked c.args.now id c.args.calls.now c.call-item.result (drop (c.loop-call.call-index + 1) c.args.calls.now) c.loop-call.runs.items c.args.session.now c.args.core.now disk c.loop-call.session c.loop-call.core at so_far c.run_one.new.session c.run_one.new.core end one)
+
+pub returns-then-is_err : goal.returns-then-is_err
+returns-then-is_err g c =
+    let id = session_of c.args.session.now.ltxid in
+    let disk = g.D.Disk.state c.args.disk.now in
+    let at = g.D.Disk.state c.loop-call.disk in
+    let end = g.D.Disk.state c.run_one.new.disk in
+    let one = subst (λ (r : Option NoteRun). HasRunOne c.args.now c.call-item.result r c.loop-call.session c.loop-call.core at c.run_one.new.session c.run_one.new.core end) c.in-Ok-Some.field-0-is c.in-Ok-Some.ensures in
+    so_far_uncounted c.args.now id c.args.calls.now (drop c.loop-call.call-index c.args.calls.now) c.call-item.result c.loop-call.runs.items _ c.args.session.now c.args.core.now disk c.loop-call.session c.loop-call.core at c.run_one.new.session c.run_one.new.core end c.loop-call.invariant one
 
 pub returns-in-Err : goal.returns-in-Err
 returns-in-Err g c =
