@@ -12,7 +12,7 @@ use document_limits::Count;
 use json_form::{DocCode, DocFault};
 use outage_schedule::{Client, Document, Event, Request};
 use std::alloc::Global;
-use svc_values::{Call, Change, Listed, Name, Operand, Settings, Statement, has_name};
+use svc_values::{Call, Change, ListFault, Listed, Name, Operand, Settings, Statement, has_name};
 
 /// What has calls.
 trait Calling {
@@ -100,7 +100,8 @@ fn with_name(alloc: Global, before: Different, name: &Name) -> Result<Different,
     let name = copied(alloc, name)?;
     match names.push(name) {
         Ok(()) => Ok(names),
-        Err(_) => Err(DocFault::NoMemory),
+        Err(ListFault::NoMemory) => Err(DocFault::NoMemory),
+        Err(ListFault::TooMany) => unreachable!(),
     }
 }
 

@@ -1,7 +1,7 @@
 //! Reader of the image of a store.
-ghost use Rattle.std.specs.Prelude.{◌≡◌};
+ghost use Rattle.std.specs.Prelude.{◌≡◌, IfOk};
 ghost use Rattle.std.specs.List.{list_all};
-ghost use Rattle.json_form.specs.Faults.{Gives};
+ghost use Rattle.json_form.specs.Faults.{GivesBy};
 ghost use Rattle.commit_log.specs.meaning.Journals.{journal_of};
 ghost use Rattle.document_forms.specs.meaning.Numbers.{is_count as is_count_def, is_small_ltxid as is_small_ltxid_def};
 ghost use Rattle.doc_reader.specs.meaning.Images.{is_small_reservation as is_small_reservation_def, leaves_room as leaves_room_def, if_store, image_of};
@@ -65,16 +65,17 @@ fn leaves_room(journal: &Journal) -> bool
         && are_small_reservations(journal.reserved.as_slice())
 }
 
-/// Refuses bytes that no run may begin with. They are read as a service reads its store, from a copy
-/// that is given back.
-fn judge(alloc: Global, bytes: &[u8]) -> Result<(), DocFault>
-    ensures { Gives result (if_store (journal_of bytes.now)) }
+/// The bytes as they are, where a run may begin with them. They are read as a service reads its
+/// store, from a disk that has them meanwhile.
+fn judge(alloc: Global, bytes: Vec<u8>) -> Result<Vec<u8>, DocFault>
+    ensures judged { GivesBy (λ _. tt) result (if_store (journal_of bytes.items)) }
+    ensures same { IfOk result (λ kept. kept.items ≡ bytes.items) }
 {
-    let Ok(mut disk) = MemDisk::of(alloc, bytes) else {
+    let Ok(mut disk) = MemDisk::over(alloc, bytes) else {
         return Err(DocFault::NoMemory);
     };
     match Log::read(alloc, &mut disk) {
-        Ok(journal) if leaves_room(&journal) => Ok(()),
+        Ok(journal) if leaves_room(&journal) => Ok(disk.into_bytes()),
         Ok(_) | Err(LogFault::Damaged(_)) => Err(DocFault::here(alloc, DocCode::BadImage)),
         Err(LogFault::NoMemory) => Err(DocFault::NoMemory),
         Err(LogFault::Stopped) => unreachable!(),
@@ -98,7 +99,8 @@ impl Reader<Option<Image>> for ImageReader {
             return Err(DocFault::here(alloc, DocCode::Rule));
         }
         let bytes = octets_in(alloc, text.as_str())?;
-        judge(alloc, &bytes)?;
+        drop(text);
+        let bytes = judge(alloc, bytes)?;
         Ok(Some(Listed::from_vec(bytes)))
     }
 }

@@ -25,7 +25,7 @@ fn is_built(form: LateForm) -> bool
     ensures { result ≡ is_built_def form }
 {
     match form {
-        LateForm::Index => false,
+        LateForm::Index => true,
         LateForm::Image => true,
         LateForm::Standby => false,
         LateForm::Failover => false,

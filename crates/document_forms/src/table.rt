@@ -253,6 +253,16 @@ impl Reader<IndexColumns> for IndexReader<'_> {
     }
 }
 
+pub(crate) fn index_from(
+    alloc: Global,
+    value: Json,
+    columns: &Columns,
+) -> Result<IndexColumns, DocFault>
+    ensures { Gives result (index_of columns.now (view value)) }
+{
+    IndexReader { columns }.read(alloc, value)
+}
+
 /// Reads a table whose name does not stand before. For n rows the cost is 2 n comparisons of keys where the
 /// rows stand in rising order of key, and else n log n.
 struct TableReader;

@@ -8,10 +8,10 @@ ghost use Rattle.json_form.specs.Streams.{Begins, members_ahead as members_ahead
 ghost use Rattle.document_forms.specs.meaning.Tables.{table_members, table_of};
 ghost use Rattle.document_forms.specs.TablesAhead.{IsTableRead, PassesMember};
 
-use crate::table::{columns_from, rows_ahead};
+use crate::table::{columns_from, index_from, rows_ahead};
 use call_forms::NewNameReader;
 use json_form::{Reader, Taken, object_begins, value_from};
-use outage_schedule::{DocRows, DocTable};
+use outage_schedule::{DocRows, DocTable, IndexColumns};
 use std::alloc::Global;
 use svc_values::{Columns, Listed, Name};
 
@@ -21,6 +21,7 @@ pub struct TableAhead {
     pub name: Option<Name>,
     pub columns: Option<Columns>,
     pub rows: Option<DocRows>,
+    pub index: Option<IndexColumns>,
 }
 
 impl TableAhead {
@@ -31,6 +32,7 @@ impl TableAhead {
             name: None,
             columns: None,
             rows: None,
+            index: None,
         }
     }
 
@@ -50,7 +52,7 @@ impl TableAhead {
         Some(())
     }
 
-    /// The columns, behind which no rows were read, since these go by the columns.
+    /// The columns, behind which no rows and no index were read, since these go by the columns.
     fn take_columns(
         &mut self,
         alloc: Global,
@@ -61,6 +63,9 @@ impl TableAhead {
         ensures shorter { IfSome result (λ _. length tokens.new < length tokens.old) }
     {
         if self.rows.is_some() {
+            return None;
+        }
+        if self.index.is_some() {
             return None;
         }
         let value = value_from(alloc, tokens, depth)?;
@@ -81,6 +86,22 @@ impl TableAhead {
         let columns = self.columns.as_ref()?;
         let rows = rows_ahead(alloc, tokens, depth, columns)?;
         self.rows = Some(rows);
+        Some(())
+    }
+
+    fn take_index(
+        &mut self,
+        alloc: Global,
+        tokens: &mut json::Reader<'_>,
+        depth: usize,
+    ) -> Option<()>
+        ensures read { IfSome result (λ _. (taken : List ℕ → Bool) → PassesMember taken depth (codes "index") self.old tokens.old self.new tokens.new) }
+        ensures shorter { IfSome result (λ _. length tokens.new < length tokens.old) }
+    {
+        let columns = self.columns.as_ref()?;
+        let value = value_from(alloc, tokens, depth)?;
+        let index = index_from(alloc, value, columns).ok()?;
+        self.index = Some(index);
         Some(())
     }
 
@@ -106,6 +127,9 @@ impl TableAhead {
         if name == "rows" {
             return self.take_rows(alloc, tokens, depth);
         }
+        if name == "index" {
+            return self.take_index(alloc, tokens, depth);
+        }
         None
     }
 }
@@ -129,7 +153,7 @@ fn members_ahead(
 }
 
 /// The table that the tokens begin with, whose name is none of those taken. There is none where there is a
-/// fault, where an index is asked for, and where the rows stand before their columns.
+/// fault, and where the rows or the index stand before the columns.
 pub(crate) fn table_ahead(
     alloc: Global,
     taken: &Taken<Name>,
@@ -144,11 +168,12 @@ pub(crate) fn table_ahead(
         name,
         columns,
         rows,
+        index,
     } = members_ahead(alloc, taken, tokens, inside)?;
     Some(DocTable {
         name: name?,
         columns: columns?,
         rows: rows.unwrap_or(Listed::new(alloc)),
-        index: Listed::new(alloc),
+        index: index.unwrap_or(Listed::new(alloc)),
     })
 }

@@ -65,3 +65,23 @@ fn the_last_of_equal_members_stands(rt: HostRuntime) {
         assert_eq!(rt; counts(alloc, text), Some(wanted));
     }
 }
+
+/// How many columns the index of the first table names, if the text is a document.
+fn indexed(alloc: Global, text: &str) -> Option<usize> {
+    let document = read_document(alloc, text.as_bytes()).ok()?;
+    let table = document.tables.get(0)?;
+    Some(table.index.len())
+}
+
+#[test]
+fn an_index_stands_before_the_rows_or_behind_them(rt: HostRuntime) {
+    let alloc = rt.alloc();
+    for text in [
+        r#"{"clients":[],"tables":[{"name":"t","columns":[["id","int"],["a","int"]],"rows":[[1,2]],"index":["a","id"]}]}"#,
+        r#"{"clients":[],"tables":[{"name":"t","columns":[["id","int"],["a","int"]],"index":["a","id"],"rows":[[1,2]]}]}"#,
+        r#"{"clients":[],"tables":[{"index":["a","id"],"rows":[[1,2]],"columns":[["id","int"],["a","int"]],"name":"t"}]}"#,
+        r#"{"clients":[],"tables":[{"name":"t","index":["id"],"columns":[["id","int"],["a","int"]],"index":["a","id"]}]}"#,
+    ] {
+        assert_eq!(rt; indexed(alloc, text), Some(2));
+    }
+}

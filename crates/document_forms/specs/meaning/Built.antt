@@ -7,7 +7,7 @@ use Rattle.document_forms.specs.declared.built.LateForm.TheVariants as form
 
 -- which of them are read
 unfoldable pub is_built : LateForm → Bool
-is_built form.Index = false
+is_built form.Index = true
 is_built form.Image = true
 is_built form.Standby = false
 is_built form.Failover = false

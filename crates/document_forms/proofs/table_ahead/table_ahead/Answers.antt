@@ -19,7 +19,7 @@ returns-clause-begins c =
     let named : ahead.name ≡ Some name = search rules in
     let declared : ahead.columns ≡ Some columns = search rules in
     let rows : c.unwrap_or.result ≡ unwrap_or ahead.rows [] = search rules in
-    let index : c.new-2.result ≡ [] = search rules in
+    let index : c.unwrap_or-2.result ≡ unwrap_or ahead.index [] = search rules in
     let read = table_joined taken x.0 ahead name columns x.2 named declared x.3 in
     ap (parse_map (table_of taken)) (c.in_ok-inside.ensures.object.1 ∙ ap (parse_map object) x.1) ∙ ap (λ table. Some (table, rest)) read
-    ∙ ap (λ rs. Some (Ok (made name columns rs []), rest)) (sym rows) ∙ ap (λ index. Some (Ok (made name columns c.unwrap_or.result index), rest)) (sym index)
+    ∙ ap (λ rs. Some (Ok (made name columns rs (unwrap_or ahead.index [])), rest)) (sym rows) ∙ ap (λ index. Some (Ok (made name columns c.unwrap_or.result index), rest)) (sym index)
