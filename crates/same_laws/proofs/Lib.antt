@@ -20,6 +20,7 @@ pub mod RunsStarts
 pub mod SameEnd
 pub mod SameEntries
 pub mod SameOver
+pub mod Scripts
 pub mod ScriptsExact
 pub mod SendingsRan
 pub mod ServedCalls

@@ -39,7 +39,7 @@ use Rattle.same_laws.proofs.ScriptsExact.{AreScripts, runs_scripted}
 -- THE ENTRIES OF THE RUN --------------------------------------------------------------------------
 
 module _ (granted : Draw → Bool) (image gained : List Entry) where
-  later_in : (test : Entry → Bool) (ids : List Ltxid) → list_all test (entries_in (image ++ gained) ids) ≡ true → list_all test (entries_in gained ids) ≡ true
+  pub later_in : (test : Entry → Bool) (ids : List Ltxid) → list_all test (entries_in (image ++ gained) ids) ≡ true → list_all test (entries_in gained ids) ≡ true
   later_in test ids all =
       (and_parts (list_all test (entries_in image ids)) (list_all test (entries_in gained ids))
       (sym (list_all-append test (entries_in image ids) (entries_in gained ids)) ∙ (ap (list_all test) (sym (filter-append (λ (entry : Entry). holds ids entry.ltxid) image gained)) ∙ all))).1
@@ -99,7 +99,7 @@ module _ (test : Request → RequestReport → Bool) where
   past_from setting number place (one ∷ past) now all =
       let parts = and_parts (of_past one) (list_all if_over (courses_from setting number (place + 1) past now)) all in and_from (of_past one) (list_all of_past past) parts.0 (past_from setting number (place + 1) past now parts.1)
 
-  by_client : (setting : Setting) (scripts : List Scripted) (clients : List Client) (number : ℕ) → ((index : ℕ) (script : Scripted) (client : Client) → slice_get scripts index ≡ Some script → slice_get clients index ≡ Some client → AreScripts script.requests [] client.past)
+  pub by_client : (setting : Setting) (scripts : List Scripted) (clients : List Client) (number : ℕ) → ((index : ℕ) (script : Scripted) (client : Client) → slice_get scripts index ≡ Some script → slice_get clients index ≡ Some client → AreScripts script.requests [] client.past)
       → list_all if_over (courses_of_clients setting number clients) ≡ true → list_all (list_all of_copies) (copies_by_client scripts (map (λ (client : Client). reports_of client.past) clients)) ≡ true
   by_client setting [] clients number are all = refl
   by_client setting (script ∷ scripts) [] number are all = and_from (list_all of_copies (copies_of script.requests [])) (list_all (list_all of_copies) (copies_by_client scripts [])) (none_yet script.requests) (by_client setting scripts [] number (λ index one client is at. absurd (let none : ⊥ = cc in none)) refl)
@@ -113,13 +113,13 @@ module _ (test : Request → RequestReport → Bool) where
 -- THE REPORT --------------------------------------------------------------------------------------
 
 module _ (document : Document) (report : Report) (seen : Seen) (t : Traced) (server : Server) (is : IsReported document report seen t server) where
-  abbrev image : List Entry
+  abbrev pub image : List Entry
   image = (journal_before document).entries
 
   coupled : Coupled seen t
   coupled = finishing_coupled document is.run.place report.notes report.served seen t is.run.finishing
 
-  all_entries : t.entries ≡ image ++ report.entries
+  pub all_entries : t.entries ≡ image ++ report.entries
   all_entries = coupled.entries ∙ is.gained
 
   setting_is : t.setting ≡ setting_of document

@@ -30,7 +30,7 @@ use Rattle.world_model.proofs.Offered.{le_from, lt_from}
 
 -- LISTS -------------------------------------------------------------------------------------------
 
-kept_all : {A : Type 0} (test keep : A → Bool) (xs : List A) → ((place : ℕ) (x : A) → slice_get xs place ≡ Some x → keep x ≡ true → test x ≡ true) → list_all test (filter keep xs) ≡ true
+pub kept_all : {A : Type 0} (test keep : A → Bool) (xs : List A) → ((place : ℕ) (x : A) → slice_get xs place ≡ Some x → keep x ≡ true → test x ≡ true) → list_all test (filter keep xs) ≡ true
 kept_all test keep [] each = refl
 kept_all test keep (x ∷ xs) each = by (keep x) refl (kept_all test keep xs (λ place y at held. each (suc place) y at held))
   where

@@ -1,1 +1,2 @@
 pub mod RunsSame
+pub mod RunsScripted

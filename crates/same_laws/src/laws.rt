@@ -1,6 +1,7 @@
 //! Entries have the calls, answers, granted draws and settings that their clients know. Each law is the clause of a function with
 //! nothing to run.
 ghost use Rattle.same_laws.specs.RunsSame.{RunsAreSame};
+ghost use Rattle.same_laws.specs.RunsScripted.{RunsAreScripted};
 ghost use Rattle.once_laws.specs.CommitAnswers.{commit_fittingly, store_alone};
 ghost use Rattle.invariant_laws.specs.SameLaws.{HoldsAtEnds, HoldsInRuns, FollowsInvariant, SettingsGoOn, RunsStoreScripts, WholeRunsStoreScripts, RunsFollowScripts, WholeRunsFollowScripts, RunsVerify, WholeRunsVerify, RunsKnowAnswers, WholeRunsKnowAnswers, RunsKnowInsides, WholeRunsKnowInsides, ReportsClashNowhere, ReportsAreSame, RunsRanLast, WholeRunsRanLast, EntriesMakeReportsSame, EntriesMakeSame, PartsMakeEntries, RunsEntriesGoOn, WholeRunsEntriesGoOn, RunsEntriesDraw, WholeRunsEntriesDraw, RunsEntriesStart, WholeRunsEntriesStart, RunsKnowEntries, WholeRunsKnowEntries};
 ghost use Rattle.invariant_laws.specs.Same.{run_script_calls, open_entries_known};
@@ -17,6 +18,15 @@ pub fn runs_are_same()
     reports_clash_nowhere();
     entries_are_as_known();
     entries_make_same();
+}
+
+/// Each entry whose identifier a request of a run has as tried is a stretch of the request's script, and its settings are those that the request has
+/// where the stretch begins. This rests on no digests.
+pub fn runs_are_scripted()
+    ensures { RunsAreScripted }
+{
+    invariant_laws::kept_laws::runs_keep_invariant();
+    entries_follow_scripts();
 }
 
 /// Wherever such a run has come to, and at its end: the answers to a call that a connection served end with CommitInReplay only where it was sent
