@@ -1,0 +1,4 @@
+mod Counting
+mod Kept
+mod Steps
+mod Written
