@@ -1,0 +1,2 @@
+mod JournalKept
+mod StartBase

@@ -1,0 +1,12 @@
+mod Courses
+mod FreshPlaces
+mod FreshSteps
+mod Lists
+mod MoreDraws
+mod Named
+mod PrintedTables
+mod Replayed
+mod SameAnswers
+mod SerialPlaces
+mod Serially
+mod Singles
