@@ -1,0 +1,27 @@
+-- Keys of two and of three numbers.
+use Rattle.std.proofs.Common.{◌≡◌, ℕ, List, [], ◌∷◌, map, Bool, eqb, ◌&&◌, ◌||◌, refl, ap}
+use Rattle.svc_values.specs.Keys.{is_key}
+use Rattle.svc_values.specs.declared.entry.Ltxid.{Ltxid}
+use Rattle.svc_values.specs.meaning.Identifiers.{same_ltxid, is_of_session}
+use Rattle.run_clauses.specs.meaning.Tried.{holds}
+use Rattle.run_clauses.specs.meaning.Sessions.{is_foreign}
+use Rattle.entry_check.specs.Ids.{ltxid_at, session_at}
+
+-- ---- keys
+
+abbrev pub same_key : ℕ × ℕ × ℕ → ℕ × ℕ × ℕ → Bool
+same_key a b = (eqb a.0 b.0 && eqb a.1 b.1) && eqb a.2 b.2
+
+abbrev pub key_of : Ltxid → ℕ × ℕ × ℕ
+key_of x = (x.incarnation, x.session, x.number)
+
+pub key_holds : (keys : List (ℕ × ℕ × ℕ)) (x : Ltxid) → is_key same_key keys (key_of x) ≡ holds (map ltxid_at keys) x
+key_holds [] x = refl
+key_holds (key ∷ keys) x = ap (λ b. same_ltxid x (ltxid_at key) || b) (key_holds keys x)
+
+abbrev pub same_pair : ℕ × ℕ → ℕ × ℕ → Bool
+same_pair a b = eqb a.0 b.0 && eqb a.1 b.1
+
+pub session_holds : (keys : List (ℕ × ℕ)) (x : Ltxid) → is_key same_pair keys (x.incarnation, x.session) ≡ is_foreign (map session_at keys) x
+session_holds [] x = refl
+session_holds (key ∷ keys) x = ap (λ b. is_of_session (session_at key) x || b) (session_holds keys x)

@@ -1,0 +1,10 @@
+mod Spans
+mod Sets
+mod Keys
+mod Gathered
+mod Counting
+mod Entries
+mod Ends
+mod Copying
+mod CopiesCut
+mod OnceLaw

@@ -1,0 +1,8 @@
+use Rattle.std.proofs.Common.{◌≡◌, ◌++◌, take}
+use Rattle.std.specs.List.{flat_map}
+use Rattle.run_clauses.specs.meaning.Tried.{ids_tried}
+use Rattle.entry_check.specs.Ids.{ids_in}
+use Rattle.entry_check.proofs.gather.gather_client.Given as goal
+
+abbrev pub invariant-loop-at : goal.invariant-loop-at
+invariant-loop-at l = ids_in l.found.items ≡ ids_in l.fn.found.items ++ flat_map ids_tried (take l.at l.requests)
