@@ -1,0 +1,9 @@
+//! Judging of a report with its document: which of the clauses `Serial` and `Fresh` is the first that
+//! does not hold, and where.
+#![tactic(auto)]
+
+mod pair;
+mod verdict;
+
+pub use pair::{CHECK_LIMIT, pair_from};
+pub use verdict::{Clause, Verdict, judge};
