@@ -229,6 +229,7 @@ module _ (document : Document) (ran : Ran Within) (before : Before) (report : Re
     fresh = laws.fresh document report has.seen has.traced gained.server calls reported;
     once_so = laws.once document report has.seen has.traced gained.server calls reported;
     same_so = laws.same document report has.seen has.traced gained.server calls reported;
+    scripted_so = laws.scripted document report has.seen has.traced gained.server calls reported;
     stored_so = stored_so laws calls;
     caused_so = laws.caused document report has.seen has.traced gained.server calls tries reported;
     whole_so = laws.whole document report has.seen has.traced gained.server calls reported;

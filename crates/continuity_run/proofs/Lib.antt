@@ -2,7 +2,10 @@ mod Beginning
 mod Documents
 mod Headlines
 mod Images
+mod Indexing
 mod Lasting
+mod LoadWords
+mod Loading
 mod Moves
 mod ReadOff
 mod Responses

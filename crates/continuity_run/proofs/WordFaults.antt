@@ -22,8 +22,8 @@ use Rattle.clap.specs.declared.error.kind.ErrorKind.TheVariants.{OutOfMemory}
 use Rattle.clap.proofs.OnLiterals.{clap_on_literals}
 use Rattle.clap.proofs.WalkLemmas.{walk_stopped}
 use Rattle.continuity_run.specs.declared.command.Command.{Command}
-use Rattle.continuity_run.specs.Words.{command_named, command_of}
-use Rattle.continuity_run.specs.InnerWords.{begins_with_hyphen, program}
+use Rattle.continuity_run.specs.Words.{command_named}
+use Rattle.continuity_run.specs.InnerWords.{begins_with_hyphen, named_in, program}
 
 first : (a b : Kinds) → or_else a b ≡ [] → a ≡ []
 first [] b e = refl
@@ -121,7 +121,7 @@ command_in (word ∷ []) = command_named word
 command_in _ = None
 
 same_command : (words : List (String Global))
-    → command_in (map string_bytes words) ≡ command_of words
+    → command_in (map string_bytes words) ≡ named_in words
 same_command [] = refl
 same_command (word ∷ []) = refl
 same_command (word ∷ other ∷ rest) = refl
@@ -154,7 +154,7 @@ name_entered m = named_of (out-ArgMatches m).subcommand
 -- of words without a fault the subcommand is the command
 pub passed : (words : List (String Global)) → list_any begins_with_hyphen words ≡ false
     → fault_of program (map string_bytes words) ≡ []
-    → option_and_then command_named (option_map (λ met. met.0) (subcommand_of program (map string_bytes words))) ≡ command_of words
+    → option_and_then command_named (option_map (λ met. met.0) (subcommand_of program (map string_bytes words))) ≡ named_in words
 passed words hyphens e = entered (map string_bytes words) (known words hyphens e) ∙ same_command words
 
 -- the words of a command have no fault
@@ -165,7 +165,7 @@ named_passes name true cover is_run is_cover one is = subst (λ w. fault_of prog
 named_passes name false true is_run is_cover one is = subst (λ w. fault_of program (w ∷ []) ≡ []) (sym ((bytes_eq-Decides name (codes "cover")).0 is_cover)) cover_passes
 named_passes name false false is_run is_cover one is = absurd (let none : command_named name ≡ None = rw (is_run, is_cover) refl in let no : ⊥ = cc in no)
 
-command_passes : (words : List (String Global)) (one : Command) → command_of words ≡ Some one
+command_passes : (words : List (String Global)) (one : Command) → named_in words ≡ Some one
     → fault_of program (map string_bytes words) ≡ []
 command_passes [] one is = absurd (let none : ⊥ = cc in none)
 command_passes (word ∷ []) one is = named_passes (string_bytes word) _ _ refl refl one is
@@ -173,13 +173,13 @@ command_passes (word ∷ other ∷ rest) one is = absurd (let none : ⊥ = cc in
 
 -- words with a fault, other than want of memory, are no command's
 pub refused : (words : List (String Global)) (e : Error) → (kind_of e ≡ OutOfMemory → ⊥)
-    → HasKind (fault_of program (map string_bytes words)) e → command_of words ≡ None
-refused words e other kind = go (command_of words) refl
+    → HasKind (fault_of program (map string_bytes words)) e → named_in words ≡ None
+refused words e other kind = go (named_in words) refl
   where
     none : HasKind [] e → ⊥
     none (inl memory) = other memory
     none (inr among) = among
 
-    go : (found : Option Command) → command_of words ≡ found → found ≡ None
+    go : (found : Option Command) → named_in words ≡ found → found ≡ None
     go None is = refl
     go (Some one) is = absurd (none (subst (λ kinds. HasKind kinds e) (command_passes words one is) kind))

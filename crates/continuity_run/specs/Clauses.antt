@@ -12,15 +12,27 @@ use Rattle.continuity_run.specs.declared.top.Status.TheVariants as status
 use Rattle.continuity_run.specs.Causes.{AppendsFront}
 use Rattle.doc_reader.specs.meaning.Documents.{document_at}
 use Rattle.continuity_run.specs.meaning.Clauses.{IsAnswer, IsRead}
+use Rattle.continuity_run.specs.meaning.Load.{IsLoaded}
 
 -- what was read is a document, and the sink took a front of the text that the command tells of it
-pub record IsCut (command : Command)
+pub record IsAnsweredInPart (command : Command)
     (left_before left_after held_before held_after : Option (List ℕ)) : Type 0 where
   pub bytes : List ℕ
   pub text : List ℕ
   pub read : IsRead left_before left_after bytes
   pub answer : IsAnswer command bytes text
   pub wrote : AppendsFront held_before held_after text
+
+-- the sink took a front of the line of a load
+pub record LoadIsCut (seed clients requests : ℕ) (held_before held_after : Option (List ℕ)) : Type 0 where
+  pub text : List ℕ
+  pub loaded : IsLoaded seed clients requests text
+  pub wrote : AppendsFront held_before held_after text
+
+abbrev pub IsCut : Command → Option (List ℕ) → Option (List ℕ) → Option (List ℕ) → Option (List ℕ) → Type 0
+IsCut (command.Load seed clients requests) left_before left_after held_before held_after = LoadIsCut seed clients requests held_before held_after
+IsCut command.Run left_before left_after held_before held_after = IsAnsweredInPart command.Run left_before left_after held_before held_after
+IsCut command.Cover left_before left_after held_before held_after = IsAnsweredInPart command.Cover left_before left_after held_before held_after
 
 -- what was read is no document, and this is why
 pub record IsRefused (left_before left_after : Option (List ℕ)) (fault : Fault) : Type 0 where
@@ -57,3 +69,10 @@ abbrev pub IsReply : Status → Type 0
 IsReply status.Words = ⊥
 IsReply status.Read = ⊥
 IsReply _ = Unit {0}
+
+-- nothing but the sink may be at fault: neither the words, nor the source, nor a document
+abbrev pub EndsAtSink : Status → Type 0
+EndsAtSink status.Done = Unit {0}
+EndsAtSink status.NoMemory = Unit {0}
+EndsAtSink status.Write = Unit {0}
+EndsAtSink _ = ⊥

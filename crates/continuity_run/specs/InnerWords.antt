@@ -1,6 +1,8 @@
 -- What `clap` is told of the program's words.
-use Rattle.std.specs.Prelude.{◌==◌, Bool, String, codes, slice_index, string_bytes, true}
+use Rattle.std.specs.Prelude.{◌==◌, Bool, List, [], ◌∷◌, Option, None, String, codes, slice_index, string_bytes, true}
 use Rattle.std.specs.declared.alloc.Global.{Global}
+use Rattle.continuity_run.specs.declared.command.Command.{Command}
+use Rattle.continuity_run.specs.Words.{command_named}
 use Rattle.clap.specs.Simple.{App, new_app, new_shape, on_top, with_subcommand}
 
 -- its first byte is `-`
@@ -17,3 +19,8 @@ program = with_subcommand (with_subcommand (on_top (λ s. record s {
   disable_version_flag = true;
   subcommand_required = true;
 }) (new_app (codes "continuity"))) (new_shape (codes "run"))) (new_shape (codes "cover"))
+
+-- one word, the name of a command
+abbrev pub named_in : List (String Global) → Option Command
+named_in (word ∷ []) = command_named (string_bytes word)
+named_in _ = None

@@ -1,8 +1,10 @@
 pub mod Causes
 pub mod Clauses
 pub mod Complete
+pub mod Indexes
 pub mod InnerEnds
 pub mod InnerWords
+pub mod LoadWords
 pub mod Memory
 pub mod Reading
 pub mod Reads

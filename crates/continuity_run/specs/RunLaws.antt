@@ -8,6 +8,7 @@ use Rattle.once_laws.specs.OnceLaws.{ReportsAreOnce}
 use Rattle.legal_laws.specs.RunsJudged.{RunsAreLegal, RunsAreFreshNew, RunsAreSetAside}
 use Rattle.fresh_laws.specs.RunsFresh.{RunsAreFresh}
 use Rattle.same_laws.specs.RunsSame.{RunsAreSame}
+use Rattle.same_laws.specs.RunsScripted.{RunsAreScripted}
 use Rattle.world_model.specs.RunLaws.{RunsAreFollowed}
 use Rattle.run_laws.specs.StoredLaws.{IncarnationsAreStored}
 use Rattle.once_laws.specs.OnceLaws.{OutcomesAreStored}
@@ -23,6 +24,7 @@ pub record RunsHold : Type 0 where
   pub fresh : RunsAreFresh
   pub once : ReportsAreOnce
   pub same : RunsAreSame
+  pub scripted : RunsAreScripted
   pub outcomes : OutcomesAreStored
   pub answers : AnswersAreRight
   pub horizons : HorizonsAreTold

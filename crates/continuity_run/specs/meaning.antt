@@ -1,3 +1,4 @@
 -- What the program's promise means: all that its definition uses of this crate.
 pub mod Clauses
 pub mod Headline
+pub mod Load

@@ -4,6 +4,7 @@ ghost use Rattle.doc_reader.specs.Keeping.{IsDocument};
 ghost use Rattle.continuity_run.specs.meaning.Clauses.{IsReported, IsCovered, Tells};
 
 use crate::command::Command;
+use crate::load::line_text;
 use crate::run::run_document;
 use cover_core::{counts_of_run, cover_bytes};
 use outage_schedule::Document;
@@ -23,6 +24,7 @@ pub(crate) fn text_of(
     match command {
         Command::Run => report_text(alloc, document),
         Command::Cover => cover_text(alloc, document),
+        Command::Load { .. } => line_text(alloc, document),
     }
 }
 

@@ -3,7 +3,9 @@
 
 mod answer;
 mod command;
+mod indexes;
 pub mod laws;
+mod load;
 mod memory;
 mod outside;
 mod reporting;

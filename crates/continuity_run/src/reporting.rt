@@ -98,7 +98,7 @@ pub(crate) fn report_of<S: Service + Drop>(
         alerts,
         ..
     } = journal_of(alloc, service)?;
-    let tables = tables_of(alloc, base, entries.as_slice())?;
+    let tables = tables_of(alloc, base, entries.as_slice(), &[])?;
     Ok(Report {
         alerts: behind(alloc, alerts.into_vec(), before.alerts)?,
         blocked: behind(alloc, blocked.into_vec(), before.blocked)?,

@@ -9,6 +9,7 @@ ghost use Rattle.continuity_run.specs.meaning.Headline.{Headline};
 ghost use Rattle.continuity_run.specs.RunLaws.{RunsHold};
 ghost use Rattle.continuity_run.specs.Runs.{HasRun, IsRunOf, IsRunOfSome};
 
+use crate::indexes::indexes_of;
 use crate::reporting::report_of;
 use crate::store::{Store, store_of};
 use auto_bounds::AutoRule;
@@ -27,7 +28,7 @@ use run_laws::stored_laws::{
     answers_are_right, blocks_are_answered, blocks_stay_apart, horizons_are_told,
     incarnations_are_stored,
 };
-use same_laws::laws::runs_are_same;
+use same_laws::laws::{runs_are_same, runs_are_scripted};
 use server_model::laws::runs_serial;
 use service_calls::Service;
 use service_core::OneService;
@@ -110,6 +111,7 @@ fn runs_hold()
     runs_are_fresh();
     reports_are_once();
     runs_are_same();
+    runs_are_scripted();
     outcomes_are_stored();
     answers_are_right();
     horizons_are_told();
@@ -141,12 +143,13 @@ pub fn run_document(alloc: Global, document: Document) -> Result<(Clients, Repor
         clients,
         schedule,
     } = document;
+    let indexes = indexes_of(alloc, tables.as_slice())?;
     let Store {
         disk,
         opened,
         before,
-    } = store_of(alloc, tables, sequences, &image)?;
-    let service = OneService::new(alloc, disk, grants_of(of.keep));
+    } = store_of(alloc, tables, sequences, image)?;
+    let service = OneService::indexed(alloc, disk, grants_of(of.keep), indexes);
     let ran = run_all(
         alloc,
         &of,

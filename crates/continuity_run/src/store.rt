@@ -103,48 +103,36 @@ fn created(alloc: Global, base: Base) -> Result<Store, NoMemory>
     }
 }
 
-/// What the store of this disk has.
-fn before_on(alloc: Global, disk: &mut MemDisk) -> Result<Before, NoMemory>
+/// What the store of this disk has, and whether it was opened.
+fn looked_at(alloc: Global, disk: &mut MemDisk) -> Result<(Before, bool), NoMemory>
     requires untroubled { IsUntroubled (mem_state disk.old) }
     requires whole { (place : ℕ) → journal_of (mem_state disk.old).now.seen ≡ Err place → ⊥ }
-    ensures counts { IfOk result (λ before. CountsOf (journal_of (mem_state disk.old).now.seen) before) }
+    ensures counts { IfOk result (λ found. CountsOf (journal_of (mem_state disk.old).now.seen) found.0) }
+    ensures opened { IfOk result (λ found. found.1 ≡ is_opened (so_far_of (mem_state disk.old).now.seen)) }
     ensures only_reads { OnOk result (OnlyReads ⊥ (mem_state disk.old) (mem_state disk.new)) }
 {
-    match Log::read(alloc, disk) {
-        Ok(journal) => Ok(Before {
-            entries: journal.entries.len(),
-            blocked: journal.blocked.len(),
-            alerts: journal.alerts.len(),
-        }),
+    match Log::look(alloc, disk) {
+        Ok((journal, is_opened)) => {
+            let before = Before {
+                entries: journal.entries.len(),
+                blocked: journal.blocked.len(),
+                alerts: journal.alerts.len(),
+            };
+            Ok((before, is_opened))
+        }
         Err(LogFault::NoMemory) => Err(NoMemory),
         Err(LogFault::Stopped) => unreachable!(),
         Err(LogFault::Damaged(_)) => unreachable!(),
     }
 }
 
-/// Whether the store of this disk was opened.
-fn opened_on(alloc: Global, disk: &mut MemDisk) -> Result<bool, NoMemory>
-    requires untroubled { IsUntroubled (mem_state disk.old) }
-    requires whole { (place : ℕ) → journal_of (mem_state disk.old).now.seen ≡ Err place → ⊥ }
-    ensures opened { IfOk result (λ opened. opened ≡ is_opened (so_far_of (mem_state disk.old).now.seen)) }
-    ensures only_reads { OnOk result (OnlyReads ⊥ (mem_state disk.old) (mem_state disk.new)) }
+/// The store of an image, whose bytes are the disk's from then on.
+fn pictured(alloc: Global, image: Image) -> Result<Store, NoMemory>
+    requires { (place : ℕ) → journal_of image ≡ Err place → ⊥ }
+    ensures { IfOk result (λ store. (base : Start) → IsStoreOf base (Some image) store) }
 {
-    match Log::was_opened(alloc, disk) {
-        Ok(opened) => Ok(opened),
-        Err(LogFault::NoMemory) => Err(NoMemory),
-        Err(LogFault::Stopped) => unreachable!(),
-        Err(LogFault::Damaged(_)) => unreachable!(),
-    }
-}
-
-/// The store of an image.
-fn pictured(alloc: Global, image: &Image) -> Result<Store, NoMemory>
-    requires { (place : ℕ) → journal_of image.now ≡ Err place → ⊥ }
-    ensures { IfOk result (λ store. (base : Start) → IsStoreOf base (Some image.now) store) }
-{
-    let mut disk = MemDisk::of(alloc, image.as_slice())?;
-    let opened = opened_on(alloc, &mut disk)?;
-    let before = before_on(alloc, &mut disk)?;
+    let mut disk = MemDisk::over(alloc, image.into_vec())?;
+    let (before, opened) = looked_at(alloc, &mut disk)?;
     Ok(Store {
         disk,
         opened,
@@ -157,7 +145,7 @@ pub(crate) fn store_of(
     alloc: Global,
     tables: DocTables,
     sequences: DocSequences,
-    image: &Option<Image>,
+    image: Option<Image>,
 ) -> Result<Store, NoMemory>
     requires tables { IsTrue (list_all is_table tables) }
     requires table_names { IsTrue (have_distinct_keys bytes_eq table_name tables) }
@@ -165,8 +153,8 @@ pub(crate) fn store_of(
     requires sequences { IsTrue (list_all is_sequence sequences) }
     requires sequence_names { IsTrue (have_distinct_keys bytes_eq sequence_name sequences) }
     requires few_sequences { length sequences ≤ 32 }
-    requires begins { IsTrue (is_begin tables sequences image.now) }
-    ensures { IfOk result (IsStoreOf (record { tables = map base_table tables; sequences = map base_sequence sequences }) image.now) }
+    requires begins { IsTrue (is_begin tables sequences image) }
+    ensures { IfOk result (IsStoreOf (record { tables = map base_table tables; sequences = map base_sequence sequences }) image) }
 {
     if let Some(image) = image {
         return pictured(alloc, image);

@@ -1,16 +1,18 @@
 //! The top call: from the words and the bytes in to the bytes out.
-ghost use Rattle.std.specs.Prelude.{◌≡◌, ◌⊎◌, Err, IfOk, IfErr, IsErrOf, None, OnOk, Some};
+ghost use Rattle.std.specs.Prelude.{◌≡◌, ◌⊎◌, ℕ, false, Err, IfOk, IfErr, IsErrOf, None, OnOk, Some};
 ghost use Rattle.continuity_run.specs.Causes.{Rose};
 ghost use Rattle.doc_reader.specs.Keeping.{IsDocument};
 ghost use Rattle.doc_reader.specs.meaning.Documents.{document_at};
-ghost use Rattle.continuity_run.specs.Words.{command_of as command_of_def};
-ghost use Rattle.continuity_run.specs.meaning.Clauses.{Tells, IsDone, IsRead};
-ghost use Rattle.continuity_run.specs.Clauses.{IsCut, IsRefused, Writes, WritesFront, IfDocument, IsBefore, IsReply, UnlessRead};
-ghost use Rattle.continuity_run.specs.Complete.{IsFaultless};
+ghost use Rattle.continuity_run.specs.Words.{command_of as command_of_def, reads_source};
+ghost use Rattle.continuity_run.specs.LoadWords.{HasLoadNumbers};
+ghost use Rattle.continuity_run.specs.meaning.Clauses.{Tells, IsDone, IsAnswered, LoadIsDone, IsRead};
+ghost use Rattle.continuity_run.specs.Clauses.{IsCut, IsAnsweredInPart, IsRefused, Writes, WritesFront, IfDocument, IsBefore, IsReply, UnlessRead, EndsAtSink, LoadIsCut};
+ghost use Rattle.continuity_run.specs.Complete.{IsFaultless, IsFaultlessOn};
 ghost use Rattle.continuity_run.specs.InnerEnds.{ended_as, IsWritten};
 
 use crate::answer::text_of;
 use crate::command::Command;
+use crate::load::load_text;
 use crate::outside::{Sink, Source};
 use crate::whole::{ReadError, read_to_limit, write_whole};
 use crate::words::command_of;
@@ -117,9 +119,57 @@ fn respond<K: Sink>(alloc: Global, command: Command, bytes: Vec<u8>, sink: &mut 
     write_answer(answer(alloc, command, read), sink)
 }
 
-/// Carries out a command. Each reads a document from the source and runs its clients' scripts under
-/// its schedule. `run` writes the report to the sink as compact JSON, and `cover` how many calls of
-/// each report were shown and protected. The words are looked at first, which wants memory; then the
+/// Reads a document, and tells of it what the command tells.
+fn tell_of_read<S: Source, K: Sink>(
+    alloc: Global,
+    command: Command,
+    source: &mut S,
+    sink: &mut K,
+) -> Status
+    ensures words { result ≡ Status.Words → ⊥ }
+    ensures read { result ≡ Status.Read → Rose (S.faults source.old) (S.faults source.new) }
+    ensures kept { UnlessRead result (S.faults source.new ≡ S.faults source.old) }
+    ensures write { result ≡ Status.Write → Rose (K.faults sink.old) (K.faults sink.new) }
+    ensures document { IfDocument result (IsRefused (S.left source.old) (S.left source.new)) }
+    ensures done { result ≡ Status.Done → IsAnswered command (S.left source.old) (S.left source.new)
+        (K.held sink.old) (K.held sink.new) }
+    ensures cut { result ≡ Status.Write → IsAnsweredInPart command (S.left source.old) (S.left source.new)
+        (K.held sink.old) (K.held sink.new) }
+    ensures complete { IsFaultlessOn (S.left source.old)
+        (S.faults source.old) (S.faults source.new) (K.faults sink.old) (K.faults sink.new)
+        → (result ≡ Status.Done) ⊎ (result ≡ Status.NoMemory) }
+    ensures untouched { IsBefore result → sink.new ≡ sink.old }
+{
+    let bytes = match read_input(alloc, source) {
+        Ok(bytes) => bytes,
+        Err(ReadError::NoMemory) => return Status::NoMemory,
+        Err(ReadError::Failed) => return Status::Read,
+    };
+    respond(alloc, command, bytes, sink)
+}
+
+/// Makes the document of these numbers, and writes the line of its report.
+fn tell_load<K: Sink>(alloc: Global, seed: u64, clients: u64, requests: u64, sink: &mut K) -> Status
+    requires { HasLoadNumbers clients requests }
+    ensures done { result ≡ Status.Done → LoadIsDone seed clients requests (K.held sink.old) (K.held sink.new) }
+    ensures cut { result ≡ Status.Write → LoadIsCut seed clients requests (K.held sink.old) (K.held sink.new) }
+    ensures write { result ≡ Status.Write → Rose (K.faults sink.old) (K.faults sink.new) }
+    ensures untouched { IsBefore result → sink.new ≡ sink.old }
+    ensures others { EndsAtSink result }
+{
+    let Ok(text) = load_text(alloc, seed, clients, requests) else {
+        return Status::NoMemory;
+    };
+    match write_whole(sink, text.as_slice()) {
+        Ok(()) => Status::Done,
+        Err(_) => Status::Write,
+    }
+}
+
+/// Carries out a command. `run` and `cover` read a document from the source and run its clients'
+/// scripts under its schedule: `run` writes the report to the sink as compact JSON, and `cover` how
+/// many calls of each report were shown and protected. `load` makes its document of three numbers,
+/// and writes a line of counts. The words are looked at first, which may want memory; then the
 /// source is read, to one byte past the limit of 8,388,608 bytes at most; then the document is
 /// judged. Memory is proportional to the input, and the cost of reading, judging and writing is
 /// n log n in it.
@@ -132,7 +182,7 @@ pub fn continuity<S: Source, K: Sink>(
     // The words are those of no command, which want of memory may hide, and then the source is unread.
     ensures words { result ≡ Status.Words → command_of_def words.now ≡ None }
     ensures commands { command_of_def words.now ≡ None → (result ≡ Status.Words) ⊎ (result ≡ Status.NoMemory) }
-    ensures unread { command_of_def words.now ≡ None → source.new ≡ source.old }
+    ensures unread { reads_source (command_of_def words.now) ≡ false → source.new ≡ source.old }
 
     // The source or the sink failed, and a source that failed is told of, not hidden as want of memory.
     ensures read { result ≡ Status.Read → Rose (S.faults source.old) (S.faults source.new) }
@@ -142,8 +192,8 @@ pub fn continuity<S: Source, K: Sink>(
     // The bytes are no document, and this is why.
     ensures document { IfDocument result (IsRefused (S.left source.old) (S.left source.new)) }
 
-    // The sink took the text of the command, or a front of it: of a report with its headline, or of
-    // how many of its calls were protected.
+    // The sink took the text of the command, or a front of it: of a report with its headline, of how
+    // many of its calls were protected, or of the counts of a load.
     ensures done { (command : Command) → command_of_def words.now ≡ Some command
         → result ≡ Status.Done
         → IsDone command (S.left source.old) (S.left source.new)
@@ -152,6 +202,9 @@ pub fn continuity<S: Source, K: Sink>(
         → result ≡ Status.Write
         → IsCut command (S.left source.old) (S.left source.new)
         (K.held sink.old) (K.held sink.new) }
+
+    // A load reads nothing, so there is no other end of it.
+    ensures loads { (seed clients requests : ℕ) → command_of_def words.now ≡ Some (Command.Load seed clients requests) → EndsAtSink result }
 
     // Where nothing is at fault there is an answer, but for want of memory.
     ensures complete { IsFaultless words.now (S.left source.old)
@@ -166,10 +219,13 @@ pub fn continuity<S: Source, K: Sink>(
         Ok(None) => return Status::Words,
         Err(NoMemory) => return Status::NoMemory,
     };
-    let bytes = match read_input(alloc, source) {
-        Ok(bytes) => bytes,
-        Err(ReadError::NoMemory) => return Status::NoMemory,
-        Err(ReadError::Failed) => return Status::Read,
-    };
-    respond(alloc, command, bytes, sink)
+    match command {
+        Command::Run => tell_of_read(alloc, Command::Run, source, sink),
+        Command::Cover => tell_of_read(alloc, Command::Cover, source, sink),
+        Command::Load {
+            seed,
+            clients,
+            requests,
+        } => tell_load(alloc, seed, clients, requests, sink),
+    }
 }

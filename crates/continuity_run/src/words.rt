@@ -1,21 +1,53 @@
 //! The words of the command line, which `clap` judges.
-ghost use Rattle.std.specs.Prelude.{◌≡◌, IfOk, option_and_then, option_map};
+ghost use Rattle.std.specs.Prelude.{◌≡◌, IfOk, IfSome, option_and_then, option_map};
 ghost use Rattle.std.specs.List.{list_any};
 ghost use Rattle.clap.specs.Words.{app_of};
 ghost use Rattle.continuity_run.specs.Words.{command_named as command_named_def, command_of as command_of_def};
-ghost use Rattle.continuity_run.specs.InnerWords.{begins_with_hyphen, program};
+ghost use Rattle.continuity_run.specs.LoadWords.{load_in as load_in_def, HasItsNumbers};
+ghost use Rattle.continuity_run.specs.InnerWords.{begins_with_hyphen, named_in, program};
 
 use crate::command::Command;
+use crate::load::load_of;
 use clap::Command as Line;
 use clap::error::ErrorKind;
 use std::alloc::{AllocError, Global};
 use svc_values::NoMemory;
 
-/// The command that the words are, if they are one. A word that begins with `-` is of none, and of
-/// the
-/// others `clap` judges, which wants memory before it looks at a word.
+/// The command that the words are, if they are one: `load` has three numbers, and of all others
+/// `clap` judges.
+#[tactic(auto, using(crate::proofs::LoadWords::others_named))]
 pub(crate) fn command_of(alloc: Global, words: &[String]) -> Result<Option<Command>, NoMemory>
-    ensures { IfOk result (λ command. command ≡ command_of_def words.now) }
+    ensures commands { IfOk result (λ command. command ≡ command_of_def words.now) }
+    ensures within { IfOk result (λ command. IfSome command HasItsNumbers) }
+{
+    match words {
+        [name, seed, clients, requests] => Ok(load_in(
+            name.as_str(),
+            seed.as_str(),
+            clients.as_str(),
+            requests.as_str(),
+        )),
+        _ => named_command(alloc, words),
+    }
+}
+
+/// The command of four words, if the first one is `load`.
+fn load_in(name: &str, seed: &str, clients: &str, requests: &str) -> Option<Command>
+    ensures made { result ≡ load_in_def name.now seed.now clients.now requests.now }
+    ensures within { IfSome result HasItsNumbers }
+{
+    if name == "load" {
+        load_of(seed, clients, requests)
+    } else {
+        None
+    }
+}
+
+/// The command that one word names. A word that begins with `-` is of none, and of the others `clap`
+/// judges, which wants memory before it looks at a word.
+fn named_command(alloc: Global, words: &[String]) -> Result<Option<Command>, NoMemory>
+    ensures commands { IfOk result (λ command. command ≡ named_in words.now) }
+    ensures within { IfOk result (λ command. IfSome command HasItsNumbers) }
 {
     if any_hyphen(words) {
         return Ok(None);
@@ -38,8 +70,9 @@ fn any_hyphen(words: &[String]) -> bool
 
 /// The command of this name.
 fn command_named(name: Option<&str>) -> Option<Command>
-    ensures { result
+    ensures named { result
         ≡ option_and_then command_named_def (option_map (λ name. name.now) name.entry) }
+    ensures within { IfSome result HasItsNumbers }
 {
     match name {
         Some("run") => Some(Command::Run),

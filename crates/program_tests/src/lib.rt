@@ -1,5 +1,7 @@
-//! Tests of the top call over sources and sinks in memory that fail.
+//! Tests of the top call over sources and sinks in memory that fail, or go byte by byte.
 #![tactic(auto)]
 
 #[cfg(test)]
 mod failing;
+#[cfg(test)]
+mod piecewise;

@@ -10,6 +10,7 @@ use Rattle.continuity_run.specs.declared.command.Command.{Command}
 use Rattle.continuity_run.specs.declared.command.Command.TheVariants as command
 use Rattle.doc_reader.specs.meaning.Documents.{document_at, limit}
 use Rattle.continuity_run.specs.meaning.Headline.{Headline}
+use Rattle.continuity_run.specs.meaning.Load.{IsLined, IsLoaded}
 use Rattle.report_text.specs.meaning.Report.{report_value}
 use Rattle.cover_core.specs.meaning.Text.{cover_value}
 
@@ -33,6 +34,7 @@ pub record IsCovered (document : Document) (text : List ℕ) : Type 0 where
 abbrev pub Tells : Command → Document → List ℕ → Type 0
 Tells command.Run document text = IsReported document text
 Tells command.Cover document text = IsCovered document text
+Tells (command.Load seed clients requests) document text = IsLined document text
 
 -- The bytes are a document, and the text is what the command tells of it.
 pub record IsAnswer (command : Command) (bytes text : List ℕ) : Type 0 where
@@ -51,10 +53,22 @@ pub record IsRead (left_before left_after : Option (List ℕ)) (bytes : List ℕ
   pub judged : IsJudged left_before bytes
 
 -- what was read is a document, and the sink took the text that the command tells of it
-pub record IsDone (command : Command)
+pub record IsAnswered (command : Command)
     (left_before left_after held_before held_after : Option (List ℕ)) : Type 0 where
   pub bytes : List ℕ
   pub text : List ℕ
   pub read : IsRead left_before left_after bytes
   pub answer : IsAnswer command bytes text
   pub wrote : Appends held_before held_after text
+
+-- the document of these numbers was made, and the sink took the line of its report
+pub record LoadIsDone (seed clients requests : ℕ) (held_before held_after : Option (List ℕ)) : Type 0 where
+  pub text : List ℕ
+  pub loaded : IsLoaded seed clients requests text
+  pub wrote : Appends held_before held_after text
+
+-- Each command is done with a document that was read, but for `load`, which makes its own.
+abbrev pub IsDone : Command → Option (List ℕ) → Option (List ℕ) → Option (List ℕ) → Option (List ℕ) → Type 0
+IsDone (command.Load seed clients requests) left_before left_after held_before held_after = LoadIsDone seed clients requests held_before held_after
+IsDone command.Run left_before left_after held_before held_after = IsAnswered command.Run left_before left_after held_before held_after
+IsDone command.Cover left_before left_after held_before held_after = IsAnswered command.Cover left_before left_after held_before held_after

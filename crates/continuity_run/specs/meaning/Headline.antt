@@ -14,6 +14,7 @@ use Rattle.run_clauses.specs.meaning.Same.{same}
 use Rattle.run_clauses.specs.meaning.Serial.{IsSerial, printed_tables}
 use Rattle.run_clauses.specs.meaning.ServiceBase.{sequences_of}
 use Rattle.run_clauses.specs.meaning.Stored.{stored}
+use Rattle.script_clauses.specs.meaning.Scripted.{scripted}
 use Rattle.server_model.specs.meaning.SetAside.{SetAside, ends_in}
 use Rattle.shown_clauses.specs.meaning.Caused.{caused}
 use Rattle.shown_clauses.specs.meaning.Legal.{legal_of}
@@ -60,6 +61,8 @@ pub record Headline (document : Document) (report : Report) : Type 0 where
   -- with the calls of its script, the answers and kept values that its client was shown, and the settings of its request, where no two answers that
   -- were compared have one digest by chance
   pub same_so : IsTrue (no_clash document report) → IsTrue (same document report)
+  -- whatever digests there are, with a stretch of its script, and the settings that its request has where that begins
+  pub scripted_so : IsTrue (scripted document report)
   -- each outcome that was told is the stored one, by the table and the horizon of then; blocks and entries never share an identifier
   pub stored_so : IsTrue (stored document report)
   -- each request failed for the cause that its steps show, and no other failed

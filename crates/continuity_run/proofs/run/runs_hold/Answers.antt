@@ -11,6 +11,7 @@ returns c = record {
   fresh = c.runs_are_fresh.ensures;
   once = c.reports_are_once.ensures;
   same = c.runs_are_same.ensures;
+  scripted = c.runs_are_scripted.ensures;
   outcomes = c.outcomes_are_stored.ensures;
   answers = c.answers_are_right.ensures;
   horizons = c.horizons_are_told.ensures;
