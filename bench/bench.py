@@ -136,6 +136,21 @@ def selects_document(selects, rows, column):
     return one_request([groups(rows)], [[["select", "t", column, "eq", found(n)]] for n in range(selects)] + [[["commit"]]])
 
 
+def many_selects_document(selects, rows, index):
+    """Selects of 32 rows by a column, two of them in a call: what does an index of the column save?"""
+    select = lambda n: ["select", "t", "of", "eq", n % (rows // 32)]
+    script = [[select(2 * n), select(2 * n + 1)] for n in range(selects // 2)]
+    return one_request([{**groups(rows), "index": index}], script + [[["commit"]]])
+
+
+def inserts_document(inserts, rows, index):
+    """Inserts into a table of so many rows, each its own transaction: what does keeping indexes cost a write?"""
+    script = [[["insert", "t", [rows + n, n // 32, f"row {n:08d}"]], ["commit"]] for n in range(inserts)]
+    columns = [["id", "int"], ["of", "int"], ["name", "text"]]
+    filled = [[key, key // 32, f"row {key:08d}"] for key in range(rows)]
+    return one_request([{"name": "t", "columns": columns, "rows": filled, "index": index}], script)
+
+
 def shared_document(readers, rounds, rows):
     """So many clients that each read a whole table, change a row of it and commit, each beside the others: one of them commits in
     each round, and the others conflict."""
@@ -312,6 +327,12 @@ CASES = {
     "beside": lambda: document_case("reads beside commits of others", beside_document, [(512, 64, 10_000), (512, 1, 10_000)]),
     "sums": lambda: document_case("sums of a whole table", sums_document, [(512, 1_000), (512, 10_000)]),
     "selects": lambda: document_case("selects of 32 rows", selects_document, [(1_000, 10_000, "of"), (1_023, 1_000, "of")]),
+    "indexed": lambda: document_case(
+        "selects without an index, and with one", many_selects_document, [(2_000, 10_000, []), (2_000, 10_000, ["of"])]
+    ),
+    "inserts": lambda: document_case(
+        "inserts without an index, and with two", inserts_document, [(1_000, 9_000, []), (1_000, 9_000, ["of", "name"])]
+    ),
     "keys": lambda: document_case("selects of one row by its key", selects_document, [(1_000, 10_000, "id"), (1_023, 1_000, "id")]),
     "shared": lambda: document_case("sessions that read one table and commit", shared_document, [(8, 32, 1_000), (8, 32, 10_000)]),
     "events": lambda: document_case("events of a schedule", events_document, [(1_000,), (10_000,), (100_000,)], 5),

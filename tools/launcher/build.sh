@@ -287,8 +287,8 @@ unproved() {
     clean_up_at_the_end
     if lacks || ! make_room; then exit 70; fi
     say "UNPROVED: this report will be that of a program of which nothing is proved; it is built anew each time, in about two minutes"
-    # (rt takes what standard input gives until it is silent for two seconds)
-    cat >"$room/document"
+    # (rt takes what standard input gives until it is silent for two seconds; a load reads nothing)
+    if [ "$1" = load ]; then : >"$room/document"; else cat >"$room/document"; fi
     set -m
     # (it is compiled, and interpreted for one step only, since the interpreter cannot read arguments)
     (cd "$top/crates/continuity" && TMPDIR=$room/tmp exec rt try --steps 1 -- "$@") <"$room/document" 2>"$room/told" &
