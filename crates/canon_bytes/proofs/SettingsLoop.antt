@@ -3,8 +3,7 @@ use Rattle.std.proofs.Common.{◌≡◌, ℕ, suc, List, [], ◌∷◌, ◌++◌
 use Rattle.std.specs.Prelude.{Some}
 use Rattle.std.proofs.lemmas.List.{append-nil}
 use Rattle.svc_values.specs.declared.value.Value.{Value}
-use Rattle.svc_values.specs.meaning.SettingsList.{NamedValues}
-use Rattle.svc_values.specs.SettingsList.{last_name}
+use Rattle.svc_values.specs.meaning.SettingsList.{NamedValues, last_name}
 use Rattle.svc_values.proofs.Offered.{last_name-last}
 use Rattle.canon_bytes.specs.declared.fault.Fault.{Fault}
 use Rattle.canon_bytes.specs.declared.fault.ReadFault.{ReadFault}

@@ -1,7 +1,8 @@
 //! Settings.
 ghost use Rattle.std.specs.Prelude.{◌≡◌, ◌++◌, None, length, IfOk, OnOk};
 ghost use Rattle.std.specs.List.{flat_map, AllByRecursion};
-ghost use Rattle.svc_values.specs.SettingsList.{AreSettings, AllBelow, last_name};
+ghost use Rattle.svc_values.specs.SettingsList.{AreSettings, AllBelow};
+ghost use Rattle.svc_values.specs.meaning.SettingsList.{last_name};
 ghost use Rattle.canon_bytes.specs.meaning.SettingsBytes.{spell_setting, spell_settings, setting_at, settings_behind, settings_at};
 ghost use Rattle.canon_bytes.specs.SettingsBytes.{FitsSetting, FitsSettings};
 ghost use Rattle.canon_bytes.specs.Reading.{IsReading};

@@ -11,8 +11,7 @@ use Rattle.svc_values.specs.declared.tables.PlainRow.{PlainRow}
 use Rattle.stmt_meaning.specs.meaning.Meaning.{Meant, mean}
 use Rattle.stmt_meaning.specs.meaning.Serial.{Replays, Transaction, Serial}
 use Rattle.svc_values.specs.meaning.Same.{same_answers}
-use Rattle.stmt_meaning.specs.meaning.SerialTest.{is_nil}
-use Rattle.stmt_meaning.specs.SerialTest.{if_replayed, replayed, if_commits, transaction_after, and_then, serial_after}
+use Rattle.stmt_meaning.specs.meaning.SerialTest.{is_nil, if_replayed, replayed, if_commits, transaction_after, and_then, serial_after}
 use Rattle.svc_values.specs.meaning.SettingsList.{NamedValues}
 
 nil_is : (draws : List Draw) → is_nil draws ≡ true → draws ≡ []

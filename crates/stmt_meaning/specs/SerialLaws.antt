@@ -13,7 +13,7 @@ use Rattle.stmt_meaning.specs.Reads.{ReadsStand}
 use Rattle.stmt_meaning.specs.Rerun.{CallAt, RanAt, AreOrdered, at_once, pieces_of, reads_of}
 use Rattle.stmt_meaning.specs.meaning.Serial.{Replays, Transaction, Serial}
 use Rattle.stmt_meaning.specs.Serial.{RunWhole, CommitLast}
-use Rattle.stmt_meaning.specs.SerialTest.{serial_after}
+use Rattle.stmt_meaning.specs.meaning.SerialTest.{serial_after}
 
 -- a serial run goes on by one entry
 abbrev pub SerialGoesOn : Type 0

@@ -10,8 +10,8 @@ use Rattle.std.specs.List.{AllByRecursion, last_or}
 use Rattle.std.specs.List.Sorted.{IsStrictlySortedBy}
 use Rattle.std.proofs.lemmas.Cmp.{nat_list_cmp_total}
 use Rattle.svc_values.specs.declared.value.Value.{Value}
-use Rattle.svc_values.specs.meaning.SettingsList.{NamedValues, put_setting, rises}
-use Rattle.svc_values.specs.SettingsList.{AreSettings, AllBelow, last_name}
+use Rattle.svc_values.specs.meaning.SettingsList.{NamedValues, put_setting, rises, last_name}
+use Rattle.svc_values.specs.SettingsList.{AreSettings, AllBelow}
 
 above_from_below : (a b : List ℕ) → slice_cmp nat_cmp a b ≡ Less → slice_cmp nat_cmp b a ≡ Greater
 above_from_below a b h = nat_list_cmp_total.antisymm b a ∙ ap ordering_reverse h

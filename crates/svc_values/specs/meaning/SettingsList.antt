@@ -3,7 +3,8 @@ use Rattle.std.specs.Prelude.{ℕ, Bool, true, ◌&&◌, nat_eq, List, Option, S
 use Rattle.std.specs.Ordering.{nat_cmp, is_lt}
 use Rattle.std.specs.Cmp.Lexicographic.{slice_cmp, pointwise}
 use Rattle.std.specs.BTreeMap.{insert_entry, is_at}
-use Rattle.std.specs.Map.{lookup}
+use Rattle.std.specs.List.{last_or}
+use Rattle.std.specs.Map.{keys_of, lookup}
 use Rattle.svc_values.specs.declared.value.Value.{Value}
 use Rattle.svc_values.specs.declared.call.Call.{Call}
 use Rattle.svc_values.specs.declared.call.Call.TheVariants as call
@@ -18,6 +19,10 @@ put_setting settings name value = insert_entry (slice_cmp nat_cmp) settings name
 
 abbrev pub setting_of : NamedValues → List ℕ → Option Value
 setting_of settings name = lookup (is_at (slice_cmp nat_cmp name)) settings
+
+-- the last name, if there is one
+abbrev pub last_name : NamedValues → Option (List ℕ)
+last_name settings = last_or None (keys_of settings)
 
 -- whether a name is above the one before it, if there is one before it
 abbrev pub rises : Option (List ℕ) → List ℕ → Bool

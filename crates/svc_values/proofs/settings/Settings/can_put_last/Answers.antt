@@ -1,7 +1,7 @@
 use Rattle.std.proofs.Common.{◌≡◌, ◌∙◌, ap, sym, subst}
 use Rattle.std.specs.Prelude.{Some}
-use Rattle.svc_values.specs.meaning.SettingsList.{rises}
-use Rattle.svc_values.specs.SettingsList.{AreSettings, last_name}
+use Rattle.svc_values.specs.meaning.SettingsList.{rises, last_name}
+use Rattle.svc_values.specs.SettingsList.{AreSettings}
 use Rattle.svc_values.proofs.SettingsOrder.{last_name-at_end, AllBelow-from_last, rises-from_AllBelow}
 use Rattle.svc_values.proofs.settings.Settings.can_put_last.Goals as goal
 
