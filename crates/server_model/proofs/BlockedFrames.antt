@@ -31,7 +31,7 @@ use Rattle.server_model.specs.Serve.{Commits, InReplay, Blocks, Conflicts, Store
 use Rattle.server_model.specs.Runs.{is_answered}
 use Rattle.server_model.specs.meaning.Items.{thing_of, with_answer, without_answer}
 use Rattle.server_model.specs.meaning.NewValues.{meets_with}
-use Rattle.server_model.specs.meaning.Walk.{Walk, next_of, transaction_in, meaning}
+use Rattle.server_model.specs.meaning.Walk.{Walk, next_of, meaning}
 use Rattle.server_model.specs.meaning.Legal.{thing_holds, means_commit, may_be_blocked}
 use Rattle.server_model.proofs.Deeds.{At}
 use Rattle.server_model.proofs.PlainAnswers.{work-ending}
@@ -51,8 +51,8 @@ either-out here x (inr is) = or-right _ _ is
 module _ (base : Base) (core : Core) (here : Walk) (sess : Sess) (at : At base core here sess) (tracks : Tracks here.numbers core.opening) (number : next_of here (session_of sess.ltxid) ≡ sess.ltxid) (out : BlocksOut core here) where
   module _ (lives : sess.life ≡ Begun) (now : ℕ) (replay : Bool) (kept : List Draw) where
     means-here : (called : Call) (draws : List Draw) (meant : Meant) → mean core.base.shape (with_writes (committed core) sess.writes) sess.settings called draws ≡ Some meant → meaning base here (session_of sess.ltxid) called draws ≡ Some meant
-    means-here called draws meant means = ap (λ rows. mean base.shape rows (transaction_in here.sessions (session_of sess.ltxid)).settings called draws) (at.viewed.is (session_of sess.ltxid))
-        ∙ (λ i. mean (sym at.is i).shape (with_writes (at.committed i) (at.transaction lives i).writes) (at.transaction lives i).settings called draws) ∙ means
+    means-here called draws meant means =
+        (λ i. mean (sym at.is i).shape (with_writes (at.committed i) (at.transaction lives i).writes) (at.transaction lives i).settings called draws) ∙ means
 
     may-block : (opening : Opening) (statements : List Statement) (commit : Bool) (draws left : List Draw) (meant : Meant)
         → mean core.base.shape (with_writes (committed core) sess.writes) sess.settings (call.Work statements commit) draws ≡ Some meant → meant.rest ≡ [] → ends_committed meant.answers ≡ true

@@ -20,7 +20,6 @@ use Rattle.server_model.specs.Serve.{with_entry}
 use Rattle.server_model.specs.meaning.NewValues.{kept_by}
 use Rattle.server_model.specs.meaning.Walk.{Walk, Transaction, Performed, Ran, transaction_in, with_call, grown, ends, if_ended, if_commits, take_entry, with_numbers, after_deed, deed, with_meaning}
 use Rattle.server_model.proofs.Following.{found-same, found-other, draws-incarnation}
-use Rattle.server_model.proofs.Views.{Viewed}
 
 -- the open transaction of a session, as a walk has it
 abbrev pub transaction_of : Sess → Transaction
@@ -32,7 +31,6 @@ pub record At (base : Base) (core : Core) (here : Walk) (sess : Sess) : Type 0 w
   pub committed : here.committed ≡ committed core
   pub stored : here.stored ≡ all_entries core
   pub transaction : sess.life ≡ Begun → transaction_in here.sessions (session_of sess.ltxid) ≡ transaction_of sess
-  pub viewed : Viewed here
 
 -- the walk behind a frame: where the store stands,
 pub record Stands (here : Walk) (core : Core) (rest : List Entry) (behind : Walk) : Type 0 where
@@ -64,8 +62,7 @@ module _ (base : Base) (core : Core) (here : Walk) (sess : Sess) (at : At base c
 
   -- it means what the server says
   pub ran : mean core.base.shape (with_writes (committed core) sess.writes) sess.settings called draws ≡ Some meant → deed base here (Some performed) ≡ Ran performed meant
-  ran means = ap (with_meaning performed) (ap (λ rows. mean base.shape rows (transaction_in here.sessions (session_of sess.ltxid)).settings called draws) (at.viewed.is (session_of sess.ltxid))
-      ∙ (λ i. mean (sym at.is i).shape (with_writes (at.committed i) (at.transaction lives i).writes) (at.transaction lives i).settings called draws) ∙ means)
+  ran means = ap (with_meaning performed) ((λ i. mean (sym at.is i).shape (with_writes (at.committed i) (at.transaction lives i).writes) (at.transaction lives i).settings called draws) ∙ means)
 
   abbrev pub next : Transaction
   next = grown (committed core) (transaction_of sess) performed meant

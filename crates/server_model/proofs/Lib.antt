@@ -58,7 +58,6 @@ pub mod Takings
 pub mod ToldBlocked
 pub mod ToldFrames
 pub mod Tracking
-pub mod Views
 pub mod WalkBlocks
 pub mod WalkFrames
 pub mod WalkMoves

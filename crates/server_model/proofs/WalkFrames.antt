@@ -22,7 +22,6 @@ use Rattle.server_model.proofs.Stays.{serve_stays}
 use Rattle.server_model.proofs.Counts.{count}
 use Rattle.server_model.proofs.Numbers.{Mine, AllMine, Apart, AllOther, mine-at, Numbered}
 use Rattle.server_model.proofs.Following.{walk_behind, other-number, other-incarnation, above-number, life-same, life-other, next-same}
-use Rattle.server_model.proofs.Views.{Viewed, viewed-enters, viewed-behind}
 use Rattle.server_model.proofs.Deeds.{transaction_of, At, Stands}
 use Rattle.server_model.proofs.Followed.{Goes, Left, serve-goes}
 use Rattle.server_model.proofs.ToldFrames.{serve-life, serve-tells}
@@ -50,7 +49,6 @@ pub record Walks (history : List Happened) (server : Server) (rest : List Entry)
   pub held : NoStop server.core.opening.incarnation history → AllHeld walk lives server.sessions
   pub opens : IsTrue (is_running server.power) → NoStop server.core.opening.incarnation history → walk.numbers.incarnation ≡ server.core.opening.incarnation → walk.is_over ≡ false
   pub unseen : (s : SessionId) → Unseen server s → life_in lives s ≡ New
-  pub viewed : Viewed walk
 
 held-at : (walk : Walk) (lives : List (SessionId × Life)) (front back : List Sess) (sess : Sess) → AllHeld walk lives (front ++ sess ∷ back) → Held walk lives sess
 held-at walk lives [] back sess held = held.0
@@ -154,7 +152,6 @@ module _ (base : Base) (history : List Happened) (server : Server) (rest gained 
       committed = enters.committed ∙ walks.committed;
       stored = enters.stored ∙ walks.stored;
       transaction = λ begun. ap (λ l. transaction_in l (session_of old.ltxid)) enters.sessions ∙ held-old.0 begun;
-      viewed = viewed-enters walk (item_of 0 (Served (session_of old.ltxid) now frame told)) walks.viewed;
     }
 
     pub left : Left (entered walk (item_of 0 (Served (session_of old.ltxid) now frame told))) server.core rest core
@@ -215,7 +212,6 @@ module _ (base : Base) (history : List Happened) (server : Server) (rest gained 
                 (subst Apart turns.split numbered.apart) held new-held;
             opens = λ on ok same. goes.holds.over ∙ enters.over;
             unseen = unseen-then stays.incarnation;
-            viewed = viewed-behind base walk (Served (session_of old.ltxid) now frame told) walks.viewed;
           },
           ap (λ l. told_holds l hereW behindW (session_of old.ltxid) frame told) held-old.1 ∙ serve-tells hereW behindW (session_of old.ltxid) server.core old now frame core new told serve answered at.stored next,
         )
@@ -235,5 +231,4 @@ module _ (base : Base) (history : List Happened) (server : Server) (rest gained 
           held = λ ok. absurd (never ok);
           opens = λ on ok is. absurd (never ok);
           unseen = unseen-then same;
-          viewed = viewed-behind base walk (Served (session_of old.ltxid) now frame told) walks.viewed;
         }

@@ -27,7 +27,6 @@ use Rattle.server_model.proofs.Growth.{outcomes-entries}
 use Rattle.server_model.proofs.Counts.{count}
 use Rattle.server_model.proofs.Numbers.{AllMine, mine-at, Numbered}
 use Rattle.server_model.proofs.Following.{walk_behind, walked, next-same}
-use Rattle.server_model.proofs.Views.{same-parts}
 use Rattle.server_model.proofs.Deeds.{Stands}
 use Rattle.server_model.proofs.FollowedStops.{Gains, GainsNone, GainsOne, serve-gains, AllLater, none-stops, one-stops}
 use Rattle.server_model.proofs.ToldFrames.{ask-right}
@@ -56,17 +55,16 @@ record AskSame (walk behind : Walk) : Type 0 where
   stored : behind.stored ≡ walk.stored
   left : behind.left ≡ walk.left
   sessions : behind.sessions ≡ walk.sessions
-  views : behind.views ≡ walk.views
   incarnation : behind.numbers.incarnation ≡ walk.numbers.incarnation
   over : behind.is_over ≡ walk.is_over
 
 asked-same : (base : Base) (walk : Walk) (x : Ltxid) (judged : Verdict) → AskSame walk (walk_behind base walk (Asked x (Says (down_of judged))))
-asked-same base walk x verdict.BlockIt = record { committed = refl; stored = refl; left = refl; sessions = refl; views = refl; incarnation = refl; over = refl }
-asked-same base walk x verdict.AlreadyBlocked = record { committed = refl; stored = refl; left = refl; sessions = refl; views = refl; incarnation = refl; over = refl }
-asked-same base walk x (verdict.Committed completed) = record { committed = refl; stored = refl; left = refl; sessions = refl; views = refl; incarnation = refl; over = refl }
-asked-same base walk x (verdict.ServerAhead next) = record { committed = refl; stored = refl; left = refl; sessions = refl; views = refl; incarnation = refl; over = refl }
-asked-same base walk x (verdict.ClientAhead next) = record { committed = refl; stored = refl; left = refl; sessions = refl; views = refl; incarnation = refl; over = refl }
-asked-same base walk x (verdict.Forgotten horizon) = record { committed = refl; stored = refl; left = refl; sessions = refl; views = refl; incarnation = refl; over = refl }
+asked-same base walk x verdict.BlockIt = record { committed = refl; stored = refl; left = refl; sessions = refl; incarnation = refl; over = refl }
+asked-same base walk x verdict.AlreadyBlocked = record { committed = refl; stored = refl; left = refl; sessions = refl; incarnation = refl; over = refl }
+asked-same base walk x (verdict.Committed completed) = record { committed = refl; stored = refl; left = refl; sessions = refl; incarnation = refl; over = refl }
+asked-same base walk x (verdict.ServerAhead next) = record { committed = refl; stored = refl; left = refl; sessions = refl; incarnation = refl; over = refl }
+asked-same base walk x (verdict.ClientAhead next) = record { committed = refl; stored = refl; left = refl; sessions = refl; incarnation = refl; over = refl }
+asked-same base walk x (verdict.Forgotten horizon) = record { committed = refl; stored = refl; left = refl; sessions = refl; incarnation = refl; over = refl }
 
 asked-told : (base : Base) (lives : List (SessionId × Life)) (walk : Walk) (x : Ltxid) (judged : Verdict) → ask_holds walk x (Says (down_of judged)) ≡ true → told_from base lives walk (Asked x (Says (down_of judged)) ∷ []) ≡ true
 asked-told base lives walk x verdict.BlockIt is = and-true _ is
@@ -96,7 +94,6 @@ module _ (base : Base) (history : List Happened) (server : Server) (rest gained 
     held = λ ok. tt;
     opens = λ on ok is. off-running on;
     unseen = not-yet;
-    viewed = walks.viewed;
   }
     where
       both : (m n k : ℕ) → m ≤ n → n ≤ k → m ≤ k
@@ -118,7 +115,6 @@ module _ (base : Base) (history : List Happened) (server : Server) (rest gained 
     held = λ ok. tt;
     opens = λ on ok is. absurd (past walk.numbers.incarnation server.core.opening.incarnation walks.within is);
     unseen = not-yet;
-    viewed = walks.viewed;
   }
     where
       wider : (m n : ℕ) → m ≤ n → m ≤ n + 1
@@ -147,7 +143,6 @@ module _ (base : Base) (history : List Happened) (server : Server) (rest gained 
         ((λ begun. absurd (new-begun begun)), walks.unseen _ (inr (ap is_running on, (refl, next server.count))));
     opens = λ running ok is. walks.opens running (no_stop-left server.core.opening.incarnation history [] ok) is;
     unseen = not-yet;
-    viewed = walks.viewed;
   }
     where
       new-begun : New ≡ Begun → ⊥
@@ -172,7 +167,6 @@ module _ (base : Base) (history : List Happened) (server : Server) (rest gained 
     held = λ ok. held-without walk lives front back sess (subst (AllHeld walk lives) split (walks.held (no_stop-left server.core.opening.incarnation history [] ok)));
     opens = λ running ok is. walks.opens running (no_stop-left server.core.opening.incarnation history [] ok) is;
     unseen = walks.unseen;
-    viewed = walks.viewed;
   }
 
   asks : (x : Ltxid) (core : Core) (told : Telling) (power : Power) (said : Telling) (behind : Walk) → IsTrue (is_running server.power) → Outcomes server.core x core told → AskSame walk behind → core.entries ≡ server.core.entries ++ gained
@@ -191,7 +185,6 @@ module _ (base : Base) (history : List Happened) (server : Server) (rest gained 
         held = λ ok. held-same walk behind lives server.sessions same.sessions (walks.held (before ok));
         opens = λ on ok is. same.over ∙ walks.opens running (before ok) (sym same.incarnation ∙ is ∙ incarnation);
         unseen = not-yet incarnation;
-        viewed = same-parts walk behind same.committed same.views same.sessions walks.viewed;
       }
     where
       not-yet : core.opening.incarnation ≡ server.core.opening.incarnation → (s : SessionId) → Unseen (record server { power = power; core = core }) s → life_in lives s ≡ New
@@ -255,7 +248,7 @@ step base history _ server _ rest gained walk lives numbered after_numbered (Ans
   told = asked-told base lives walk x judged (ask-right server.core walk x _ _ walks.stored (IsTold judged by));
 }
 step base history _ server _ rest gained walk lives numbered after_numbered (HaltsInAsk x core told running asked) stops later grew walks = record {
-  walks = asks base history server rest gained walk lives numbered walks x core told Halted Stopped (walk_behind base walk (Asked x Stopped)) running asked (record { committed = refl; stored = refl; left = refl; sessions = refl; views = refl; incarnation = refl; over = refl }) grew;
+  walks = asks base history server rest gained walk lives numbered walks x core told Halted Stopped (walk_behind base walk (Asked x Stopped)) running asked (record { committed = refl; stored = refl; left = refl; sessions = refl; incarnation = refl; over = refl }) grew;
   told = refl;
 }
 step base history _ server _ rest gained walk lives numbered after_numbered (Reaps front back sess split) stops later grew walks = record { walks = reaps base history server rest gained walk lives numbered walks front back sess split grew; told = refl }

@@ -21,7 +21,6 @@ use Rattle.server_model.proofs.Growth.{outcomes-entries, serve_grows}
 use Rattle.server_model.proofs.NumberRuns.{moves_number, runs_number}
 use Rattle.server_model.proofs.Fronts.{moves_front}
 use Rattle.server_model.proofs.Following.{walk_behind, walked, walked-more}
-use Rattle.server_model.proofs.Views.{viewed-start}
 use Rattle.server_model.proofs.StoppedHistories.{and-left, and-right, and-both, stops-left, Later, later-left, later-more, later-none}
 use Rattle.server_model.proofs.WalkFrames.{Walks, cancel, same-within}
 use Rattle.server_model.proofs.WalkMoves.{lives_walked, off-running, no-gain, step}
@@ -80,7 +79,6 @@ runs-walk base _ _ sound Start stops rest final later is = record {
     held = λ ok. tt;
     opens = λ on ok same. off-running on;
     unseen = λ s unseen. refl;
-    viewed = viewed-start base final;
   };
   told = refl;
 }

@@ -37,15 +37,13 @@ abbrev pub begun : List (List ℕ × Value) → Transaction
 begun settings = record { settings = settings; at_start = settings; pieces = []; writes = []; reads = [] }
 
 -- `stored` are the entries so far, those of the time before included, and `left` those that are
--- still to come. `views` has of some sessions what their next call runs on, made by their calls
--- since the last entry. `blocked` was told uncommitted, or stood blocked at the start; `perhaps`
--- was carried by what a stop left without an answer.
+-- still to come. `blocked` was told uncommitted, or stood blocked at the start; `perhaps` was carried
+-- by what a stop left without an answer.
 pub record Walk : Type 0 where
   pub committed : List PlainRow
   pub stored : List Entry
   pub left : List Entry
   pub sessions : List (SessionId × Transaction)
-  pub views : List (SessionId × List PlainRow)
   pub blocked : List Ltxid
   pub perhaps : List Ltxid
   pub numbers : Numbers
@@ -58,7 +56,6 @@ walk_of base entries = record {
   stored = base.entries;
   left = entries;
   sessions = [];
-  views = [];
   blocked = base.blocked;
   perhaps = [];
   numbers = numbers_of base;
@@ -74,16 +71,6 @@ transaction_in (first ∷ rest) session = if same_session first.0 session then f
 abbrev pub with_transaction : List (SessionId × Transaction) → SessionId → Transaction → List (SessionId × Transaction)
 with_transaction [] session transaction = (session, transaction) ∷ []
 with_transaction (first ∷ rest) session transaction = if same_session first.0 session then (session, transaction) ∷ rest else first ∷ with_transaction rest session transaction
-
-abbrev pub view_in : List (SessionId × List PlainRow) → SessionId → Option (List PlainRow)
-view_in [] session = None
-view_in (first ∷ rest) session = if same_session first.0 session then Some first.1 else view_in rest session
-
-abbrev pub without_view : List (SessionId × List PlainRow) → SessionId → List (SessionId × List PlainRow)
-without_view views session = filter (λ one. not (same_session one.0 session)) views
-
-abbrev pub with_view : List (SessionId × List PlainRow) → SessionId → List PlainRow → List (SessionId × List PlainRow)
-with_view views session rows = (session, rows) ∷ without_view views session
 
 -- the number of the session's entries
 abbrev pub number_of : List Entry → SessionId → ℕ
@@ -131,16 +118,8 @@ pub data Deed : Type 0 where
   Ran : (performed : Performed) (meant : Meant) → Deed
 
 -- the transaction's own writes over what is committed
-abbrev pub made_view : Walk → SessionId → List PlainRow
-made_view walk session = with_writes walk.committed (transaction_in walk.sessions session).writes
-
-abbrev pub or_made : Walk → SessionId → Option (List PlainRow) → List PlainRow
-or_made walk session None = made_view walk session
-or_made walk session (Some rows) = rows
-
--- the same, as the walk has it where it has it
 abbrev pub view : Walk → SessionId → List PlainRow
-view walk session = or_made walk session (view_in walk.views session)
+view walk session = with_writes walk.committed (transaction_in walk.sessions session).writes
 
 abbrev pub meaning : Base → Walk → SessionId → Call → List Draw → Option Meant
 meaning base walk session called draws = mean base.shape (view walk session) (transaction_in walk.sessions session).settings called draws
@@ -197,13 +176,6 @@ abbrev pub if_commits : Bool → Walk → List Write → Walk
 if_commits false walk writes = walk
 if_commits true walk writes = let taken = take_entry walk.stored walk.left in record walk { committed = with_writes walk.committed writes; stored = taken.0; left = taken.1 }
 
--- An entry changes what is committed under every view. A transaction that ended leaves none, and
--- one that goes on has the rows that its call left.
-abbrev pub views_after : Bool → Bool → Walk → SessionId → List PlainRow → List (SessionId × List PlainRow)
-views_after true over walk session rows = []
-views_after false true walk session rows = without_view walk.views session
-views_after false false walk session rows = with_view walk.views session rows
-
 abbrev pub or_same : Numbers → Option Numbers → Numbers
 or_same numbers None = numbers
 or_same numbers (Some after) = after
@@ -217,10 +189,7 @@ after_deed base walk Meaningless = walk
 after_deed base walk (Ran performed meant) =
     let transaction = with_call walk performed meant in
     let stored = if_commits (ends_committed performed.answers) (with_numbers base walk performed) transaction.writes in
-    record stored {
-      sessions = with_transaction walk.sessions performed.session (if_ended (ends performed.answers) transaction);
-      views = views_after (ends_committed performed.answers) (ends performed.answers) walk performed.session meant.tables;
-    }
+    record stored { sessions = with_transaction walk.sessions performed.session (if_ended (ends performed.answers) transaction) }
 
 abbrev pub with_blocked : Walk → Ltxid → Walk
 with_blocked walk x = record walk { blocked = x ∷ walk.blocked }
@@ -242,7 +211,7 @@ if_nothing Meaningless walk called = walk
 if_nothing (Ran performed meant) walk called = walk
 
 abbrev pub after_thing : Walk → SessionId → Deed → Thing → Walk
-after_thing walk session did (Began settings) = record walk { sessions = with_transaction walk.sessions session (begun settings); views = without_view walk.views session }
+after_thing walk session did (Began settings) = record walk { sessions = with_transaction walk.sessions session (begun settings) }
 after_thing walk session did (MetBlock replay called) = record walk { numbers = unseen_in called walk.numbers }
 after_thing walk session did (TellsOutcome x outcome) = if_uncommitted walk x outcome
 after_thing walk session did (CallStopped replay called) = stopped (if_nothing did walk called)
