@@ -11,6 +11,10 @@ pub use Rattle.mutable_values.proofs.Histories.{found_name}
 pub use Rattle.mutable_values.proofs.Given.{found_passes}
 -- a value that is given is of the kind and name that is asked for
 pub use Rattle.mutable_values.proofs.Given.{gives_as_asked}
+-- a draw that asked for a reservation gives a value once it is made
+pub use Rattle.mutable_values.proofs.Given.{gives_once_reserved}
+-- sequences stay such over draws, and over reservations that may be made
+pub use Rattle.mutable_values.proofs.Staying.{sequences_stay}
 -- a change of one sequence: what is found afterwards, and that names and keeps stay
 pub use Rattle.mutable_values.proofs.Places.{change_of}
 pub use Rattle.mutable_values.proofs.Histories.{sequence_changed}

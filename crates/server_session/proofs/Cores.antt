@@ -53,6 +53,7 @@ line_stores core disk line log end (Ok done) fits adds = record {
     tables = fits.tables;
     book = record { sessions = fits.book.sessions; blocks = fits.book.blocks };
     source = record { incarnation = fits.source.incarnation; sequences = fits.source.sequences };
+    sequences = fits.sequences;
     current = fits.current;
   };
   book = refl;
@@ -86,6 +87,7 @@ block_stores core disk x book log end (Ok done) fits may says adds =
         tables = fits.tables;
         book = stands;
         source = record { incarnation = fits.source.incarnation; sequences = fits.source.sequences };
+        sequences = fits.sequences;
         current = fits.current;
       };
       book = says;
@@ -134,6 +136,7 @@ commit_stores core disk entry tables commits book log end (Ok done) fits may say
         tables = tables_after core fits.journal entry tables fits.tables wrote;
         book = stands;
         source = record { incarnation = fits.source.incarnation; sequences = fits.source.sequences };
+        sequences = fits.sequences;
         current = fits.current;
       };
       book = says;

@@ -2,7 +2,7 @@
 use Rattle.std.proofs.Common.{◌≡◌, ◌≤◌, ◌+◌, ℕ, ℤ, true, List, [], ◌∷◌, ◌++◌, length, map, filter, refl, sym, ◌∙◌, ap, subst, arith, length-append}
 use Rattle.std.proofs.lemmas.List.{map-append}
 use Rattle.std.proofs.lemmas.Slice.Eq.{bytes_eq-Decides}
-use Rattle.std.specs.Prelude.{Some, Result, Ok, Err}
+use Rattle.std.specs.Prelude.{IsTrue, Some, Result, Ok, Err}
 use Rattle.disk_model.specs.Disk.{DiskState, Meanwhile}
 use Rattle.svc_values.specs.declared.draw.Draw.{Draw}
 use Rattle.svc_values.specs.declared.draw.Draw.TheVariants as draw
@@ -10,7 +10,7 @@ use Rattle.svc_values.specs.declared.draw.DrawKind.{DrawKind}
 use Rattle.svc_values.specs.declared.draw.DrawKind.TheVariants as kind
 use Rattle.svc_values.specs.meaning.Draws.{is_of_kind}
 use Rattle.mutable_values.specs.declared.source.Drawn.TheVariants as drawn
-use Rattle.mutable_values.specs.Sources.{Opening, HasRoom, DrawnFrom, draw_of, reserved_to}
+use Rattle.mutable_values.specs.Sources.{Opening, HasRoom, DrawnFrom, are_sequences, draw_of, may_reserve, reserved_to}
 use Rattle.redo_store.specs.declared.fault.RedoFault.{RedoFault}
 use Rattle.redo_store.specs.declared.fault.RedoFault.TheVariants as log_fault
 use Rattle.commit_log.specs.declared.journal.Reservation.{Reservation}
@@ -31,7 +31,7 @@ use Rattle.server_session.specs.Stored.{stored_as}
 use Rattle.server_session.proofs.Gaining.{gained_none, gained_then, gained_one, halted_one}
 use Rattle.server_session.proofs.Halting.{halts_first, halts_then, source_behind, source_none}
 use Rattle.server_session.proofs.Plains.{reads_same, reads_more}
-use Rattle.server_session.proofs.Reserving.{source_after, source_told, asks_reservation}
+use Rattle.server_session.proofs.Reserving.{source_after, source_told, sequences_after, sequences_told, asks_reservation}
 
 pub kind_is : (asked : DrawKind) (given : Draw) → is_of_kind asked given ≡ true → kind_drawn given ≡ asked
 kind_is (kind.Seq asked) (draw.Seq name n) h = ap kind.Seq ((bytes_eq-Decides name asked).0 h)
@@ -71,7 +71,13 @@ dealt_value now before asked given opening left prepared room is of_kind =
       draws = (opening, left, (here, (refl, refl)));
       moved = λ journal source. source_none opening journal (source_after before.opening before.left asked now told journal is source);
       halts = λ count few some. absurd (some refl);
-      prepared = record { ready = prepared.ready; journal = prepared.journal; reads = prepared.reads; source = source_after before.opening before.left asked now told prepared.journal is prepared.source };
+      prepared = record {
+        ready = prepared.ready;
+        journal = prepared.journal;
+        reads = prepared.reads;
+        source = source_after before.opening before.left asked now told prepared.journal is prepared.source;
+        sequences = sequences_after before.opening before.left asked now told is prepared.sequences;
+      };
     }
 
 one_at_most : (name : List ℕ) (given : Draw) → kind_drawn given ≡ kind.Seq name → 1 ≤ sequences_drawn (given ∷ [])
@@ -112,6 +118,7 @@ dealt_reserved now before asked name upto between same given opening left log di
         journal = reserved.prepared.journal;
         reads = reserved.prepared.reads;
         source = source_after (reserved_to between name upto) before.left asked now told reserved.prepared.journal is reserved.prepared.source;
+        sequences = sequences_after (reserved_to between name upto) before.left asked now told is reserved.prepared.sequences;
       };
     }
 
@@ -176,8 +183,13 @@ prepared_still before after log disk same prepared = subst (λ (o : Opening). Is
 
 -- and for one that was asked
 pub prepared_after : (before : Opening) (left : List Draw) (asked : DrawKind) (now : ℕ) (told : DrawnFrom) (log : Log) (disk : DiskState) → draw_of before left asked now ≡ Some told → IsPrepared before log disk → IsPrepared told.opening log disk
-prepared_after before left asked now told log disk is prepared =
-    record { ready = prepared.ready; journal = prepared.journal; reads = prepared.reads; source = source_after before left asked now told prepared.journal is prepared.source }
+prepared_after before left asked now told log disk is prepared = record {
+  ready = prepared.ready;
+  journal = prepared.journal;
+  reads = prepared.reads;
+  source = source_after before left asked now told prepared.journal is prepared.source;
+  sequences = sequences_after before left asked now told is prepared.sequences;
+}
 
 -- ---- a reservation, by what the log answers
 
@@ -191,7 +203,7 @@ module _ (opening : Opening) (name : List ℕ) (upto : ℤ) (before log : Log) (
         same = refl;
         moments = adds.any_moment;
         faults = adds.cause.uncounted (λ e. cc);
-        prepared = record { ready = adds.goes_on; journal = prepared.journal; reads = reads_same disk.now.seen end.now.seen prepared.journal prepared.reads (adds.refused refl); source = prepared.source };
+        prepared = record { ready = adds.goes_on; journal = prepared.journal; reads = reads_same disk.now.seen end.now.seen prepared.journal prepared.reads (adds.refused refl); source = prepared.source; sequences = prepared.sequences };
       })
   reserve_fault (Err log_fault.Stopped) error e adds =
       let same : error ≡ fault.Stopped = (let both : ◌≡◌ {A = Result (Unit {0}) ServeFault} (Err error) (Err fault.Stopped) = e in cc) in
@@ -199,8 +211,8 @@ module _ (opening : Opening) (name : List ℕ) (upto : ℤ) (before log : Log) (
   reserve_fault (Err (log_fault.Damaged place)) error e adds = absurd adds.goes_on
 
   pub reserve_done : (answer : Result (Unit {0}) RedoFault) (later : Opening) → ◌≡◌ {A = Result (Unit {0}) ServeFault} (Ok tt) (stored_as answer) → Adds answer log disk end (kept.Reserved (reservation_of name upto))
-      → later ≡ reserved_to opening name upto → HasReserved name upto opening disk later log end
-  reserve_done (Ok done) later e adds told =
+      → later ≡ reserved_to opening name upto → IsTrue (may_reserve opening name upto) → HasReserved name upto opening disk later log end
+  reserve_done (Ok done) later e adds told may =
       let journal = with_record prepared.journal (kept.Reserved (reservation_of name upto)) in
       record {
         told = told;
@@ -210,8 +222,9 @@ module _ (opening : Opening) (name : List ℕ) (upto : ℤ) (before log : Log) (
           journal = journal;
           reads = reads_more disk.now.seen end.now.seen prepared.journal (kept.Reserved (reservation_of name upto)) prepared.reads adds.added;
           source = subst (λ (o : Opening). IsSourceOf o journal) (sym told) (source_told opening name upto prepared.journal prepared.source);
+          sequences = subst (λ (o : Opening). IsTrue (are_sequences o.sequences)) (sym told) (sequences_told opening name upto may prepared.sequences);
         };
       }
-  reserve_done (Err log_fault.NoMemory) later e adds told = absurd (let clash : ◌≡◌ {A = Result (Unit {0}) ServeFault} (Ok tt) (Err fault.NoMemory) = e in cc)
-  reserve_done (Err log_fault.Stopped) later e adds told = absurd (let clash : ◌≡◌ {A = Result (Unit {0}) ServeFault} (Ok tt) (Err fault.Stopped) = e in cc)
-  reserve_done (Err (log_fault.Damaged place)) later e adds told = absurd adds.goes_on
+  reserve_done (Err log_fault.NoMemory) later e adds told may = absurd (let clash : ◌≡◌ {A = Result (Unit {0}) ServeFault} (Ok tt) (Err fault.NoMemory) = e in cc)
+  reserve_done (Err log_fault.Stopped) later e adds told may = absurd (let clash : ◌≡◌ {A = Result (Unit {0}) ServeFault} (Ok tt) (Err fault.Stopped) = e in cc)
+  reserve_done (Err (log_fault.Damaged place)) later e adds told may = absurd adds.goes_on

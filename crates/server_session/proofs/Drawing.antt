@@ -7,14 +7,14 @@ use Rattle.svc_values.specs.declared.draw.DrawKind.{DrawKind}
 use Rattle.mutable_values.specs.declared.source.Drawn.{Drawn}
 use Rattle.mutable_values.specs.declared.source.Drawn.TheVariants as drawn
 use Rattle.mutable_values.specs.Sources.{Opening, HasRoom, DrawnFrom, draw_of, may_reserve, names_of, reserved_to}
-use Rattle.mutable_values.proofs.Offered.{gives_as_asked, may_reserve_next}
+use Rattle.mutable_values.proofs.Offered.{gives_as_asked, gives_once_reserved, may_reserve_next}
 use Rattle.commit_log.specs.declared.log.Log.{Log}
 use Rattle.commit_log.specs.Logs.{is_live}
 use Rattle.server_model.specs.declared.fault.ServeFault.{ServeFault}
 use Rattle.server_model.specs.declared.fault.ServeFault.TheVariants as fault
 use Rattle.server_session.specs.Dealing.{AtDesk, DealsAs, HasReserved, IsPrepared, IsReady, Reserves}
 use Rattle.server_session.proofs.Dealing.{dealt_value, dealt_reserved, halted_in, lacked_at_once, lacked_behind, prepared_after}
-use Rattle.server_session.proofs.Reserving.{asks_reservation, names_after, names_told}
+use Rattle.server_session.proofs.Reserving.{asks_reservation, names_after, names_told, told_value}
 
 -- a draw was answered
 pub record HasAnswered (now : ℕ) (before : AtDesk) (asked : DrawKind) (result : Result Draw ServeFault) (after : AtDesk) : Type 0 where
@@ -103,10 +103,16 @@ module _ (now : ℕ) (asked : DrawKind) (opening : Opening) (left : List Draw) (
         ready = λ live. subst (λ (o : Opening). IsPrepared o last end) (sym is) reserved.prepared;
       }
 
-      -- or asked again
-      pub answered_again : (other : List ℕ) (end_of : ℤ) (after : Opening) (rest : List Draw) → draw_of later same asked now ≡ Some (record { answer = drawn.Reserve other end_of; opening = after; kept = rest })
-          → HasAnswered now (desk_at opening left log disk) asked (Err fault.NoMemory) (desk_at after rest last end)
-      answered_again other end_of after rest is = answered_lacked_behind after rest (asks_reservation later same asked now other end_of after rest is).opening_is
+      -- and it never asks again
+      pub never_again : (other : List ℕ) (end_of : ℤ) (after : Opening) (rest : List Draw) → draw_of later same asked now ≡ Some (record { answer = drawn.Reserve other end_of; opening = after; kept = rest }) → ⊥
+      never_again other end_of after rest is =
+          let again : DrawnFrom = record { answer = drawn.Reserve other end_of; opening = after; kept = rest } in
+          let asks = asks_reservation opening left asked now name upto between same wanted in
+          let once = gives_once_reserved opening between left same asked now now name upto prepared.sequences wanted in
+          let here : draw_of (reserved_to opening name upto) left asked now ≡ Some again =
+          subst (λ (o : Opening). draw_of (reserved_to o name upto) left asked now ≡ Some again) asks.opening_is
+          (subst (λ (o : Opening). draw_of o left asked now ≡ Some again) reserved.told (subst (λ (l : List Draw). draw_of later l asked now ≡ Some again) asks.left_is is)) in
+          told_value _ _ _ other end_of after rest (sym once.3 ∙ here)
 
       -- or gave the value
       pub answered_reserved : (given : Draw) (after : Opening) (rest : List Draw) → HasRoom opening → draw_of later same asked now ≡ Some (record { answer = drawn.Value given; opening = after; kept = rest })

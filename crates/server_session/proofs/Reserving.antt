@@ -13,8 +13,9 @@ use Rattle.svc_values.specs.Draws.{is_there}
 use Rattle.mutable_values.specs.declared.source.SeqState.{SeqState}
 use Rattle.mutable_values.specs.declared.source.Drawn.{Drawn}
 use Rattle.mutable_values.specs.declared.source.Drawn.TheVariants as drawn
-use Rattle.mutable_values.specs.Sources.{Opening, DrawnFrom, changed, draw_of, ends_next, may_reserve, names_of, next_value, reserved_to, reservation_size, sequence_of}
-use Rattle.mutable_values.proofs.Offered.{DrawsBy, absent, first, ticked, named, valued, reserves, draws_by}
+use Rattle.mutable_values.specs.History.{Drew, Reserved, opening_after}
+use Rattle.mutable_values.specs.Sources.{Opening, DrawnFrom, are_sequences, changed, draw_of, ends_next, may_reserve, names_of, next_value, reserved_to, reservation_size, sequence_of}
+use Rattle.mutable_values.proofs.Offered.{DrawsBy, absent, first, ticked, named, valued, reserves, draws_by, sequences_stay}
 use Rattle.commit_log.specs.declared.base.BaseSequence.{BaseSequence}
 use Rattle.commit_log.specs.declared.journal.Journal.{Journal}
 use Rattle.commit_log.specs.declared.journal.Reservation.{Reservation}
@@ -77,6 +78,11 @@ names_after opening left asked now told is =
     let alike = alike_by opening left asked now told (draw_of opening left asked now) is (draws_by opening left now asked) in
     names_by told.opening.sequences ∙ ap (map (λ (s : Sequence). s.name)) alike.sequences ∙ sym (names_by opening.sequences)
 
+-- and its sequences are such still
+pub sequences_after : (opening : Opening) (left : List Draw) (asked : DrawKind) (now : ℕ) (told : DrawnFrom) → draw_of opening left asked now ≡ Some told → IsTrue (are_sequences opening.sequences) → IsTrue (are_sequences told.opening.sequences)
+sequences_after opening left asked now told is are =
+    subst (λ (result : Option DrawnFrom). IsTrue (are_sequences (opening_after opening result).sequences)) is (sequences_stay opening (Drew left asked now) tt are).0
+
 -- ---- what asks for a reservation
 
 pub record AsksReservation (opening : Opening) (left : List Draw) (asked : DrawKind) (name : List ℕ) (after : Opening) (rest : List Draw) : Type 0 where
@@ -84,7 +90,8 @@ pub record AsksReservation (opening : Opening) (left : List Draw) (asked : DrawK
   pub left_is : rest ≡ left
   pub kind_is : asked ≡ kind.Seq name
 
-told_value : (one : Draw) (o : Opening) (k : List Draw) (name : List ℕ) (upto : ℤ) (after : Opening) (rest : List Draw)
+-- a draw tells a value or a reservation, never both
+pub told_value : (one : Draw) (o : Opening) (k : List Draw) (name : List ℕ) (upto : ℤ) (after : Opening) (rest : List Draw)
     → ◌≡◌ {A = Option DrawnFrom} (Some (record { answer = drawn.Value one; opening = o; kept = k })) (Some (record { answer = drawn.Reserve name upto; opening = after; kept = rest })) → ⊥
 told_value one o k name upto after rest e =
     let answer_in : DrawnFrom → Drawn = λ (d : DrawnFrom). d.answer in
@@ -211,6 +218,10 @@ source_told opening name upto journal source = record {
   incarnation = source.incarnation;
   sequences = told_all journal name upto opening.sequences journal.base.sequences source.sequences;
 }
+
+-- and its sequences are such, where it may be reserved
+pub sequences_told : (opening : Opening) (name : List ℕ) (upto : ℤ) → IsTrue (may_reserve opening name upto) → IsTrue (are_sequences opening.sequences) → IsTrue (are_sequences (reserved_to opening name upto).sequences)
+sequences_told opening name upto may are = (sequences_stay opening (Reserved name upto) may are).0
 
 -- and has the same names
 pub names_told : (opening : Opening) (name : List ℕ) (upto : ℤ) → names_of (reserved_to opening name upto).sequences ≡ names_of opening.sequences

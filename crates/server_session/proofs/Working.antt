@@ -119,7 +119,7 @@ module _ (statements : List Statement) (commit replay : Bool) (marks : List Draw
   seen_at txn = record old { txn = txn; since = begun_at old.since core.commits }
 
   pub prepared_here : IsPrepared core.source core.log disk
-  prepared_here = record { ready = fits.log; journal = fits.journal; reads = fits.reads; source = fits.source }
+  prepared_here = record { ready = fits.log; journal = fits.journal; reads = fits.reads; source = fits.source; sequences = fits.sequences }
 
   -- ---- the core after the draws
 
@@ -135,6 +135,7 @@ module _ (statements : List Statement) (commit replay : Bool) (marks : List Draw
       tables = fits.tables ∙ ap tables_of (sym journal_is);
       book = subst (λ (j : Journal). IsBookFor core.book j) (sym journal_is) (record { sessions = fits.book.sessions; blocks = fits.book.blocks });
       source = prepared.source;
+      sequences = prepared.sequences;
       current = subst (λ (j : Journal). is_forgotten (sessions_of j) j.incarnation ≡ false) (sym journal_is) fits.current;
     }
 

@@ -14,7 +14,7 @@ use Rattle.commit_log.specs.Growth.{IsGrown}
 use Rattle.commit_log.specs.meaning.Journals.{journal_of}
 use Rattle.commit_log.specs.Logs.{is_live, CanLog}
 use Rattle.mutable_values.specs.declared.source.Drawn.TheVariants as drawn
-use Rattle.mutable_values.specs.Sources.{Opening, draw_of, reserved_to}
+use Rattle.mutable_values.specs.Sources.{Opening, are_sequences, draw_of, reserved_to}
 use Rattle.stmt_meaning.specs.Asked.{kind_drawn, sequences_drawn}
 use Rattle.stmt_meaning.specs.Drawing.{Drew, Gave, Lacked, Halted}
 use Rattle.server_model.specs.Draws.{DrawsAll, HaltsAt}
@@ -30,12 +30,14 @@ pub record AtDesk : Type 0 where
   pub log : Log
   pub disk : DiskState
 
--- the log goes on with its disk, and the source is that of its journal
+-- The log goes on with its disk, and the source is that of its journal. No two of its sequences have one
+-- name, and none gave a value past its reservation.
 pub record IsPrepared (opening : Opening) (log : Log) (disk : DiskState) : Type 0 where
   pub ready : CanLog log disk
   pub journal : Journal
   pub reads : journal_of disk.now.seen ≡ Ok journal
   pub source : IsSourceOf opening journal
+  pub sequences : IsTrue (are_sequences opening.sequences)
 
 -- so it is, unless the log was stopped
 abbrev pub IsReady : Opening → Log → DiskState → Type 0

@@ -7,7 +7,7 @@ use Rattle.ltxid_book.specs.meaning.Sessions.{is_forgotten}
 use Rattle.ltxid_book.specs.Sessions.{sessions_in}
 use Rattle.canon_bytes.specs.Entries.{IsMadePiece}
 use Rattle.mutable_values.specs.declared.source.SeqState.{SeqState}
-use Rattle.mutable_values.specs.Sources.{Opening}
+use Rattle.mutable_values.specs.Sources.{Opening, are_sequences}
 use Rattle.commit_log.specs.declared.base.BaseSequence.{BaseSequence}
 use Rattle.commit_log.specs.declared.journal.Journal.{Journal}
 use Rattle.commit_log.specs.meaning.Bases.{schemas_of, start_of}
@@ -39,7 +39,8 @@ pub record IsSourceOf (source : Opening) (journal : Journal) : Type 0 where
   pub sequences : map sequence_in source.sequences ≡ map (sequence_of journal) journal.base.sequences
 
 -- The log is live and nothing is pending on its disk, which reads as a journal. The tables, the book and
--- the source are those of this journal, whose incarnation is not forgotten.
+-- the source are those of this journal, whose incarnation is not forgotten. No two sequences of the source
+-- have one name, and none gave a value past its reservation.
 pub record Fits (core : Core) (disk : DiskState) : Type 0 where
   pub log : CanLog core.log disk
   pub journal : Journal
@@ -47,6 +48,7 @@ pub record Fits (core : Core) (disk : DiskState) : Type 0 where
   pub tables : core.tables ≡ tables_of journal
   pub book : IsBookFor core.book journal
   pub source : IsSourceOf core.source journal
+  pub sequences : IsTrue (are_sequences core.source.sequences)
   pub current : is_forgotten (sessions_of journal) journal.incarnation ≡ false
 
 -- The session is one of the core's incarnation, and its number is the next one by the book. Its

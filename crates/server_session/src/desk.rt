@@ -81,7 +81,7 @@ fn draw_value<D: Disk>(
             reserve(source, log, disk, &name, upto)?;
             match ask(alloc, kind, source, kept, now)? {
                 Drawn::Value(draw) => Ok(draw),
-                Drawn::Reserve { .. } => Err(ServeFault::NoMemory),
+                Drawn::Reserve { .. } => unreachable!(),
             }
         }
     }

@@ -6,7 +6,7 @@ use Rattle.svc_values.specs.Draws.{is_there}
 use Rattle.mutable_values.specs.declared.source.Drawn.TheVariants as drawn
 use Rattle.mutable_values.specs.Sources.{may_reserve}
 use Rattle.server_session.specs.Dealing.{HasReserved, Reserves}
-use Rattle.server_session.proofs.Drawing.{told_as, answered_value, answered_unreserved, answered_lacked_behind, answered_again, answered_reserved, may_between, names_reserved, prepared_between}
+use Rattle.server_session.proofs.Drawing.{told_as, answered_value, answered_unreserved, answered_lacked_behind, answered_reserved, may_between, names_reserved, never_again, prepared_between}
 use Rattle.server_session.proofs.desk.draw_value.Goals as goal
 
 pub returns-in-Value : goal.returns-in-Value
@@ -78,8 +78,8 @@ returns-in-Value-2 g c =
     c.reserve.new.source c.reserve.new.log (state c.reserve.new.disk) reserved c.in-Value-2.draw c.ask-in-Reserve.new.source c.ask-in-Reserve.new.kept c.in_ok-draw.ensures.room again in
     record { drawn = h.drawn; names = h.names; ready = h.ready }
 
-pub returns-in-Reserve-2-clause-names : goal.returns-in-Reserve-2-clause-names
-returns-in-Reserve-2-clause-names g c =
+pub unreachable-requires : goal.unreachable-requires
+unreachable-requires g c =
     let state = g.D.Disk.state in
     let disk = state c.args.disk.now in
     let prepared = c.requires.ready (sym c.is_live.ensures ∙ c.if-not-is_live.false) in
@@ -87,19 +87,5 @@ returns-in-Reserve-2-clause-names g c =
     let same : to_z w64 (of_z w64 c.in-Reserve.upto) ≡ c.in-Reserve.upto = to_z-of_z w64 c.in-Reserve.upto (search rules) in
     let reserved = subst (λ (z : ℤ). HasReserved c.in-Reserve.name z c.ask.new.source disk c.reserve.new.source c.reserve.new.log (state c.reserve.new.disk)) same c.in_ok-reserve-in-Reserve.ensures in
     let again = told_as c.reserve.new.source c.ask.new.kept c.args.kind.now c.args.now c.in_ok-draw-in-Reserve.field-0 (drawn.Reserve c.in-Reserve-2.name c.in-Reserve-2.upto) c.ask-in-Reserve.new.source c.ask-in-Reserve.new.kept c.in_ok-draw-in-Reserve.ensures.asked c.in-Reserve-2.is in
-    let h = answered_again c.args.now c.args.kind.now c.args.source.now c.args.kept.now c.args.log.now disk c.in-Reserve.name c.in-Reserve.upto c.ask.new.source c.ask.new.kept prepared told
-    c.reserve.new.source c.reserve.new.log (state c.reserve.new.disk) reserved c.in-Reserve-2.name c.in-Reserve-2.upto c.ask-in-Reserve.new.source c.ask-in-Reserve.new.kept again in
-    h.names
-
-pub returns-in-Reserve-2-clause-ready : goal.returns-in-Reserve-2-clause-ready
-returns-in-Reserve-2-clause-ready g c =
-    let state = g.D.Disk.state in
-    let disk = state c.args.disk.now in
-    let prepared = c.requires.ready (sym c.is_live.ensures ∙ c.if-not-is_live.false) in
-    let told = told_as c.args.source.now c.args.kept.now c.args.kind.now c.args.now c.in_ok-draw.field-0 (drawn.Reserve c.in-Reserve.name c.in-Reserve.upto) c.ask.new.source c.ask.new.kept c.in_ok-draw.ensures.asked c.in-Reserve.is in
-    let same : to_z w64 (of_z w64 c.in-Reserve.upto) ≡ c.in-Reserve.upto = to_z-of_z w64 c.in-Reserve.upto (search rules) in
-    let reserved = subst (λ (z : ℤ). HasReserved c.in-Reserve.name z c.ask.new.source disk c.reserve.new.source c.reserve.new.log (state c.reserve.new.disk)) same c.in_ok-reserve-in-Reserve.ensures in
-    let again = told_as c.reserve.new.source c.ask.new.kept c.args.kind.now c.args.now c.in_ok-draw-in-Reserve.field-0 (drawn.Reserve c.in-Reserve-2.name c.in-Reserve-2.upto) c.ask-in-Reserve.new.source c.ask-in-Reserve.new.kept c.in_ok-draw-in-Reserve.ensures.asked c.in-Reserve-2.is in
-    let h = answered_again c.args.now c.args.kind.now c.args.source.now c.args.kept.now c.args.log.now disk c.in-Reserve.name c.in-Reserve.upto c.ask.new.source c.ask.new.kept prepared told
-    c.reserve.new.source c.reserve.new.log (state c.reserve.new.disk) reserved c.in-Reserve-2.name c.in-Reserve-2.upto c.ask-in-Reserve.new.source c.ask-in-Reserve.new.kept again in
-    h.ready
+    never_again c.args.now c.args.kind.now c.args.source.now c.args.kept.now c.args.log.now disk c.in-Reserve.name c.in-Reserve.upto c.ask.new.source c.ask.new.kept prepared told
+    c.reserve.new.source c.reserve.new.log (state c.reserve.new.disk) reserved c.in-Reserve-2.name c.in-Reserve-2.upto c.ask-in-Reserve.new.source c.ask-in-Reserve.new.kept again

@@ -31,4 +31,4 @@ returns g c =
     let state = g.D.Disk.state in
     let adds = subst (λ (z : ℤ). Adds c.reserve.result c.reserve.new.self (state c.args.disk.now) (state c.reserve.new.disk) (kept.Reserved (reservation_of c.args.name.now z))) same c.reserve.ensures in
     reserve_done c.args.source.now c.args.name.now c.args.upto c.args.log.now c.reserve.new.self (state c.args.disk.now) (state c.reserve.new.disk) c.requires.prepared c.reserve.result c.reserved.new.self (sym c.in_ok-stored.was ∙ c.stored.ensures) adds
-    (c.reserved.ensures ∙ ap (reserved_to c.args.source.now c.args.name.now) same)
+    (c.reserved.ensures ∙ ap (reserved_to c.args.source.now c.args.name.now) same) c.requires.may
