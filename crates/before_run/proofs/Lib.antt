@@ -1,2 +1,3 @@
 mod JournalKept
+pub mod Offered
 mod StartBase

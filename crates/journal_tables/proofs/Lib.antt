@@ -1,2 +1,3 @@
-pub mod BaseRows
-pub mod Applied
+mod Applied
+mod BaseRows
+pub mod Offered

@@ -3,4 +3,4 @@
 
 mod tables;
 
-pub use tables::tables_of;
+pub use tables::{indexed_tables_of, tables_of};

@@ -2,7 +2,7 @@
 ghost use Rattle.std.specs.Prelude.{◌≡◌, ◌≤◌, All, IfOk, OnOk, IsTrue, length, map};
 ghost use Rattle.std.specs.List.{flat_map, list_all};
 ghost use Rattle.svc_values.specs.meaning.Fitting.{writes_fit};
-ghost use Rattle.table_store.specs.Given.{plain};
+ghost use Rattle.table_store.specs.Given.{is_index_of, plain};
 ghost use Rattle.commit_log.specs.meaning.Bases.{rows_of, schema_in, schemas_of, start_of as start_def};
 ghost use Rattle.commit_log.specs.Bases.{IsBase};
 ghost use Rattle.journal_tables.specs.Written.{entry_fits, tables_with};
@@ -10,7 +10,7 @@ ghost use Rattle.journal_tables.specs.Written.{entry_fits, tables_with};
 use commit_log::{Base, BaseTable, BaseTables};
 use std::alloc::Global;
 use svc_values::{Entry, NoMemory, Schema, Schemas, TryCopy};
-use table_store::{TableRows, Tables};
+use table_store::{IndexOf, TableRows, Tables};
 
 /// The tables of a base, with what these entries wrote. n log n for n rows and writes.
 pub fn tables_of(alloc: Global, base: Base, entries: &[Entry]) -> Result<Tables, NoMemory>
@@ -18,7 +18,22 @@ pub fn tables_of(alloc: Global, base: Base, entries: &[Entry]) -> Result<Tables,
     requires fitting { All (λ entry. IsTrue (writes_fit (schemas_of base) entry.writes)) entries.now }
     ensures { IfOk result (λ tables. tables ≡ record { schemas = schemas_of base; rows = tables_with (start_def base) entries.now }) }
 {
-    let mut tables = start_of(alloc, base)?;
+    indexed_tables_of(alloc, base, entries, &[])
+}
+
+/// The same with an index for each of these columns: n log n besides for n rows of each index.
+pub fn indexed_tables_of(
+    alloc: Global,
+    base: Base,
+    entries: &[Entry],
+    indexes: &[IndexOf],
+) -> Result<Tables, NoMemory>
+    requires base { IsBase base }
+    requires fitting { All (λ entry. IsTrue (writes_fit (schemas_of base) entry.writes)) entries.now }
+    requires indexes { IsTrue (list_all (is_index_of (schemas_of base)) indexes.now) }
+    ensures { IfOk result (λ tables. tables ≡ record { schemas = schemas_of base; rows = tables_with (start_def base) entries.now }) }
+{
+    let mut tables = start_of(alloc, base, indexes)?;
     apply_each(&mut tables, entries)?;
     Ok(tables)
 }
@@ -34,14 +49,15 @@ fn apply_each(tables: &mut Tables, entries: &[Entry]) -> Result<(), NoMemory>
     Ok(())
 }
 
-/// The tables of the base.
-fn start_of(alloc: Global, base: Base) -> Result<Tables, NoMemory>
-    requires { IsBase base }
+/// The tables of the base, indexed by these columns.
+fn start_of(alloc: Global, base: Base, indexes: &[IndexOf]) -> Result<Tables, NoMemory>
+    requires base { IsBase base }
+    requires indexes { IsTrue (list_all (is_index_of (schemas_of base)) indexes.now) }
     ensures { IfOk result (λ tables. tables ≡ record { schemas = schemas_of base; rows = start_def base }) }
 {
     let Base { tables, .. } = base;
     let (schemas, given) = gathered(alloc, tables)?;
-    Tables::new(alloc, Schemas::from_vec(schemas), given)
+    Tables::indexed(alloc, Schemas::from_vec(schemas), given, indexes)
 }
 
 /// The declarations of the tables, and the rows of each, which are moved.

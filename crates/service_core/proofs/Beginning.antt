@@ -21,12 +21,12 @@ use Rattle.commit_log.specs.declared.base.BaseSequence.{BaseSequence}
 use Rattle.commit_log.specs.declared.journal.Journal.{Journal}
 use Rattle.commit_log.specs.meaning.Bases.{rows_of, schemas_of, sequence_name, start_of}
 use Rattle.commit_log.specs.Keeping.{KeepsJournal}
+use Rattle.journal_tables.specs.Written.{entry_fits}
+use Rattle.journal_tables.proofs.Offered.{first_true, second_true, both_true, start_fits, start_apart}
 use Rattle.server_model.specs.Base.{IsSound, name_of}
 use Rattle.server_model.specs.Core.{writes_in}
 use Rattle.server_session.specs.Fits.{sequence_of}
-use Rattle.service_core.specs.InnerOpening.{entry_fits}
 use Rattle.service_core.specs.Starting.{base_of}
-use Rattle.service_core.proofs.BaseRows.{first_true, second_true, both_true, start_fits, start_apart}
 
 -- ---- rows put in order
 

@@ -1,18 +1,12 @@
 -- What a journal that was read keeps is what an opening asks of it, and what an opening makes fits its disk.
-use Rattle.std.proofs.Common.{◌≡◌, ◌∙◌, ◌+◌, ◌-◌, ◌^◌, ◌≤◌, ◌<◌, ◌&&◌, ℕ, ℤ, true, false, refl, sym, ap, subst, List, [], ◌∷◌, map, length, drop, get_or, IsTrue, arith}
+use Rattle.std.proofs.Common.{◌≡◌, ◌∙◌, ◌+◌, ◌-◌, ◌^◌, ◌≤◌, ◌&&◌, ℕ, ℤ, true, false, refl, sym, ap, subst, List, [], ◌∷◌, map, length, IsTrue, arith}
 use Rattle.std.proofs.lemmas.Bool.Decides.{nat_tests}
 use Rattle.std.proofs.lemmas.Int.{ints}
-use Rattle.std.proofs.lemmas.List.{drop_more}
 use Rattle.std.proofs.lemmas.List.Sums.{AllPass-from_list_all, list_all-from_AllPass}
 use Rattle.std.specs.Prelude.{pos, ◌+ℤ◌, int_lt, int_le, nat_lt, max, Result, Ok, slice_index_or}
-use Rattle.std.specs.List.{list_all, flat_map}
+use Rattle.std.specs.List.{list_all}
 use Rattle.disk_model.specs.Disk.{DiskState, Lowered}
-use Rattle.svc_values.specs.declared.entry.Entry.{Entry}
-use Rattle.svc_values.specs.declared.tables.PlainRow.{PlainRow}
 use Rattle.svc_values.specs.meaning.Names.{names_differ}
-use Rattle.svc_values.specs.meaning.Tables.{with_writes}
-use Rattle.svc_values.proofs.Offered.{with_writes-append}
-use Rattle.table_store.specs.Stored.{Stored}
 use Rattle.table_store.specs.Given.{is_index_of}
 use Rattle.table_store.specs.declared.shelves.IndexOf.{IndexOf}
 use Rattle.mutable_values.specs.declared.grants.Grants.{Grants}
@@ -29,13 +23,12 @@ use Rattle.commit_log.specs.Keeping.{KeepsJournal, EachKeeps}
 use Rattle.commit_log.specs.Logs.{CanLog}
 use Rattle.commit_log.specs.meaning.Rules.{end_of, sessions_of}
 use Rattle.ltxid_book.specs.meaning.Sessions.{is_forgotten}
-use Rattle.server_model.specs.Core.{tables_with, writes_in}
+use Rattle.journal_tables.proofs.Offered.{sequences_begin, sequence_names_differ, second_true, both_true}
 use Rattle.server_session.specs.declared.shared.Core.{Core}
 use Rattle.server_session.specs.Fits.{Fits, sequence_in, sequence_of}
 use Rattle.service_core.specs.Indexed.{FitBase}
 use Rattle.service_core.specs.Opening.{CanOpen, HasOpened, source_of, stop_of}
-use Rattle.service_core.specs.InnerOpening.{CanGoOn, IsCoreOf, ends_low, entry_fits, state_of}
-use Rattle.service_core.proofs.BaseRows.{sequences_begin, sequence_names_differ, second_true, both_true}
+use Rattle.service_core.specs.InnerOpening.{CanGoOn, IsCoreOf, ends_low, state_of}
 
 -- ---- what is asked of a journal
 
@@ -81,24 +74,6 @@ same_sequences : (journal : Journal) (sequences : List BaseSequence) → map seq
 same_sequences journal [] = refl
 same_sequences journal (sequence ∷ sequences) = ap (λ rest. sequence_of journal sequence ∷ rest) (same_sequences journal sequences)
 
--- ---- the tables
-
--- an entry's writes, and those of the rest
-pub one_entry : (rows : List PlainRow) (entry : Entry) (entries : List Entry) → tables_with rows (entry ∷ entries) ≡ tables_with (with_writes rows entry.writes) entries
-one_entry rows entry entries = with_writes-append rows entry.writes (flat_map writes_in entries)
-
--- the tables with one entry more
-pub entry_more : (first now next : Stored) (entries : List Entry) (i : ℕ) (entry : Entry) → i < length entries → entry ≡ get_or entries i entry
-    → now.schemas ≡ first.schemas → tables_with now.rows (drop i entries) ≡ tables_with first.rows entries → IsTrue (list_all (entry_fits first.schemas) (drop i entries))
-    → next ≡ record { schemas = now.schemas; rows = with_writes now.rows entry.writes }
-    → (next.schemas ≡ first.schemas) × (tables_with next.rows (drop (i + 1) entries) ≡ tables_with first.rows entries) × IsTrue (list_all (entry_fits first.schemas) (drop (i + 1) entries))
-entry_more first now next entries i entry within is schemas rows fit applied =
-    let left : drop i entries ≡ entry ∷ drop (i + 1) entries = drop_more entries i entry within ∙ ap (λ (e : Entry). e ∷ drop (i + 1) entries) (sym is) in (
-      ap (λ (t : Stored). t.schemas) applied ∙ schemas,
-      ap (λ (t : Stored). tables_with t.rows (drop (i + 1) entries)) applied ∙ sym (one_entry now.rows entry (drop (i + 1) entries)) ∙ ap (tables_with now.rows) (sym left) ∙ rows,
-      second_true (entry_fits first.schemas entry) (list_all (entry_fits first.schemas) (drop (i + 1) entries)) (subst (λ (l : List Entry). list_all (entry_fits first.schemas) l ≡ true) left fit),
-    )
-
 -- ---- the core
 
 -- the journal with its opening
@@ -122,6 +97,7 @@ core_fits log journal grants core disk is ready reads keeps current = record {
   tables = is.tables;
   book = record { sessions = is.book; blocks = keeps.commits.standing };
   source = record { incarnation = ap (λ (o : Opening). o.incarnation) is.source; sequences = ap (λ (o : Opening). map sequence_in o.sequences) is.source ∙ same_sequences journal journal.base.sequences };
+  sequences = subst (λ (o : Opening). IsTrue (are_sequences o.sequences)) (sym is.source) (source_is journal keeps.base);
   current = current;
 }
 

@@ -2,7 +2,6 @@ mod Answered
 mod AskFronts
 mod AskHalts
 mod Asks
-mod BaseRows
 mod Beginning
 mod Beside
 mod Blocking
@@ -22,6 +21,7 @@ mod Limits
 mod LostFrames
 mod LostFronts
 mod Made
+pub mod Offered
 mod Opened
 mod OpeningHalts
 mod OutsideHalts

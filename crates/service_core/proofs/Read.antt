@@ -98,7 +98,7 @@ left_reads grants disk None held notes down = (down.base, down.leaves)
 left_reads grants disk (Some core) held notes up =
     (up.fits.journal.base, λ image left. subst (λ (i : List ℕ). Reads up.fits.journal.base notes i) (sym (up.fits.log.append.settled image left)) (reads_up grants disk core held notes up))
 
-settled_in : (grants : Grants) (disk : DiskState) (core : Option Core) (held : Held) (notes : Notes) → IsSound grants disk core held notes → notes.is_settled ≡ true → IsSettled disk
+pub settled_in : (grants : Grants) (disk : DiskState) (core : Option Core) (held : Held) (notes : Notes) → IsSound grants disk core held notes → notes.is_settled ≡ true → IsSettled disk
 settled_in grants disk None held notes down settled = down.settled settled
 settled_in grants disk (Some core) held notes up settled = up.fits.log.append.settled
 

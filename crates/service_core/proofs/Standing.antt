@@ -195,6 +195,7 @@ stop_fits core disk stop fits = record {
   tables = fits.tables;
   book = fits.book;
   source = fits.source;
+  sequences = fits.sequences;
   current = fits.current;
 }
 

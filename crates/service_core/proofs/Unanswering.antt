@@ -39,7 +39,7 @@ use Rattle.service_core.proofs.Taken.{IsReady, made_ready, session_shown, taken_
 
 -- ---- an image between two stores holds a front of what was added
 
-none_read : (image : List ℕ) (journal : Journal) → journal_of image ≡ Ok journal → records_of image ≡ Ok [] → ⊥
+pub none_read : (image : List ℕ) (journal : Journal) → journal_of image ≡ Ok journal → records_of image ≡ Ok [] → ⊥
 unfolding so_far_of
 none_read image journal reads none =
     let records : journal_in (with_gates (judged Empty 8 (whole_records image)) (Ok [])) ≡ Ok journal = subst (λ (r : Result (List (List ℕ)) ℕ). journal_in (with_gates (judged Empty 8 (whole_records image)) r) ≡ Ok journal) none reads in

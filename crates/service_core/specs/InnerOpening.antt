@@ -1,12 +1,7 @@
 -- The parts of an opening.
-use Rattle.std.specs.Prelude.{◌≡◌, ◌-◌, ◌^◌, ℕ, All, Bool, pos, int_lt, List, IsTrue}
+use Rattle.std.specs.Prelude.{◌≡◌, ◌-◌, ◌^◌, All, Bool, pos, int_lt, IsTrue}
 use Rattle.std.specs.List.{list_all}
-use Rattle.svc_values.specs.declared.value.Value.{Value}
-use Rattle.svc_values.specs.declared.schema.Schema.{Schema}
-use Rattle.svc_values.specs.declared.entry.Entry.{Entry}
-use Rattle.svc_values.specs.declared.tables.PlainRow.{PlainRow}
 use Rattle.svc_values.specs.meaning.Fitting.{writes_fit}
-use Rattle.svc_values.specs.meaning.Schemas.{key_of}
 use Rattle.ltxid_book.specs.Sessions.{sessions_in}
 use Rattle.mutable_values.specs.declared.grants.Grants.{Grants}
 use Rattle.mutable_values.specs.declared.source.SeqState.{SeqState}
@@ -21,17 +16,9 @@ use Rattle.server_model.specs.meaning.Core.{sequence_at}
 use Rattle.server_session.specs.Fits.{tables_of, sequence_of}
 use Rattle.service_core.specs.Opening.{source_of}
 
--- a row of a table, as it is kept
-abbrev pub plain_row : List ℕ → List Value → PlainRow
-plain_row table row = record { table = table; key = key_of row; row = row }
-
 -- its values end far enough below the greatest number
 abbrev pub ends_low : Journal → BaseSequence → Bool
 ends_low journal sequence = int_lt (end_of journal.reserved sequence) (pos (2 ^ 63 - 1))
-
--- its writes fit what is declared
-abbrev pub entry_fits : List Schema → Entry → Bool
-entry_fits schemas entry = writes_fit schemas entry.writes
 
 -- a sequence of the journal, as it begins in an opening
 abbrev pub state_of : Journal → BaseSequence → SeqState

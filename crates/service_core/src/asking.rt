@@ -30,7 +30,7 @@ fn answer_of(verdict: Verdict) -> Verdict
 impl<D: StopDisk> OneService<D> {
     /// Tells the outcome of an identifier. One that may still commit is blocked first, and told as
     /// blocked. Logarithmic in the sessions of the book.
-    pub(crate) fn tell(&mut self, x: &Ltxid) -> Result<Verdict, ServeFault>
+    pub fn tell(&mut self, x: &Ltxid) -> Result<Verdict, ServeFault>
         requires live { self.old.notes.is_spent ≡ false }
         requires few { self.old.notes.calls < 2 ^ 48 }
         requires up { (state_in self.old).is_up ≡ true }

@@ -1,6 +1,6 @@
 //! Crashes of a service.
 ghost use Rattle.std.specs.Prelude.{◌≡◌, ◌<◌, ◌^◌, false};
-ghost use Rattle.server_model.specs.ServiceCalls.{Crashed, MayCrash};
+ghost use Rattle.server_model.specs.ServiceCalls.{Crashed};
 ghost use Rattle.service_calls.specs.Kept.{Goes, HaveOneBase};
 ghost use Rattle.service_core.specs.Seeing.{LeavesIn, SeesIn, bytes_in, state_in};
 ghost use Rattle.service_core.specs.Shipping.{Fell};
@@ -11,10 +11,9 @@ use disk_model::StopDisk;
 impl<D: StopDisk> OneService<D> {
     /// Ends it as a crash does: all connections end, and of what a stopped call stored the disk
     /// leaves what the pick's remainder by 4 says.
-    pub(crate) fn fall(&mut self, pick: u8)
+    pub fn fall(&mut self, pick: u8)
         requires live { self.old.notes.is_spent ≡ false }
         requires few { self.old.notes.calls < 2 ^ 48 }
-        requires may { MayCrash (state_in self.old) pick }
         ensures left { LeavesIn self.old (state_in self.new).store }
         ensures crashed { Goes (SeesIn self.old) (SeesIn self.new) (λ old new. Crashed old pick new) }
         ensures base { HaveOneBase (bytes_in self.old) (bytes_in self.new) }

@@ -16,4 +16,3 @@ mod shipping;
 mod up;
 
 pub use one::OneService;
-pub use opening::tables_of;

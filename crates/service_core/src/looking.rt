@@ -17,7 +17,7 @@ use std::alloc::Global;
 impl<D: StopDisk + Drop> OneService<D> {
     /// What the store holds, and the disk. What the service has in memory goes first, so that the
     /// store is read into the room of the tables.
-    pub(crate) fn read_at_end(self, alloc: Global) -> (Result<Journal, ServeFault>, D)
+    pub fn read_at_end(self, alloc: Global) -> (Result<Journal, ServeFault>, D)
         requires live { self.notes.is_spent ≡ false }
         ensures told { IfOk result.0 (λ journal. journal_of (bytes_in self) ≡ Ok journal) }
         ensures cause { IsErrOf result.0 ServeFault.Stopped → self.disk.quiet ≡ true → self.disk.stop ≢ None }
@@ -42,7 +42,7 @@ impl<D: StopDisk + Drop> OneService<D> {
 
 impl<D: StopDisk> OneService<D> {
     /// What the store holds. It writes nothing, and reads the whole store.
-    pub(crate) fn read_journal(&mut self, alloc: Global) -> Result<Journal, ServeFault>
+    pub fn read_journal(&mut self, alloc: Global) -> Result<Journal, ServeFault>
         requires live { self.old.notes.is_spent ≡ false }
         requires few { self.old.notes.calls < 2 ^ 48 }
         ensures told { IfOk result (λ journal. journal_of (bytes_in self.new) ≡ Ok journal) }
@@ -69,7 +69,7 @@ impl<D: StopDisk> OneService<D> {
     }
 
     /// The bytes of the store. It writes nothing.
-    pub(crate) fn read_image(&mut self, alloc: Global) -> Result<Vec<u8>, ServeFault>
+    pub fn read_image(&mut self, alloc: Global) -> Result<Vec<u8>, ServeFault>
         requires live { self.old.notes.is_spent ≡ false }
         requires few { self.old.notes.calls < 2 ^ 48 }
         ensures told { IfOk result (λ image. image.items ≡ bytes_in self.new) }

@@ -44,14 +44,14 @@ impl<D: StopDisk> Model for OneService<D> {
 
 impl<D: StopDisk> OneService<D> {
     /// Whether it serves.
-    pub(crate) fn serves(&self) -> bool
+    pub fn serves(&self) -> bool
         ensures { result ≡ is_some self.now.core }
     {
         self.core.is_some()
     }
 
     /// The incarnation of this opening. Of a service that is down it says nothing.
-    pub(crate) fn opening(&self) -> u64
+    pub fn opening(&self) -> u64
         ensures { (state_in self.now).is_up ≡ true → result ≡ (state_in self.now).store.incarnation }
     {
         match &self.core {
@@ -61,7 +61,7 @@ impl<D: StopDisk> OneService<D> {
     }
 
     /// Makes a connection, where the service is up.
-    pub(crate) fn add(&mut self, connection: u64) -> Result<bool, NoMemory>
+    pub fn add(&mut self, connection: u64) -> Result<bool, NoMemory>
         requires live { self.old.notes.is_spent ≡ false }
         requires few { self.old.notes.calls < 2 ^ 48 }
         requires new { (state_in self.old).living connection ≡ None }
@@ -85,7 +85,7 @@ impl<D: StopDisk> OneService<D> {
     }
 
     /// Ends a connection, with its session.
-    pub(crate) fn end(&mut self, connection: u64)
+    pub fn end(&mut self, connection: u64)
         requires live { self.old.notes.is_spent ≡ false }
         requires few { self.old.notes.calls < 2 ^ 48 }
         ensures reaped { Goes (SeesIn self.old) (SeesIn self.new) (λ old new. Reaped old connection new) }
@@ -97,7 +97,7 @@ impl<D: StopDisk> OneService<D> {
     }
 
     /// Sets a stop, or takes it away.
-    pub(crate) fn set_stop(&mut self, calls: Option<u64>)
+    pub fn set_stop(&mut self, calls: Option<u64>)
         requires live { self.old.notes.is_spent ≡ false }
         requires few { self.old.notes.calls < 2 ^ 48 }
         ensures stop { Goes (SeesIn self.old) (SeesIn self.new) (λ old new. new ≡ with_stop old calls) }

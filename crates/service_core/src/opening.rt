@@ -1,28 +1,26 @@
 //! A new opening of a store: the tables, the book and the source of values that its journal says.
-ghost use Rattle.std.specs.Prelude.{◌≡◌, ◌≤◌, All, IfOk, OnOk, IsErrOf, IsTrue, length, map};
-ghost use Rattle.std.specs.List.{flat_map, list_all};
+ghost use Rattle.std.specs.Prelude.{◌≡◌, IfOk, IsErrOf, IsTrue, map};
+ghost use Rattle.std.specs.List.{list_all};
 ghost use Rattle.disk_model.specs.Disk.{Meanwhile, IsSettled, LoweredByLess, Caused};
-ghost use Rattle.svc_values.specs.meaning.Fitting.{writes_fit};
-ghost use Rattle.table_store.specs.Given.{is_index_of, plain};
-ghost use Rattle.commit_log.specs.meaning.Bases.{is_sequence, rows_of, schema_in, schemas_of, start_of as start_def};
-ghost use Rattle.commit_log.specs.Bases.{IsBase};
+ghost use Rattle.table_store.specs.Given.{is_index_of};
+ghost use Rattle.commit_log.specs.meaning.Bases.{is_sequence, schemas_of};
 ghost use Rattle.commit_log.specs.meaning.Journals.{so_far_of};
 ghost use Rattle.commit_log.specs.Growth.{IsGrown, opening_of};
-ghost use Rattle.server_model.specs.Core.{tables_with};
 ghost use Rattle.service_core.specs.Indexed.{FitBase};
 ghost use Rattle.service_core.specs.Opening.{CanOpen, HasOpened, source_of as source_def, stop_of};
-ghost use Rattle.service_core.specs.InnerOpening.{CanGoOn, IsCoreOf, ends_low, entry_fits, state_of};
+ghost use Rattle.service_core.specs.InnerOpening.{CanGoOn, IsCoreOf, ends_low, state_of};
 
 use commit_log::laws::keeps_journal;
-use commit_log::{Base, BaseSequence, BaseTable, BaseTables, Journal, Log, LogFault};
+use commit_log::{BaseSequence, Journal, Log, LogFault};
 use disk_model::Disk;
+use journal_tables::indexed_tables_of;
 use ltxid_book::Book;
 use mutable_values::{Grants, SeqState, Source};
 use server_model::ServeFault;
 use server_session::Core;
 use std::alloc::Global;
-use svc_values::{Entry, NoMemory, Schema, Schemas, TryCopy};
-use table_store::{IndexOf, TableRows, Tables};
+use svc_values::{NoMemory, TryCopy};
+use table_store::IndexOf;
 
 /// Opens the store of a disk for the next incarnation, with the outcomes of all incarnations below
 /// `horizon` forgotten: what its sessions share.
@@ -78,7 +76,7 @@ fn core_of(
     )?;
     let source = source_of(alloc, &journal)?;
     let Journal { base, entries, .. } = journal;
-    let tables = tables_of(alloc, base, entries.as_slice(), indexes)?;
+    let tables = indexed_tables_of(alloc, base, entries.as_slice(), indexes)?;
     Ok(Core {
         tables,
         commits: 0,
@@ -132,64 +130,4 @@ fn sequence_of(
         upto,
         keep: sequence.keep,
     })
-}
-
-/// The tables of a base, indexed by these columns, with what these entries wrote. n log n for n rows and
-/// writes, and for n rows of each index.
-pub fn tables_of(
-    alloc: Global,
-    base: Base,
-    entries: &[Entry],
-    indexes: &[IndexOf],
-) -> Result<Tables, NoMemory>
-    requires base { IsBase base }
-    requires fitting { All (λ entry. IsTrue (writes_fit (schemas_of base) entry.writes)) entries.now }
-    requires indexes { IsTrue (list_all (is_index_of (schemas_of base)) indexes.now) }
-    ensures { IfOk result (λ tables. tables ≡ record { schemas = schemas_of base; rows = tables_with (start_def base) entries.now }) }
-{
-    let mut tables = start_of(alloc, base, indexes)?;
-    apply_each(&mut tables, entries)?;
-    Ok(tables)
-}
-
-/// The tables after the writes of these entries.
-fn apply_each(tables: &mut Tables, entries: &[Entry]) -> Result<(), NoMemory>
-    requires { IsTrue (list_all (entry_fits tables.old.schemas) entries.now) }
-    ensures { OnOk result (tables.new ≡ record { schemas = tables.old.schemas; rows = tables_with tables.old.rows entries.now }) }
-{
-    for entry in entries {
-        tables.apply(&entry.writes)?;
-    }
-    Ok(())
-}
-
-/// The tables of the base, indexed by these columns.
-fn start_of(alloc: Global, base: Base, indexes: &[IndexOf]) -> Result<Tables, NoMemory>
-    requires base { IsBase base }
-    requires indexes { IsTrue (list_all (is_index_of (schemas_of base)) indexes.now) }
-    ensures { IfOk result (λ tables. tables ≡ record { schemas = schemas_of base; rows = start_def base }) }
-{
-    let Base { tables, .. } = base;
-    let (schemas, given) = gathered(alloc, tables)?;
-    Tables::indexed(alloc, Schemas::from_vec(schemas), given, indexes)
-}
-
-/// The declarations of the tables, and the rows of each, which are moved.
-fn gathered(alloc: Global, tables: BaseTables) -> Result<(Vec<Schema>, Vec<TableRows>), NoMemory>
-    ensures schemas { IfOk result (λ all. all.0.items ≡ map schema_in tables) }
-    ensures rows { IfOk result (λ all. plain all.1.items ≡ flat_map rows_of tables) }
-    ensures few { IfOk result (λ all. length all.0.items ≤ 32) }
-{
-    let mut schemas = Vec::with_capacity(alloc, tables.len())?;
-    let mut given = Vec::with_capacity(alloc, tables.len())?;
-    for one in tables.into_vec() {
-        let BaseTable { schema, rows } = one;
-        let table = schema.name.copy(alloc)?;
-        given.push(TableRows {
-            table,
-            rows: rows.into_vec(),
-        })?;
-        schemas.push(schema)?;
-    }
-    Ok((schemas, given))
 }

@@ -130,7 +130,7 @@ fn begin_and_run<D: Disk>(
 
 impl<D: StopDisk> OneService<D> {
     /// Runs calls in a session of their own, up to the first that is answered Blocked.
-    pub(crate) fn run_outside(
+    pub fn run_outside(
         &mut self,
         alloc: Global,
         calls: &[Call],

@@ -68,7 +68,7 @@ fn put_back(held: &mut Connections, connection: u64, session: Session)
 
 impl<D: StopDisk> OneService<D> {
     /// Serves one frame of a living connection, by its session: the one that it has, or the next.
-    pub(crate) fn serve_frame(
+    pub fn serve_frame(
         &mut self,
         alloc: Global,
         connection: u64,

@@ -1,11 +1,11 @@
 //! What a second store asks of a service: the records that it lacks, and to be taken for stopped.
-ghost use Rattle.std.specs.Prelude.{◌≡◌, ◌<◌, ◌^◌, List, ℕ, IfOk, IsErrOf, false, true, map};
+ghost use Rattle.std.specs.Prelude.{◌≡◌, ◌<◌, ◌≤◌, ◌^◌, List, ℕ, IfOk, IsErrOf, false, true, map};
 ghost use Rattle.disk_model.specs.Moment.{MayLeave};
 ghost use Rattle.commit_log.specs.declared.base.Base.{Base as Begun};
 ghost use Rattle.service_calls.specs.Kept.{HaveOneBase};
 ghost use Rattle.service_core.specs.Seeing.{bytes_in, state_in};
 ghost use Rattle.service_core.specs.Shipping.{AreBehind, FailedRead, StandsAt, count_in, halted, read_once, taken};
-ghost use Rattle.service_core.specs.Sound.{HasFaultRoom, Reads};
+ghost use Rattle.service_core.specs.Sound.{HasFaultRoom, IsKept, Reads};
 
 use crate::one::OneService;
 use disk_model::{Disk, StopDisk};
@@ -15,6 +15,14 @@ use std::alloc::Global;
 use std::mem;
 
 impl<D: StopDisk> OneService<D> {
+    /// Does nothing. Its contract is what each service keeps to, whatever was called.
+    pub fn keeps_to_it(&self)
+        ensures { IsKept self.now }
+    {
+        // (the invariant is known where a field is looked at)
+        let _ = &self.disk;
+    }
+
     /// The number of records that its store has. Of a service that is down it says nothing.
     pub fn count(&self) -> u64
         ensures { (state_in self.now).is_up ≡ true → result ≡ count_in self.now }
@@ -43,7 +51,7 @@ impl<D: StopDisk> OneService<D> {
     ) -> Result<Vec<Vec<u8>>, ServeFault>
         requires live { self.old.notes.is_spent ≡ false }
         requires once { self.old.notes.reads < self.old.notes.calls }
-        requires few { self.old.notes.calls < 2 ^ 48 }
+        requires few { self.old.notes.calls ≤ 2 ^ 48 }
         requires stands { StandsAt from place (bytes_in self.old) }
         ensures read { IfOk result (λ _. self.new ≡ read_once self.old) }
         ensures failed { IsErrOf result ServeFault.Stopped → FailedRead self.old self.new }

@@ -17,7 +17,7 @@ use std::alloc::Global;
 impl<D: StopDisk> OneService<D> {
     /// Opens the store for the next incarnation, and forgets the outcomes of all incarnations below
     /// `horizon`. The cost is that of `open`.
-    pub(crate) fn reopen(&mut self, alloc: Global, horizon: u64) -> Result<(), ServeFault>
+    pub fn reopen(&mut self, alloc: Global, horizon: u64) -> Result<(), ServeFault>
         requires live { self.old.notes.is_spent ≡ false }
         requires few { self.old.notes.calls < 2 ^ 48 }
         requires down { ((state_in self.old).is_up ≡ false) × ((state_in self.old).is_settled ≡ true) }

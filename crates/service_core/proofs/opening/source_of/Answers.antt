@@ -5,7 +5,7 @@ use Rattle.mutable_values.specs.declared.source.SeqState.{SeqState}
 use Rattle.mutable_values.specs.Sources.{are_sequences}
 use Rattle.commit_log.specs.declared.base.BaseSequence.{BaseSequence}
 use Rattle.commit_log.specs.meaning.Bases.{is_sequence}
-use Rattle.service_core.proofs.BaseRows.{sequences_begin}
+use Rattle.journal_tables.proofs.Offered.{sequences_begin}
 use Rattle.service_core.proofs.GoingOn.{source_is, made_is}
 use Rattle.service_core.proofs.opening.source_of.Goals as goal
 

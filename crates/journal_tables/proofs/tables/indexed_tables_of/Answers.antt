@@ -6,7 +6,7 @@ use Rattle.svc_values.specs.declared.schema.Schema.{Schema}
 use Rattle.table_store.specs.Stored.{Stored}
 use Rattle.commit_log.specs.meaning.Bases.{schemas_of}
 use Rattle.journal_tables.specs.Written.{entry_fits}
-use Rattle.journal_tables.proofs.tables.tables_of.Goals as goal
+use Rattle.journal_tables.proofs.tables.indexed_tables_of.Goals as goal
 
 pub apply_each-requires : goal.apply_each-requires
 apply_each-requires c =

@@ -1,0 +1,4 @@
+-- Lemmas on this crate's words that the crates above cite.
+
+-- the tables and sequences of a document are a base
+pub use Rattle.before_run.proofs.StartBase.{begins_base}
