@@ -1,5 +1,5 @@
-use Rattle.shown_laws.proofs.IdentifiersTold.{calls_identified}
-use Rattle.shown_laws.proofs.Standing.{all_stand}
+use Rattle.shown_laws.proofs.shown.IdentifiersTold.{calls_identified}
+use Rattle.shown_laws.proofs.links.Standing.{all_stand}
 use Rattle.shown_laws.proofs.laws.calls_are_identified.Goals as goal
 
 pub returns : goal.returns

@@ -1,5 +1,5 @@
-use Rattle.shown_laws.proofs.LinksTold.{runs_told, finishes_told}
-use Rattle.shown_laws.proofs.Standing.{all_stand}
+use Rattle.shown_laws.proofs.links.LinksTold.{runs_told, finishes_told}
+use Rattle.shown_laws.proofs.links.Standing.{all_stand}
 use Rattle.shown_laws.proofs.laws.connections_are_told.Goals as goal
 
 pub returns : goal.returns

@@ -1,4 +1,4 @@
-use Rattle.shown_laws.proofs.RunsGrow.{runs_counted, runs_grow, finishes_counted, finishes_grow}
+use Rattle.shown_laws.proofs.events.RunsGrow.{runs_counted, runs_grow, finishes_counted, finishes_grow}
 use Rattle.shown_laws.proofs.laws.events_are_told.Goals as goal
 
 pub returns : goal.returns

@@ -1,5 +1,5 @@
-use Rattle.shown_laws.proofs.Standing.{all_stand}
-use Rattle.shown_laws.proofs.UnclosedRuns.{runs_unclosed, finishes_unclosed}
+use Rattle.shown_laws.proofs.links.Standing.{all_stand}
+use Rattle.shown_laws.proofs.links.UnclosedRuns.{runs_unclosed, finishes_unclosed}
 use Rattle.shown_laws.proofs.laws.held_connections_stay_unclosed.Goals as goal
 
 pub returns : goal.returns

@@ -1,5 +1,5 @@
-use Rattle.shown_laws.proofs.RequestsGrow.{requests_grow}
-use Rattle.shown_laws.proofs.Standing.{all_stand}
+use Rattle.shown_laws.proofs.steps.RequestsGrow.{requests_grow}
+use Rattle.shown_laws.proofs.links.Standing.{all_stand}
 use Rattle.shown_laws.proofs.laws.requests_go_on.Goals as goal
 
 pub returns : goal.returns

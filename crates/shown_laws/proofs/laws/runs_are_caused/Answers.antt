@@ -1,4 +1,4 @@
-use Rattle.shown_laws.proofs.CausedRuns.{runs_are_caused}
+use Rattle.shown_laws.proofs.judged.CausedRuns.{runs_are_caused}
 use Rattle.shown_laws.proofs.laws.runs_are_caused.Goals as goal
 
 pub returns : goal.returns

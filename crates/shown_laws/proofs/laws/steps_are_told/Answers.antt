@@ -1,5 +1,5 @@
-use Rattle.shown_laws.proofs.ClientsTold.{runs_tell_steps, finishes_tell_steps}
-use Rattle.shown_laws.proofs.Standing.{all_stand}
+use Rattle.shown_laws.proofs.steps.ClientsTold.{runs_tell_steps, finishes_tell_steps}
+use Rattle.shown_laws.proofs.links.Standing.{all_stand}
 use Rattle.shown_laws.proofs.laws.steps_are_told.Goals as goal
 
 pub returns : goal.returns

@@ -1,5 +1,5 @@
-use Rattle.shown_laws.proofs.Standing.{all_stand}
-use Rattle.shown_laws.proofs.TurnsInRuns.{reached_turns, finishing_turns}
+use Rattle.shown_laws.proofs.links.Standing.{all_stand}
+use Rattle.shown_laws.proofs.owners.TurnsInRuns.{reached_turns, finishing_turns}
 use Rattle.shown_laws.proofs.laws.turns_are_told.Goals as goal
 
 pub returns : goal.returns

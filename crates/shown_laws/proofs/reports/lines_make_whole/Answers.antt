@@ -1,4 +1,4 @@
-use Rattle.shown_laws.proofs.WholeLines.{lines_make_whole}
+use Rattle.shown_laws.proofs.judged.WholeLines.{lines_make_whole}
 use Rattle.shown_laws.proofs.reports.lines_make_whole.Goals as goal
 
 pub returns : goal.returns

@@ -1,5 +1,5 @@
 use Rattle.shown_laws.specs.AnswersTold.{calls_answered}
-use Rattle.shown_laws.proofs.ReportsTold.{reports_hold}
+use Rattle.shown_laws.proofs.judged.ReportsTold.{reports_hold}
 use Rattle.shown_laws.proofs.reports.reports_answer_calls.Goals as goal
 
 pub returns : goal.returns

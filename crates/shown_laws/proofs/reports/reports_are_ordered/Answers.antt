@@ -1,4 +1,4 @@
-use Rattle.shown_laws.proofs.ReportsOrdered.{reports_ordered}
+use Rattle.shown_laws.proofs.judged.ReportsOrdered.{reports_ordered}
 use Rattle.shown_laws.proofs.reports.reports_are_ordered.Goals as goal
 
 pub returns : goal.returns

@@ -1,4 +1,4 @@
-use Rattle.shown_laws.proofs.WholeReports.{identifiers_listed}
+use Rattle.shown_laws.proofs.judged.WholeReports.{identifiers_listed}
 use Rattle.shown_laws.proofs.reports.reports_identify_calls.Goals as goal
 
 pub returns : goal.returns

@@ -1,6 +1,6 @@
 use Rattle.shown_clauses.specs.meaning.Parts.{has_its_sessions}
 use Rattle.shown_clauses.specs.meaning.Showings.{has_its_showings}
-use Rattle.shown_laws.proofs.ReportsTold.{reports_hold, outcomes_listed}
+use Rattle.shown_laws.proofs.judged.ReportsTold.{reports_hold, outcomes_listed}
 use Rattle.shown_laws.proofs.reports.reports_list_parts.Goals as goal
 
 pub returns : goal.returns

@@ -1,4 +1,4 @@
-use Rattle.shown_laws.proofs.ReportsTurns.{turns_with_clients, turns_right_told, turns_with_requests}
+use Rattle.shown_laws.proofs.judged.ReportsTurns.{turns_with_clients, turns_right_told, turns_with_requests}
 use Rattle.shown_laws.proofs.reports.reports_own_turns.Goals as goal
 
 pub returns : goal.returns

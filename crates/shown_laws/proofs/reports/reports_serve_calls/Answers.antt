@@ -1,5 +1,5 @@
 use Rattle.shown_clauses.specs.meaning.Showings.{calls_served}
-use Rattle.shown_laws.proofs.ReportsTold.{reports_hold}
+use Rattle.shown_laws.proofs.judged.ReportsTold.{reports_hold}
 use Rattle.shown_laws.proofs.reports.reports_serve_calls.Goals as goal
 
 pub returns : goal.returns

@@ -1,4 +1,4 @@
-use Rattle.shown_laws.proofs.ReportsTold.{replies_listed}
+use Rattle.shown_laws.proofs.judged.ReportsTold.{replies_listed}
 use Rattle.shown_laws.proofs.reports.reports_take_replies.Goals as goal
 
 pub returns : goal.returns

@@ -1,4 +1,4 @@
-use Rattle.shown_laws.proofs.WholeReports.{runs_whole}
+use Rattle.shown_laws.proofs.judged.WholeReports.{runs_whole}
 use Rattle.shown_laws.proofs.reports.runs_are_whole.Goals as goal
 
 pub returns : goal.returns

@@ -1,4 +1,4 @@
-use Rattle.shown_laws.proofs.HeldTurns.{runs_right, finishes_right}
+use Rattle.shown_laws.proofs.owners.HeldTurns.{runs_right, finishes_right}
 use Rattle.shown_laws.proofs.turns.held_turns_are_right.Goals as goal
 
 pub returns : goal.returns

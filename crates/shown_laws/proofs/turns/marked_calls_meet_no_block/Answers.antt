@@ -1,4 +1,4 @@
-use Rattle.shown_laws.proofs.MarksUnblocked.{runs_unblocked, ends_unblocked}
+use Rattle.shown_laws.proofs.owners.MarksUnblocked.{runs_unblocked, ends_unblocked}
 use Rattle.shown_laws.proofs.turns.marked_calls_meet_no_block.Goals as goal
 
 pub returns : goal.returns

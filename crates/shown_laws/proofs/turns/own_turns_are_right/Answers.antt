@@ -1,5 +1,5 @@
-use Rattle.shown_laws.proofs.OwnTurns.{own_right}
-use Rattle.shown_laws.proofs.WireFronts.{on_wire}
+use Rattle.shown_laws.proofs.owners.OwnTurns.{own_right}
+use Rattle.shown_laws.proofs.links.WireFronts.{on_wire}
 use Rattle.shown_laws.proofs.turns.own_turns_are_right.Goals as goal
 
 pub returns : goal.returns

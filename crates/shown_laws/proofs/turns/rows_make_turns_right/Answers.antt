@@ -1,4 +1,4 @@
-use Rattle.shown_laws.proofs.RowTurns.{marks_told, rows_make_right}
+use Rattle.shown_laws.proofs.owners.RowTurns.{marks_told, rows_make_right}
 use Rattle.shown_laws.proofs.turns.rows_make_turns_right.Goals as goal
 
 pub returns : goal.returns

@@ -1,5 +1,5 @@
-use Rattle.shown_laws.proofs.Standing.{all_stand}
-use Rattle.shown_laws.proofs.TurnsRightRuns.{runs_tell_right, finishes_tell_right}
+use Rattle.shown_laws.proofs.links.Standing.{all_stand}
+use Rattle.shown_laws.proofs.owners.TurnsRightRuns.{runs_tell_right, finishes_tell_right}
 use Rattle.shown_laws.proofs.turns.told_turns_are_right.Goals as goal
 
 pub returns : goal.returns

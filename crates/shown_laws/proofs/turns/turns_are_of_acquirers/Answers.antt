@@ -1,6 +1,6 @@
-use Rattle.shown_laws.proofs.OwnersTold.{reached_owners}
-use Rattle.shown_laws.proofs.Standing.{all_stand}
-use Rattle.shown_laws.proofs.TurnsOwned.{whole_runs_own}
+use Rattle.shown_laws.proofs.owners.OwnersTold.{reached_owners}
+use Rattle.shown_laws.proofs.links.Standing.{all_stand}
+use Rattle.shown_laws.proofs.owners.TurnsOwned.{whole_runs_own}
 use Rattle.shown_laws.proofs.turns.turns_are_of_acquirers.Goals as goal
 
 pub returns : goal.returns

@@ -1,5 +1,5 @@
-use Rattle.shown_laws.proofs.Standing.{all_stand}
-use Rattle.shown_laws.proofs.TurnsInRuns.{reached_over, finishing_over}
+use Rattle.shown_laws.proofs.links.Standing.{all_stand}
+use Rattle.shown_laws.proofs.owners.TurnsInRuns.{reached_over, finishing_over}
 use Rattle.shown_laws.proofs.turns.turns_before_are_told.Goals as goal
 
 pub returns : goal.returns

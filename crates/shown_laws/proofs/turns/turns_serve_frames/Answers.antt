@@ -1,5 +1,5 @@
-use Rattle.shown_laws.proofs.ServedFront.{serves_a_front}
-use Rattle.shown_laws.proofs.ServedSent.{serves_its_frames}
+use Rattle.shown_laws.proofs.owners.ServedFront.{serves_a_front}
+use Rattle.shown_laws.proofs.owners.ServedSent.{serves_its_frames}
 use Rattle.shown_laws.proofs.turns.turns_serve_frames.Goals as goal
 
 pub returns : goal.returns

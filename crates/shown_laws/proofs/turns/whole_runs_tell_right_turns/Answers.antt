@@ -1,5 +1,5 @@
-use Rattle.shown_laws.proofs.AllTurnsRight.{whole_runs_tell_right}
-use Rattle.shown_laws.proofs.Standing.{all_stand}
+use Rattle.shown_laws.proofs.owners.AllTurnsRight.{whole_runs_tell_right}
+use Rattle.shown_laws.proofs.links.Standing.{all_stand}
 use Rattle.shown_laws.proofs.turns.whole_runs_tell_right_turns.Goals as goal
 
 pub returns : goal.returns

@@ -1,4 +1,4 @@
-use Rattle.shown_laws.proofs.AnswersTold.{calls_are_answered}
+use Rattle.shown_laws.proofs.shown.AnswersTold.{calls_are_answered}
 use Rattle.shown_laws.proofs.whole.calls_are_answered.Goals as goal
 
 pub returns : goal.returns

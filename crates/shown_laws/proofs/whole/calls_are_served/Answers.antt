@@ -1,4 +1,4 @@
-use Rattle.shown_laws.proofs.CallsServed.{calls_are_served}
+use Rattle.shown_laws.proofs.shown.CallsServed.{calls_are_served}
 use Rattle.shown_laws.proofs.whole.calls_are_served.Goals as goal
 
 pub returns : goal.returns

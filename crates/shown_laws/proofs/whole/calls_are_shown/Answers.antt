@@ -1,4 +1,4 @@
-use Rattle.shown_laws.proofs.ShowingsHold.{calls_shown}
+use Rattle.shown_laws.proofs.shown.ShowingsHold.{calls_shown}
 use Rattle.shown_laws.proofs.whole.calls_are_shown.Goals as goal
 
 pub returns : goal.returns

@@ -1,4 +1,4 @@
-use Rattle.shown_laws.proofs.IdentifiersHold.{identifiers_stored}
+use Rattle.shown_laws.proofs.shown.IdentifiersHold.{identifiers_stored}
 use Rattle.shown_laws.proofs.whole.identifiers_are_stored.Goals as goal
 
 pub returns : goal.returns

@@ -1,4 +1,4 @@
-use Rattle.shown_laws.proofs.CallsServed.{outcomes_are_lone}
+use Rattle.shown_laws.proofs.shown.CallsServed.{outcomes_are_lone}
 use Rattle.shown_laws.proofs.whole.outcomes_are_lone.Goals as goal
 
 pub returns : goal.returns

@@ -1,4 +1,4 @@
-use Rattle.shown_laws.proofs.ShowingsHold.{outcomes_taken}
+use Rattle.shown_laws.proofs.shown.ShowingsHold.{outcomes_taken}
 use Rattle.shown_laws.proofs.whole.outcomes_are_taken.Goals as goal
 
 pub returns : goal.returns

@@ -1,4 +1,4 @@
-use Rattle.shown_laws.proofs.TakesTold.{replies_taken}
+use Rattle.shown_laws.proofs.steps.TakesTold.{replies_taken}
 use Rattle.shown_laws.proofs.whole.replies_are_taken.Goals as goal
 
 pub returns : goal.returns

@@ -1,4 +1,4 @@
-use Rattle.shown_laws.proofs.PartsHold.{sessions_acquired}
+use Rattle.shown_laws.proofs.shown.PartsHold.{sessions_acquired}
 use Rattle.shown_laws.proofs.whole.sessions_are_acquired.Goals as goal
 
 pub returns : goal.returns

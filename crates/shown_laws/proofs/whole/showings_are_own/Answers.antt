@@ -1,4 +1,4 @@
-use Rattle.shown_laws.proofs.OwnShown.{own_shown}
+use Rattle.shown_laws.proofs.shown.OwnShown.{own_shown}
 use Rattle.shown_laws.proofs.whole.showings_are_own.Goals as goal
 
 pub returns : goal.returns

@@ -1,0 +1,24 @@
+-- The turns of connections: which calls each has, and whose they are.
+pub mod AllTurnsRight
+pub mod BeginOwner
+pub mod BeginsTold
+pub mod CallsFit
+pub mod HeldTurns
+pub mod MarksUnblocked
+pub mod OwnTurns
+pub mod OwnersTold
+pub mod RowTurns
+pub mod ServedFront
+pub mod ServedSent
+pub mod SessionsTied
+pub mod TurnBriefs
+pub mod TurnHeard
+pub mod TurnOwner
+pub mod TurnSent
+pub mod TurnsBegun
+pub mod TurnsHappen
+pub mod TurnsInRuns
+pub mod TurnsOver
+pub mod TurnsOwned
+pub mod TurnsRight
+pub mod TurnsRightRuns

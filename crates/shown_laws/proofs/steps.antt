@@ -1,0 +1,25 @@
+-- What is told of the steps of each client, request by request.
+pub mod ActsTold
+pub mod BeforeSession
+pub mod ChainHolds
+pub mod ChainTold
+pub mod ClientsTold
+pub mod CoursesOver
+pub mod FrameAnswered
+pub mod HeldOnce
+pub mod LoudSteps
+pub mod PartsCut
+pub mod PartsSplit
+pub mod ReplyTaken
+pub mod RequestCourses
+pub mod RequestsGrow
+pub mod RequestsOver
+pub mod SessionsReached
+pub mod StepsAmong
+pub mod StepsOwned
+pub mod StepsTold
+pub mod SubmissionsTold
+pub mod TakenAs
+pub mod TakesTold
+pub mod ToldRise
+pub mod TookTold
