@@ -5,15 +5,9 @@ use Rattle.svc_values.specs.declared.entry.Ltxid.{Ltxid}
 use Rattle.svc_values.specs.meaning.Identifiers.{same_ltxid, is_of_session}
 use Rattle.run_clauses.specs.meaning.Tried.{holds}
 use Rattle.run_clauses.specs.meaning.Sessions.{is_foreign}
-use Rattle.entry_check.specs.Ids.{ltxid_at, session_at}
+use Rattle.entry_check.specs.Ids.{key_of, ltxid_at, same_key, session_at}
 
 -- ---- keys
-
-abbrev pub same_key : ℕ × ℕ × ℕ → ℕ × ℕ × ℕ → Bool
-same_key a b = (eqb a.0 b.0 && eqb a.1 b.1) && eqb a.2 b.2
-
-abbrev pub key_of : Ltxid → ℕ × ℕ × ℕ
-key_of x = (x.incarnation, x.session, x.number)
 
 pub key_holds : (keys : List (ℕ × ℕ × ℕ)) (x : Ltxid) → is_key same_key keys (key_of x) ≡ holds (map ltxid_at keys) x
 key_holds [] x = refl

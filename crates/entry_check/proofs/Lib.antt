@@ -8,3 +8,9 @@ mod Ends
 mod Copying
 mod CopiesCut
 mod OnceLaw
+mod Compared
+mod Granted
+mod Placing
+mod Pieces
+mod SameTxns
+mod SameLaw

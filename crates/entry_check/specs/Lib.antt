@@ -1,3 +1,5 @@
 pub mod Ids
 pub mod Once
 pub mod Copying
+pub mod InnerGranting
+pub mod InnerPlaces

@@ -1,52 +1,15 @@
 //! A test of each request of each script, with the reports of its copies.
-ghost use Rattle.std.specs.Prelude.{◌≡◌, ◌≤◌, is_none, length, take, drop, None, [], slice_get, IfOk};
-ghost use Rattle.std.specs.List.{last_or, list_all};
-ghost use Rattle.std.specs.Option.{option_copied, option_map_or};
-ghost use Rattle.run_clauses.specs.meaning.Copies.{may_be_repeated as may_be_repeated_def, is_last_uncommitted as is_last_uncommitted_def, is_repeated as is_repeated_def, copies_of, copies_by_client};
+ghost use Rattle.std.specs.Prelude.{◌≡◌, ◌≤◌, is_none, length, take, drop, [], slice_get, IfOk};
+ghost use Rattle.std.specs.List.{list_all};
+ghost use Rattle.std.specs.Option.{option_map_or};
+ghost use Rattle.run_clauses.specs.meaning.Copies.{copies_of, copies_by_client};
 ghost use Rattle.entry_check.specs.Copying.{copies_len as copies_len_def};
 
 use crate::place::{Part, Place};
-use outage_schedule::{Client, Failure, Outcome, Request, RequestReport, Transcript};
+use outage_schedule::{Client, Request, RequestReport, Transcript};
+use std::alloc::Global;
 use svc_values::NoMemory;
-
-/// Whether a request that failed so may be submitted again.
-fn may_be_repeated(failed: &Option<Failure>) -> bool
-    ensures { result ≡ may_be_repeated_def failed.now }
-{
-    match failed {
-        Some(Failure::Disabled { .. }) => true,
-        Some(Failure::Mismatch { .. }) => true,
-        Some(Failure::Replays { .. }) => true,
-        Some(Failure::ReplayTimeout { .. }) => true,
-        _ => false,
-    }
-}
-
-/// The last outcome.
-fn last_of(outcomes: &[Outcome]) -> Option<&Outcome>
-    ensures { option_copied result ≡ last_or None outcomes.now }
-{
-    outcomes.last()
-}
-
-/// Whether the last outcome is that nothing was committed.
-fn is_last_uncommitted(outcomes: &[Outcome]) -> bool
-    ensures { result ≡ is_last_uncommitted_def outcomes.now }
-{
-    match last_of(outcomes) {
-        Some(outcome) => !outcome.committed,
-        None => false,
-    }
-}
-
-/// Whether a further copy follows, where so many are allowed.
-fn is_repeated(allowed: u64, report: &RequestReport) -> bool
-    ensures { result ≡ is_repeated_def allowed report.now }
-{
-    allowed > 0
-        && may_be_repeated(&report.failed)
-        && is_last_uncommitted(report.outcomes.as_slice())
-}
+use transcript_core::is_repeated;
 
 /// How many reports from the first on are of one request, of which so many further copies are allowed.
 fn copies_len(again: u64, reports: &[RequestReport]) -> usize
@@ -63,6 +26,29 @@ fn copies_len(again: u64, reports: &[RequestReport]) -> usize
     reports.len()
 }
 
+/// What is at fault of a request with the reports of its copies.
+#[derive(Clone, Copy)]
+pub(crate) enum CopiesFault {
+    /// A part of the copy at this place.
+    Copy { copy: usize, part: Part },
+    /// The entry at this place of the report.
+    Entry(usize),
+}
+
+impl CopiesFault {
+    /// Its place in the report, where the request's first copy is this one of a client.
+    fn place(self, client: usize, first: usize) -> Place {
+        match self {
+            CopiesFault::Copy { copy, part } => Place::Request {
+                client,
+                request: first.saturating_add(copy),
+                part,
+            },
+            CopiesFault::Entry(at) => Place::Entry(at),
+        }
+    }
+}
+
 /// A test of a request with the reports of its copies.
 pub(crate) trait JudgesCopies {
     ghost use Rattle.std.specs.Prelude.{Bool};
@@ -70,12 +56,13 @@ pub(crate) trait JudgesCopies {
 
     ghost test: { Self → Copies → Bool };
 
-    /// The first copy at fault, and its part, if any is.
+    /// The first fault, if there is one.
     fn fault(
         &self,
+        alloc: Global,
         request: &Request,
         copies: &[RequestReport],
-    ) -> Result<Option<(usize, Part)>, NoMemory>
+    ) -> Result<Option<CopiesFault>, NoMemory>
         ensures { IfOk result (λ found. is_none found ≡ test self.now (record { request = request.now; reports = copies.now })) };
 }
 
@@ -97,6 +84,7 @@ fn front(reports: &[RequestReport], count: usize) -> &[RequestReport]
 
 /// The first fault of a client's requests.
 fn fault_of_script<J: JudgesCopies>(
+    alloc: Global,
     judge: &J,
     script: &[Request],
     reports: &[RequestReport],
@@ -108,14 +96,8 @@ fn fault_of_script<J: JudgesCopies>(
     for request in script {
         let rest = behind(reports, from);
         let count = copies_len(request.again, rest);
-        match judge.fault(request, front(rest, count))? {
-            Some((at, part)) => {
-                return Ok(Some(Place::Request {
-                    client,
-                    request: from.saturating_add(at),
-                    part,
-                }));
-            },
+        match judge.fault(alloc, request, front(rest, count))? {
+            Some(fault) => return Ok(Some(fault.place(client, from))),
             None => from += count,
         }
     }
@@ -134,6 +116,7 @@ fn reports_at(transcripts: &[Transcript], place: usize) -> &[RequestReport]
 
 /// The first fault of the requests of all scripts, in their order. Linear, beside the tests.
 pub(crate) fn fault_of_scripts<J: JudgesCopies>(
+    alloc: Global,
     judge: &J,
     clients: &[Client],
     transcripts: &[Transcript],
@@ -143,7 +126,7 @@ pub(crate) fn fault_of_scripts<J: JudgesCopies>(
     for (place, client) in clients.iter().enumerate() {
         let reports = reports_at(transcripts, place);
         let script = client.requests.as_slice();
-        let fault = fault_of_script(judge, script, reports, place)?;
+        let fault = fault_of_script(alloc, judge, script, reports, place)?;
         if fault.is_some() {
             return Ok(fault);
         }

@@ -2,6 +2,7 @@
 ghost use Rattle.std.specs.Prelude.{◌≡◌, ◌||◌, [], OnOk};
 ghost use Rattle.svc_values.specs.meaning.Identifiers.{same_ltxid};
 ghost use Rattle.run_clauses.specs.meaning.Tried.{holds};
+ghost use Rattle.entry_check.specs.Ids.{key_of as key_of_def};
 ghost use Rattle.svc_values.specs.declared.entry.Ltxid.{Ltxid as Id};
 
 use std::alloc::Global;
@@ -9,7 +10,7 @@ use std::marker::Model;
 use svc_values::{KeySet, Ltxid, NoMemory};
 
 /// The three numbers of an identifier, by which it is looked up.
-type Key = (u64, u64, u64);
+pub(crate) type Key = (u64, u64, u64);
 
 /// Identifiers, seen as a list of them. Each call takes the logarithm of their number.
 #[derive(Drop)]
@@ -27,8 +28,8 @@ impl Model for Ids {
     ghost view = { λ s. map ltxid_at s.keys };
 }
 
-fn key_of(ltxid: &Ltxid) -> Key
-    ensures { result ≡ (ltxid.now.incarnation, ltxid.now.session, ltxid.now.number) }
+pub(crate) fn key_of(ltxid: &Ltxid) -> Key
+    ensures { result ≡ key_of_def ltxid.now }
 {
     (ltxid.incarnation, ltxid.session, ltxid.number)
 }

@@ -7,7 +7,7 @@ ghost use Rattle.run_clauses.specs.meaning.Once.{once as once_def};
 ghost use Rattle.entry_check.specs.Ids.{ids_in};
 ghost use Rattle.entry_check.specs.Once.{known_in, copies_known, most_of as most_of_def, have_one, lists_right, entries_right};
 
-use crate::copies::{JudgesCopies, fault_of_scripts};
+use crate::copies::{CopiesFault, JudgesCopies, fault_of_scripts};
 use crate::found::set_of;
 use crate::gather::{IdAt, ids_of_entries, ids_of_lists};
 use crate::ids::Ids;
@@ -43,13 +43,14 @@ fn most_of(behind: &[RequestReport]) -> usize
 }
 
 /// The first copy with an entry that it may not have.
-fn copy_with_more(stored: &Ids, copies: &[RequestReport]) -> Option<(usize, Part)>
+fn copy_with_more(stored: &Ids, copies: &[RequestReport]) -> Option<CopiesFault>
     ensures { is_none result ≡ copies_known (holds stored.now) copies.now }
 {
     for (at, copy) in copies.iter().enumerate() {
         let most = most_of(&copies[at + 1..]);
         if !has_at_most(stored, copy.tried.as_slice(), most) {
-            return Some((at, Part::Whole));
+            let part = Part::Whole;
+            return Some(CopiesFault::Copy { copy: at, part });
         }
     }
     None
@@ -66,9 +67,10 @@ impl JudgesCopies for HaveOne<'_> {
 
     fn fault(
         &self,
+        _alloc: Global,
         request: &Request,
         copies: &[RequestReport],
-    ) -> Result<Option<(usize, Part)>, NoMemory> {
+    ) -> Result<Option<CopiesFault>, NoMemory> {
         if request.again == 0 {
             return Ok(None);
         }
@@ -77,7 +79,12 @@ impl JudgesCopies for HaveOne<'_> {
 }
 
 /// What is left where identifiers differ, those of lists and those of entries.
-fn wrong_list(document: &Document, report: &Report, stored: &Ids) -> Result<Option<Place>, NoMemory>
+fn wrong_list(
+    alloc: Global,
+    document: &Document,
+    report: &Report,
+    stored: &Ids,
+) -> Result<Option<Place>, NoMemory>
     ensures { IfOk result (λ place. is_none place ≡ lists_right (holds stored.now) document.now report.now) }
 {
     let clients = report.clients.as_slice();
@@ -86,7 +93,7 @@ fn wrong_list(document: &Document, report: &Report, stored: &Ids) -> Result<Opti
         return Ok(two);
     }
     let scripts = document.clients.as_slice();
-    let copies = fault_of_scripts(&HaveOne { stored }, scripts, clients)?;
+    let copies = fault_of_scripts(alloc, &HaveOne { stored }, scripts, clients)?;
     if copies.is_some() {
         return Ok(copies);
     }
@@ -124,7 +131,7 @@ fn wrong_entry(
     if stored.twice.is_some() {
         return Ok(stored.twice);
     }
-    wrong_list(document, report, &stored.ids)
+    wrong_list(alloc, document, report, &stored.ids)
 }
 
 fn once(alloc: Global, document: &Document, report: &Report) -> Result<Option<Place>, NoMemory>

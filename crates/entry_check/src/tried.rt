@@ -18,8 +18,9 @@ pub(crate) fn known_in(stored: &Ids, ids: &[Ltxid]) -> usize
     ids.iter().filter(|ltxid| stored.has(ltxid)).count()
 }
 
+/// Whether a call ended its transaction.
 #[tactic(auto, unfolding(crate::specs::Once::is_end))]
-fn is_end(call: &ShownCall) -> bool
+pub(crate) fn is_end(call: &ShownCall) -> bool
     ensures { result ≡ is_end_def call.now }
 {
     ends_transaction(call.answers.as_slice())

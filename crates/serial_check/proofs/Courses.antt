@@ -11,10 +11,10 @@ use Rattle.svc_values.specs.meaning.Fitting.{writes_fit}
 use Rattle.svc_values.specs.meaning.SettingsList.{NamedValues}
 use Rattle.svc_values.specs.meaning.Tables.{with_writes}
 use Rattle.stmt_meaning.specs.meaning.Meaning.{Meant}
-use Rattle.stmt_meaning.specs.SerialTest.{replayed}
+use Rattle.stmt_meaning.specs.meaning.SerialTest.{replayed}
 use Rattle.table_store.specs.Stored.{Stored}
 use Rattle.serial_check.specs.declared.transaction.Ended.TheVariants as ended
-use Rattle.serial_check.specs.Places.{Course, Goes, Fails, entry_at, piece_at, and_then, pieces_course}
+use Rattle.serial_check.specs.meaning.Places.{Course, Goes, Fails, entry_at, piece_at, and_then, pieces_course}
 use Rattle.serial_check.specs.Replaying.{HasReplayed, HasCourse, next_piece}
 use Rattle.serial_check.proofs.Lists.{left_is, one_there}
 

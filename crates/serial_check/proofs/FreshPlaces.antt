@@ -11,7 +11,7 @@ use Rattle.svc_values.specs.SameLaws.{same_draw_decides}
 use Rattle.server_model.specs.meaning.Fresh.{is_single, stands_again, none_twice, draws_in, draws_of}
 use Rattle.outage_schedule.specs.declared.report.Report.{Report}
 use Rattle.run_clauses.specs.meaning.Fresh.{fresh}
-use Rattle.serial_check.specs.Places.{piece_at, is_drawn_before, draws_again, or_next, fresh_pieces, or_later, fresh_entries, fresh_place}
+use Rattle.serial_check.specs.meaning.Places.{piece_at, is_drawn_before, draws_again, or_next, fresh_pieces, or_later, fresh_entries, fresh_place}
 
 -- ---- tests
 

@@ -9,7 +9,7 @@ use Rattle.svc_values.specs.declared.entry.Entry.{Entry}
 use Rattle.svc_values.specs.declared.entry.Piece.{Piece}
 use Rattle.server_model.specs.meaning.Fresh.{draws_in, draws_of}
 use Rattle.serial_check.specs.declared.fresh.Single.{Single}
-use Rattle.serial_check.specs.Places.{piece_at, is_drawn_before, draws_again, or_next, fresh_pieces, or_later, fresh_entries}
+use Rattle.serial_check.specs.meaning.Places.{piece_at, is_drawn_before, draws_again, or_next, fresh_pieces, or_later, fresh_entries}
 use Rattle.serial_check.specs.Given.{Keeps}
 use Rattle.serial_check.proofs.Lists.{left_is, front_is}
 use Rattle.serial_check.proofs.FreshPlaces.{again_same, moved}

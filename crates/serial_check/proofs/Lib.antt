@@ -6,7 +6,6 @@ mod MoreDraws
 mod Named
 mod PrintedTables
 mod Replayed
-mod SameAnswers
 mod SerialPlaces
 mod Serially
 mod Singles

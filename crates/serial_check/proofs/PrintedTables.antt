@@ -7,7 +7,7 @@ use Rattle.svc_values.specs.declared.value.Value.{Value}
 use Rattle.table_store.specs.Given.{named, named_in}
 use Rattle.table_store.specs.declared.shelves.TableRows.{TableRows}
 use Rattle.outage_schedule.specs.declared.report.ReportTable.{ReportTable}
-use Rattle.serial_check.specs.Places.{table_place}
+use Rattle.serial_check.specs.meaning.Places.{table_place}
 use Rattle.serial_check.specs.Printed.{print_given, print_in}
 use Rattle.serial_check.proofs.Lists.{left_is}
 

@@ -18,8 +18,7 @@ use Rattle.stmt_meaning.specs.Drawing.{DrewAll}
 use Rattle.stmt_meaning.specs.Laws.{closed_by}
 use Rattle.stmt_meaning.specs.Listed.{Listing, TakesFirst}
 use Rattle.stmt_meaning.specs.meaning.Meaning.{AllDone, Meant, alone, commit_answer, mean, statements_done, worked}
-use Rattle.stmt_meaning.specs.meaning.SerialTest.{is_nil}
-use Rattle.stmt_meaning.specs.SerialTest.{if_replayed}
+use Rattle.stmt_meaning.specs.meaning.SerialTest.{is_nil, if_replayed}
 use Rattle.stmt_meaning.proofs.Offered.{commits_last, mean-tables}
 use Rattle.table_store.specs.Stored.{Stored}
 use Rattle.table_txn.specs.Transactions.{Transaction, shape_of, HasRun, HasEnded}

@@ -9,15 +9,13 @@ use Rattle.svc_values.specs.declared.tables.PlainRow.{PlainRow}
 use Rattle.svc_values.specs.meaning.Endings.{ends_committed}
 use Rattle.svc_values.specs.meaning.SettingsList.{NamedValues}
 use Rattle.stmt_meaning.specs.meaning.Meaning.{Meant}
-use Rattle.stmt_meaning.specs.SerialTest.{replayed, if_commits, transaction_after, serial_after}
-use Rattle.stmt_meaning.specs.SerialTest.{and_then as and_then_entry}
+use Rattle.stmt_meaning.specs.meaning.SerialTest.{replayed, if_commits, transaction_after, serial_after, and_then as and_then_entry}
 use Rattle.outage_schedule.specs.declared.document.Document.{Document}
 use Rattle.outage_schedule.specs.declared.report.Report.{Report}
 use Rattle.outage_schedule.specs.declared.report.ReportTable.{ReportTable}
 use Rattle.run_clauses.specs.meaning.Before.{journal_before, shape, start}
-use Rattle.run_clauses.specs.meaning.Serial.{printed_tables, same_report_table}
-use Rattle.run_clauses.specs.Serial.{are_printed, serial}
-use Rattle.serial_check.specs.Places.{Course, Goes, Fails, piece_at, table_at, and_then, if_ends, pieces_course, after_entry, entries_course, table_place, place_after, serial_place}
+use Rattle.run_clauses.specs.meaning.Serial.{printed_tables, same_report_table, are_printed, serial}
+use Rattle.serial_check.specs.meaning.Places.{Course, Goes, Fails, piece_at, table_at, and_then, if_ends, pieces_course, after_entry, entries_course, table_place, place_after, serial_place}
 
 -- the tables where a course goes to, if it does
 abbrev tables_of : Course → Option (List PlainRow)

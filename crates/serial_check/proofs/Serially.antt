@@ -10,7 +10,7 @@ use Rattle.run_clauses.specs.meaning.Before.{journal_before, shape, start}
 use Rattle.run_clauses.specs.meaning.Serial.{printed_table, printed_tables}
 use Rattle.table_store.specs.Stored.{Stored}
 use Rattle.table_txn.specs.Transactions.{shape_of}
-use Rattle.serial_check.specs.Places.{Course, Goes, Fails, entries_course, table_place, place_after, serial_place}
+use Rattle.serial_check.specs.meaning.Places.{Course, Goes, Fails, entries_course, table_place, place_after, serial_place}
 use Rattle.serial_check.specs.Printed.{print_in}
 use Rattle.serial_check.specs.Replaying.{HasEnded}
 

@@ -10,7 +10,7 @@ use Rattle.svc_values.specs.meaning.Same.{same_draw}
 use Rattle.server_model.specs.meaning.Fresh.{is_single}
 use Rattle.serial_check.specs.declared.fresh.Single.{Single}
 use Rattle.serial_check.specs.contracts.fresh.SinglePartialEq.TheImpl.{eq-value}
-use Rattle.serial_check.specs.Places.{is_drawn_before}
+use Rattle.serial_check.specs.meaning.Places.{is_drawn_before}
 use Rattle.serial_check.specs.Given.{single_of, is_kept, Keeps}
 
 abbrev pub is_same : Option Single → Option Single → Bool

@@ -5,7 +5,7 @@ use Rattle.svc_values.specs.declared.draw.Draw.TheVariants as draw
 use Rattle.svc_values.specs.Keys.{is_key}
 use Rattle.serial_check.specs.declared.fresh.Single.{Single}
 use Rattle.serial_check.specs.declared.fresh.Single.TheVariants as single
-use Rattle.serial_check.specs.Places.{is_drawn_before}
+use Rattle.serial_check.specs.meaning.Places.{is_drawn_before}
 use Rattle.serial_check.specs.contracts.fresh.SinglePartialEq.TheImpl.{eq-value}
 
 -- what of a draw may stand once

@@ -2,9 +2,9 @@
 use Rattle.std.specs.Prelude.{◌≡◌, is_none}
 use Rattle.outage_schedule.specs.declared.document.Document.{Document}
 use Rattle.outage_schedule.specs.declared.report.Report.{Report}
-use Rattle.run_clauses.specs.Serial.{serial}
+use Rattle.run_clauses.specs.meaning.Serial.{serial}
 use Rattle.run_clauses.specs.meaning.Fresh.{fresh}
-use Rattle.serial_check.specs.Places.{serial_place, fresh_place}
+use Rattle.serial_check.specs.meaning.Places.{serial_place, fresh_place}
 
 -- `Serial` fails nowhere exactly where it holds
 abbrev pub SerialIsPlaced : Type 0

@@ -9,11 +9,11 @@ use Rattle.svc_values.specs.meaning.Fitting.{writes_fit}
 use Rattle.svc_values.specs.meaning.SettingsList.{NamedValues}
 use Rattle.svc_values.specs.meaning.Tables.{with_writes}
 use Rattle.stmt_meaning.specs.meaning.Meaning.{Meant}
-use Rattle.stmt_meaning.specs.SerialTest.{replayed}
+use Rattle.stmt_meaning.specs.meaning.SerialTest.{replayed}
 use Rattle.table_store.specs.Stored.{Stored}
 use Rattle.serial_check.specs.declared.transaction.Ended.{Ended}
 use Rattle.serial_check.specs.declared.transaction.Ended.TheVariants as ended
-use Rattle.serial_check.specs.Places.{Course, Goes, Fails, if_ends}
+use Rattle.serial_check.specs.meaning.Places.{Course, Goes, Fails, if_ends}
 
 -- Whether a piece was run again as it stands. Then the tables are those committed with these writes over them, and the settings are these.
 abbrev pub HasReplayed : List PlainRow → List Write → NamedValues → Option Meant → Bool → Type 0

@@ -6,10 +6,11 @@ ghost use Rattle.svc_values.specs.meaning.Same.{same_answers};
 ghost use Rattle.svc_values.specs.meaning.Tables.{with_writes};
 ghost use Rattle.stmt_meaning.specs.Laws.{closed_by};
 ghost use Rattle.stmt_meaning.specs.meaning.Meaning.{mean};
-ghost use Rattle.stmt_meaning.specs.SerialTest.{if_replayed, replayed};
+ghost use Rattle.stmt_meaning.specs.meaning.SerialTest.{if_replayed, replayed};
 ghost use Rattle.table_txn.specs.Transactions.{empty, shape_of};
 ghost use Rattle.serial_check.specs.Replaying.{HasReplayed, next_piece};
 
+use equality_laws::tests_equality;
 use std::alloc::Global;
 use stmt_meaning::{ListDraws, TxnFault, ends_refused};
 use svc_values::{
@@ -44,6 +45,7 @@ fn closed(mut answers: Answers, commit: bool) -> Result<Answers, NoMemory>
 fn is_answered(piece: &Piece, answers: &Answers, left: usize) -> bool
     ensures { result ≡ ((left == 0) && same_answers answers.now piece.now.answers) }
 {
+    tests_equality();
     left == 0 && *answers == piece.answers
 }
 

@@ -3,7 +3,7 @@ ghost use Rattle.std.specs.Prelude.{◌≡◌, ◌++◌, ◌∷◌, [], List, No
 ghost use Rattle.std.specs.List.{flat_map};
 ghost use Rattle.svc_values.specs.declared.draw.Draw.{Draw as Given};
 ghost use Rattle.server_model.specs.meaning.Fresh.{draws_in};
-ghost use Rattle.serial_check.specs.Places.{is_drawn_before, draws_again, fresh_pieces, fresh_entries, fresh_place};
+ghost use Rattle.serial_check.specs.meaning.Places.{is_drawn_before, draws_again, fresh_pieces, fresh_entries, fresh_place};
 ghost use Rattle.serial_check.specs.Given.{Keeps, single_of};
 
 use crate::place;

@@ -1,7 +1,7 @@
 //! Places in a report, as JSON Pointers from its root.
 ghost use Rattle.std.specs.Prelude.{◌≡◌, ◌∷◌, ◌++◌, List, ℕ, IfOk, decimal};
 ghost use Rattle.json_form.specs.meaning.Pointers.{escaped};
-ghost use Rattle.serial_check.specs.Places.{entry_at as entry_def, piece_at as piece_def, table_at as table_def};
+ghost use Rattle.serial_check.specs.meaning.Places.{entry_at as entry_def, piece_at as piece_def, table_at as table_def};
 ghost use Rattle.serial_check.specs.Pointing.{IsAt};
 
 use json_form::{DocCode, DocFault, Pointer};

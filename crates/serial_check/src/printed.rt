@@ -1,6 +1,6 @@
 //! Where the tables of a report differ from those that its entries leave.
 ghost use Rattle.std.specs.Prelude.{◌≡◌, IfOk, map};
-ghost use Rattle.serial_check.specs.Places.{table_place};
+ghost use Rattle.serial_check.specs.meaning.Places.{table_place};
 ghost use Rattle.run_clauses.specs.meaning.Serial.{same_report_table};
 ghost use Rattle.run_clauses.specs.meaning.Comparing.{same_printed_rows};
 ghost use Rattle.serial_check.specs.Printed.{print_given, print_in};

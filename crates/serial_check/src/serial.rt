@@ -3,7 +3,7 @@ ghost use Rattle.std.specs.Prelude.{◌≡◌, IfOk, map};
 ghost use Rattle.commit_log.specs.meaning.Bases.{sequence_name};
 ghost use Rattle.table_txn.specs.Transactions.{shape_of};
 ghost use Rattle.doc_reader.specs.Keeping.{IsDocument};
-ghost use Rattle.serial_check.specs.Places.{entries_course, serial_place};
+ghost use Rattle.serial_check.specs.meaning.Places.{entries_course, serial_place};
 ghost use Rattle.serial_check.specs.Replaying.{HasEnded};
 
 use crate::printed::printed_otherwise;

@@ -1,7 +1,7 @@
 //! Where the pieces of an entry lead, run again.
 ghost use Rattle.std.specs.Prelude.{IfOk};
 ghost use Rattle.table_txn.specs.Transactions.{shape_of};
-ghost use Rattle.serial_check.specs.Places.{pieces_course};
+ghost use Rattle.serial_check.specs.meaning.Places.{pieces_course};
 ghost use Rattle.serial_check.specs.Replaying.{HasCourse};
 
 use crate::again::Rerun;

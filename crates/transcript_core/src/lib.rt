@@ -8,4 +8,4 @@ mod failures;
 mod next_request;
 
 pub use draft::ReportDraft;
-pub use next_request::NextRequest;
+pub use next_request::{NextRequest, is_repeated};

@@ -46,7 +46,7 @@ fn is_last_uncommitted(outcomes: &[Outcome]) -> bool
 }
 
 /// Whether a further copy follows, where so many are allowed.
-fn is_repeated(allowed: u64, report: &RequestReport) -> bool
+pub fn is_repeated(allowed: u64, report: &RequestReport) -> bool
     ensures { result ≡ is_repeated_def allowed report.now }
 {
     allowed > 0

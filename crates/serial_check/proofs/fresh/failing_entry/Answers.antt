@@ -2,7 +2,7 @@ use Rattle.std.proofs.Common.{◌≡◌, ◌+◌, Bool, true, false, List, ℕ, 
 use Rattle.std.specs.List.{flat_map}
 use Rattle.svc_values.specs.declared.entry.Piece.{Piece}
 use Rattle.server_model.specs.meaning.Fresh.{draws_in, draws_of}
-use Rattle.serial_check.specs.Places.{fresh_pieces, or_later, fresh_entries}
+use Rattle.serial_check.specs.meaning.Places.{fresh_pieces, or_later, fresh_entries}
 use Rattle.serial_check.specs.Given.{Keeps}
 use Rattle.serial_check.proofs.FreshSteps.{entries_front, entries_on}
 use Rattle.serial_check.proofs.fresh.failing_entry.Goals as goal

@@ -1,7 +1,7 @@
 use Rattle.std.proofs.Common.{◌≡◌, [], take, drop}
 use Rattle.std.specs.List.{flat_map}
 use Rattle.server_model.specs.meaning.Fresh.{draws_of}
-use Rattle.serial_check.specs.Places.{fresh_entries}
+use Rattle.serial_check.specs.meaning.Places.{fresh_entries}
 use Rattle.serial_check.specs.Given.{Keeps}
 use Rattle.serial_check.proofs.fresh.failing_entry.Given as goal
 

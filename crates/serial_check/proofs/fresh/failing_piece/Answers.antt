@@ -2,7 +2,7 @@ use Rattle.std.proofs.Common.{◌+◌, ◌≤◌, Bool, List, ◌++◌, length, 
 use Rattle.std.specs.List.{flat_map}
 use Rattle.svc_values.specs.declared.draw.Draw.{Draw}
 use Rattle.server_model.specs.meaning.Fresh.{draws_in}
-use Rattle.serial_check.specs.Places.{piece_at, draws_again, or_next, fresh_pieces}
+use Rattle.serial_check.specs.meaning.Places.{piece_at, draws_again, or_next, fresh_pieces}
 use Rattle.serial_check.specs.Given.{Keeps}
 use Rattle.serial_check.proofs.FreshSteps.{pieces_front, pieces_on, no_piece_left}
 use Rattle.serial_check.proofs.fresh.failing_piece.Goals as goal

@@ -2,7 +2,7 @@ use Rattle.std.proofs.Common.{◌≡◌, List, ◌++◌, take, drop}
 use Rattle.std.specs.List.{flat_map}
 use Rattle.svc_values.specs.declared.draw.Draw.{Draw}
 use Rattle.server_model.specs.meaning.Fresh.{draws_in}
-use Rattle.serial_check.specs.Places.{fresh_pieces}
+use Rattle.serial_check.specs.meaning.Places.{fresh_pieces}
 use Rattle.serial_check.specs.Given.{Keeps}
 use Rattle.serial_check.proofs.fresh.failing_piece.Given as goal
 

@@ -2,7 +2,7 @@ use Rattle.std.proofs.Common.{◌≡◌, ◌+◌, ◌≤◌, Bool, true, false, 
 use Rattle.std.specs.Prelude.{if◌then◌else◌}
 use Rattle.std.proofs.lemmas.List.{take_all}
 use Rattle.svc_values.specs.declared.draw.Draw.{Draw}
-use Rattle.serial_check.specs.Places.{draws_again}
+use Rattle.serial_check.specs.meaning.Places.{draws_again}
 use Rattle.serial_check.specs.Given.{Keeps}
 use Rattle.serial_check.proofs.FreshSteps.{draws_front, draws_on, no_draw_left}
 use Rattle.serial_check.proofs.fresh.one_again.Goals as goal

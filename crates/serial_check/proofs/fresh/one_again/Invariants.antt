@@ -1,6 +1,6 @@
 use Rattle.std.proofs.Common.{◌≡◌, List, ◌++◌, take, drop}
 use Rattle.svc_values.specs.declared.draw.Draw.{Draw}
-use Rattle.serial_check.specs.Places.{draws_again}
+use Rattle.serial_check.specs.meaning.Places.{draws_again}
 use Rattle.serial_check.specs.Given.{Keeps}
 use Rattle.serial_check.proofs.fresh.one_again.Given as goal
 

@@ -1,5 +1,5 @@
 use Rattle.std.proofs.Common.{◌≡◌, ◌≤◌, drop, map, length}
-use Rattle.serial_check.specs.Places.{table_place}
+use Rattle.serial_check.specs.meaning.Places.{table_place}
 use Rattle.serial_check.specs.Printed.{print_given}
 use Rattle.serial_check.proofs.printed.differing.Given as goal
 

@@ -1,6 +1,6 @@
 use Rattle.std.proofs.Common.{◌≡◌, List, IfOk, map, ap, subst, ◌∙◌}
 use Rattle.outage_schedule.specs.declared.report.ReportTable.{ReportTable}
-use Rattle.serial_check.specs.Places.{table_place}
+use Rattle.serial_check.specs.meaning.Places.{table_place}
 use Rattle.serial_check.specs.Printed.{print_given}
 use Rattle.serial_check.proofs.PrintedTables.{given_is}
 use Rattle.serial_check.proofs.printed.printed_otherwise.Goals as goal

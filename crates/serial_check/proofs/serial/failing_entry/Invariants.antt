@@ -1,6 +1,6 @@
 use Rattle.std.proofs.Common.{◌≡◌, drop}
 use Rattle.table_txn.specs.Transactions.{shape_of}
-use Rattle.serial_check.specs.Places.{entries_course}
+use Rattle.serial_check.specs.meaning.Places.{entries_course}
 use Rattle.serial_check.proofs.serial.failing_entry.Given as goal
 
 abbrev pub invariant-loop-n : goal.invariant-loop-n

@@ -9,7 +9,7 @@ use Rattle.run_clauses.specs.meaning.Before.{journal_before, start}
 use Rattle.table_store.specs.Stored.{Stored}
 use Rattle.table_txn.specs.Transactions.{shape_of}
 use Rattle.journal_tables.specs.Written.{tables_with}
-use Rattle.serial_check.specs.Places.{entries_course, table_place}
+use Rattle.serial_check.specs.meaning.Places.{entries_course, table_place}
 use Rattle.serial_check.specs.Printed.{print_in}
 use Rattle.serial_check.specs.Replaying.{HasEnded}
 use Rattle.serial_check.proofs.Serially.{serial_went}

@@ -3,7 +3,7 @@ use Rattle.svc_values.specs.meaning.Fitting.{writes_fit}
 use Rattle.svc_values.specs.meaning.Tables.{with_writes}
 use Rattle.table_txn.specs.Transactions.{shape_of}
 use Rattle.serial_check.specs.declared.again.Rerun.{Rerun}
-use Rattle.serial_check.specs.Places.{piece_at, pieces_course}
+use Rattle.serial_check.specs.meaning.Places.{piece_at, pieces_course}
 use Rattle.serial_check.specs.Replaying.{HasReplayed, next_piece}
 use Rattle.serial_check.proofs.Courses.{course_left, course_begins, piece_stood, piece_fell, ended_failed}
 use Rattle.serial_check.proofs.transaction.run_again.Goals as goal

@@ -3,7 +3,7 @@ use Rattle.std.specs.Prelude.{IsTrue}
 use Rattle.svc_values.specs.meaning.Fitting.{writes_fit}
 use Rattle.svc_values.specs.meaning.Tables.{with_writes}
 use Rattle.table_txn.specs.Transactions.{shape_of}
-use Rattle.serial_check.specs.Places.{pieces_course}
+use Rattle.serial_check.specs.meaning.Places.{pieces_course}
 use Rattle.serial_check.proofs.Courses.{course_left}
 use Rattle.serial_check.proofs.transaction.run_again.Given as goal
 

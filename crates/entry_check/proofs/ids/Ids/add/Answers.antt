@@ -2,8 +2,8 @@ use Rattle.std.proofs.Common.{◌||◌, ap, sym, ◌∙◌, ℕ, List, map}
 use Rattle.svc_values.specs.declared.entry.Ltxid.{Ltxid}
 use Rattle.svc_values.specs.meaning.Identifiers.{same_ltxid}
 use Rattle.run_clauses.specs.meaning.Tried.{holds}
-use Rattle.entry_check.specs.Ids.{ltxid_at}
-use Rattle.entry_check.proofs.Keys.{same_key, key_of, key_holds}
+use Rattle.entry_check.specs.Ids.{key_of, ltxid_at, same_key}
+use Rattle.entry_check.proofs.Keys.{key_holds}
 use Rattle.entry_check.proofs.ids.Ids.add.Goals as goal
 
 pub returns : goal.returns

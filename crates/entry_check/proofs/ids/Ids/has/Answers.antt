@@ -2,7 +2,8 @@ use Rattle.std.proofs.Common.{ap, ◌∙◌, ℕ, List}
 use Rattle.svc_values.specs.Keys.{is_key}
 use Rattle.svc_values.specs.declared.entry.Ltxid.{Ltxid}
 use Rattle.run_clauses.specs.meaning.Tried.{holds}
-use Rattle.entry_check.proofs.Keys.{same_key, key_holds}
+use Rattle.entry_check.specs.Ids.{same_key}
+use Rattle.entry_check.proofs.Keys.{key_holds}
 use Rattle.entry_check.proofs.ids.Ids.has.Goals as goal
 
 pub returns : goal.returns

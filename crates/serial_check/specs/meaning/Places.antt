@@ -10,7 +10,7 @@ use Rattle.svc_values.specs.meaning.Endings.{ends_committed}
 use Rattle.svc_values.specs.meaning.Same.{same_draw}
 use Rattle.svc_values.specs.meaning.SettingsList.{NamedValues}
 use Rattle.stmt_meaning.specs.meaning.Meaning.{Meant}
-use Rattle.stmt_meaning.specs.SerialTest.{replayed}
+use Rattle.stmt_meaning.specs.meaning.SerialTest.{replayed}
 use Rattle.server_model.specs.meaning.Fresh.{draws_of, is_single}
 use Rattle.outage_schedule.specs.declared.document.Document.{Document}
 use Rattle.outage_schedule.specs.declared.report.Report.{Report}

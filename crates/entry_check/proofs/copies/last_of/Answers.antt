@@ -1,6 +1,0 @@
-use Rattle.std.proofs.Common.{◌∙◌}
-use Rattle.entry_check.proofs.Spans.{last_at}
-use Rattle.entry_check.proofs.copies.last_of.Goals as goal
-
-pub returns : goal.returns
-returns c = c.last.ensures.value ∙ last_at c.args.outcomes.now
