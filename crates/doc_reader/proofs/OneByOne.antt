@@ -58,7 +58,7 @@ pub tables_put : (old : Ahead) (tables : List DocTable) (d : Data) (ms : Named) 
 tables_put old tables d ms e are = record {
   tables = ap (option_map tables_of) (at_this (codes "tables") d ms refl) ∙ ap (λ r. Some r) e;
   clients = ap (option_map clients_of) (at_other (codes "clients") (codes "tables") d ms refl) ∙ are.clients;
-  schedule = ap (option_map (schedule_of (number_in old.clients) false)) (at_other (codes "schedule") (codes "tables") d ms refl) ∙ are.schedule;
+  schedule = ap (option_map (schedule_of (number_in old.clients) true)) (at_other (codes "schedule") (codes "tables") d ms refl) ∙ are.schedule;
   others = are.others ∙ sym (ap (λ m. without (codes "schedule") (without (codes "clients") m)) (without_put (codes "tables") d ms));
 }
 
@@ -66,19 +66,19 @@ pub clients_put : (old : Ahead) (clients : List Client) (d : Data) (ms : Named) 
     → AreRead (record { tables = old.tables; clients = Some clients; schedule = old.schedule; others = old.others }) (putting (codes "clients") d ms)
 clients_put old clients d ms before e are =
     let none : option_map (given {A = List Event}) old.schedule ≡ None = ap (option_map (given {A = List Event})) before in
-    let unread : ms (codes "schedule") ≡ None = none_there (schedule_of (number_in old.clients) false) (ms (codes "schedule")) (are.schedule ∙ none) in record {
+    let unread : ms (codes "schedule") ≡ None = none_there (schedule_of (number_in old.clients) true) (ms (codes "schedule")) (are.schedule ∙ none) in record {
       tables = ap (option_map tables_of) (at_other (codes "tables") (codes "clients") d ms refl) ∙ are.tables;
       clients = ap (option_map clients_of) (at_this (codes "clients") d ms refl) ∙ ap (λ r. Some r) e;
-      schedule = ap (option_map (schedule_of (length clients) false)) (at_other (codes "schedule") (codes "clients") d ms refl ∙ unread) ∙ sym none;
+      schedule = ap (option_map (schedule_of (length clients) true)) (at_other (codes "schedule") (codes "clients") d ms refl ∙ unread) ∙ sym none;
       others = are.others ∙ sym (ap (λ m. without (codes "schedule") (without (codes "clients") m)) (without_other (codes "clients") (codes "tables") d ms refl) ∙ ap (without (codes "schedule")) (without_put (codes "clients") d (without (codes "tables") ms)));
     }
 
-pub schedule_put : (old : Ahead) (clients : List Client) (events : List Event) (d : Data) (ms : Named) → old.clients ≡ Some clients → schedule_of (length clients) false d ≡ Ok events → AreRead old ms
+pub schedule_put : (old : Ahead) (clients : List Client) (events : List Event) (d : Data) (ms : Named) → old.clients ≡ Some clients → schedule_of (length clients) true d ≡ Ok events → AreRead old ms
     → AreRead (record { tables = old.tables; clients = old.clients; schedule = Some events; others = old.others }) (putting (codes "schedule") d ms)
 schedule_put old clients events d ms there e are = record {
   tables = ap (option_map tables_of) (at_other (codes "tables") (codes "schedule") d ms refl) ∙ are.tables;
   clients = ap (option_map clients_of) (at_other (codes "clients") (codes "schedule") d ms refl) ∙ are.clients;
-  schedule = ap (option_map (schedule_of (number_in old.clients) false)) (at_this (codes "schedule") d ms refl) ∙ ap (λ r. Some r) (ap (λ n. schedule_of n false d) (ap number_in there) ∙ e);
+  schedule = ap (option_map (schedule_of (number_in old.clients) true)) (at_this (codes "schedule") d ms refl) ∙ ap (λ r. Some r) (ap (λ n. schedule_of n true d) (ap number_in there) ∙ e);
   others = are.others ∙ sym (ap (λ m. without (codes "schedule") (without (codes "clients") m)) (without_other (codes "schedule") (codes "tables") d ms refl)
       ∙ ap (without (codes "schedule")) (without_other (codes "schedule") (codes "clients") d (without (codes "tables") ms) refl) ∙ without_put (codes "schedule") d (without (codes "clients") (without (codes "tables") ms)));
 }
@@ -126,7 +126,7 @@ held_put old others k d ms h put are =
     let apart = one_of Apart held_members k h held_apart in record {
       tables = ap (option_map tables_of) (at_other (codes "tables") k d ms apart.tables) ∙ are.tables;
       clients = ap (option_map clients_of) (at_other (codes "clients") k d ms apart.clients) ∙ are.clients;
-      schedule = ap (option_map (schedule_of (number_in old.clients) false)) (at_other (codes "schedule") k d ms apart.schedule) ∙ are.schedule;
+      schedule = ap (option_map (schedule_of (number_in old.clients) true)) (at_other (codes "schedule") k d ms apart.schedule) ∙ are.schedule;
       others = put ∙ ap (putting k d) are.others ∙ sym (ap (λ m. without (codes "schedule") (without (codes "clients") m)) (without_other k (codes "tables") d ms apart.from_tables)
           ∙ ap (without (codes "schedule")) (without_other k (codes "clients") d (without (codes "tables") ms) apart.from_clients) ∙ without_other k (codes "schedule") d (without (codes "clients") (without (codes "tables") ms)) apart.from_schedule);
     }

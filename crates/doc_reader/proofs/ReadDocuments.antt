@@ -18,8 +18,7 @@ use Rattle.outage_schedule.specs.declared.document.Document.{Document}
 use Rattle.outage_schedule.specs.declared.event.Event.{Event}
 use Rattle.doc_reader.specs.declared.document.Store.{Store}
 use Rattle.doc_reader.specs.declared.document.Begin.{Begin}
-use Rattle.document_forms.specs.declared.built.LateForm.TheVariants as form
-use Rattle.document_forms.specs.meaning.Built.{built}
+use Rattle.document_forms.specs.Keeping.{is_service}
 use Rattle.document_forms.specs.meaning.Tables.{tables_of, sequences_of}
 use Rattle.document_forms.specs.meaning.Service.{service_of, usual_service}
 use Rattle.document_forms.specs.meaning.Events.{schedule_of}
@@ -30,7 +29,7 @@ use Rattle.doc_reader.specs.meaning.Documents.{is_alone, store_of, begin_of, doc
 use Rattle.doc_reader.specs.Keeping.{is_begin, IsDocument}
 use Rattle.json_form.proofs.Offered.{after, ok_is, within_ok, passed, both_true, first_true, second_true, optional_keeps}
 use Rattle.document_forms.proofs.Offered.{AreTables, tables_read, no_tables, AreSequences, sequences_read, no_sequences}
-use Rattle.document_forms.proofs.Offered.{IsServiceRead, service_read, usual_is}
+use Rattle.document_forms.proofs.Offered.{service_read, usual_is}
 use Rattle.document_forms.proofs.Offered.{clients_read}
 use Rattle.document_forms.proofs.Offered.{AreEvents, schedule_read, no_events}
 
@@ -51,8 +50,7 @@ with_text alone d = text_of d >>= λ text. if_alone alone >>= λ _. with_octets 
 image_read : (alone : Bool) (d : Data) (image : Option (List ℕ)) → image_of alone d ≡ Ok image → Alone alone image
 unfolding image_of
 image_read alone d image h =
-    let z = after (built form.Image) (λ _. with_text alone d) image h in
-    let a = after (text_of d) (λ text. if_alone alone >>= λ _. with_octets text) image z.2 in
+    let a = after (text_of d) (λ text. if_alone alone >>= λ _. with_octets text) image h in
     let b = after (if_alone alone) (λ _. with_octets a.0) image a.2 in
     let p = passed alone (Ok tt) (here Rule) b.0 b.1 in
     let c = after (octets_in a.0) with_bytes image b.2 in
@@ -104,7 +102,7 @@ store_read ms store h =
     })
 
 record IsBegin (begin : Begin) : Type 0 where
-  service : IsServiceRead begin.service
+  service : is_service begin.service ≡ true
   store : IsStore begin.store
 
 abbrev with_print : Named → ServiceOf → Store → Result Begin Fault
@@ -121,7 +119,7 @@ begin_read ms begin h =
     let p = after (optional (codes "print_image") false bool_of ms) (λ print. Ok (record { service = s.0; store = t.0; print_image = print })) begin t.2 in
     let made : Begin = record { service = s.0; store = t.0; print_image = p.0 } in
     subst IsBegin {x = made} (ok_is made begin p.2) (record {
-      service = optional_keeps IsServiceRead (codes "service") usual_service service_of ms s.0 usual_is service_read s.1;
+      service = optional_keeps (λ (service : ServiceOf). is_service service ≡ true) (codes "service") usual_service service_of ms s.0 usual_is service_read s.1;
       store = store_read ms t.0 t.1;
     })
 
@@ -146,8 +144,7 @@ rest_read schedule clients begin document is h =
     let clients = clients_read clients cs.0 (within_ok (escaped (codes "clients")) _ cs.0 cs.1) in
     let events = events_read schedule (length cs.0) begin.service.standby e.0 e.1 in
     subst IsDocument {x = all} (ok_is all document q.1) (record {
-      service = is.service.limits;
-      standby = is.service.standby;
+      service = is.service;
       tables = is.store.tables.all;
       table_names = is.store.tables.apart;
       few_tables = is.store.tables.few;

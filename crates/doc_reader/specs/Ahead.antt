@@ -1,5 +1,5 @@
 -- A document whose tables, clients and events are read one after the other.
-use Rattle.std.specs.Prelude.{◌≡◌, ℕ, List, [], ◌∷◌, length, false, Option, Some, None, option_map, Ok, codes}
+use Rattle.std.specs.Prelude.{◌≡◌, ℕ, List, [], ◌∷◌, length, true, Option, Some, None, option_map, Ok, codes}
 use Rattle.json.specs.Token.{Token}
 use Rattle.serde_json.specs.Data.{Data}
 use Rattle.json_form.specs.meaning.Objects.{Named}
@@ -23,11 +23,11 @@ abbrev pub number_in : Option (List Client) → ℕ
 number_in None = 0
 number_in (Some clients) = length clients
 
--- what was read is what these members are read as, with no second store, and the others are held
+-- what was read is what these members are read as, the events as where there is a second store, and the others are held
 pub record AreRead (ahead : Ahead) (ms : Named) : Type 0 where
   pub tables : option_map tables_of (ms (codes "tables")) ≡ option_map (λ ts. Ok ts) ahead.tables
   pub clients : option_map clients_of (ms (codes "clients")) ≡ option_map (λ cs. Ok cs) ahead.clients
-  pub schedule : option_map (schedule_of (number_in ahead.clients) false) (ms (codes "schedule")) ≡ option_map (λ es. Ok es) ahead.schedule
+  pub schedule : option_map (schedule_of (number_in ahead.clients) true) (ms (codes "schedule")) ≡ option_map (λ es. Ok es) ahead.schedule
   pub others : members_at ahead.others ≡ held_back ms
 
 -- the tokens begin with a value, and once it was passed it is read with the members before as the one at this name

@@ -1,5 +1,5 @@
 -- What a document that was read keeps to.
-use Rattle.std.specs.Prelude.{◌≡◌, ℕ, ◌≤◌, ◌==◌, Bool, true, false, ◌&&◌, List, length, Option, Some, None, IsTrue}
+use Rattle.std.specs.Prelude.{ℕ, ◌≤◌, ◌==◌, Bool, true, ◌&&◌, List, length, Option, Some, None, IsTrue}
 use Rattle.std.specs.List.{list_all}
 use Rattle.std.specs.Str.{bytes_eq}
 use Rattle.json_form.specs.Arrays.{have_distinct_keys}
@@ -18,8 +18,6 @@ is_begin tables sequences (Some image) = (length tables == 0) && ((length sequen
 
 pub record IsDocument (document : Document) : Type 0 where
   pub service : IsTrue (is_service document.service)
-  -- a second store is not built yet
-  pub standby : document.service.standby ≡ false
   pub tables : IsTrue (list_all is_table document.tables)
   pub table_names : IsTrue (have_distinct_keys bytes_eq (λ table. table.name) document.tables)
   pub few_tables : length document.tables ≤ 32

@@ -8,7 +8,6 @@ ghost use Rattle.doc_reader.specs.meaning.Images.{is_small_reservation as is_sma
 
 use commit_log::{Journal, Log, LogFault, Reservation};
 use disk_model::MemDisk;
-use document_forms::{LateForm, require_built};
 use document_limits::Number;
 use json_form::{DocCode, DocFault, Reader, octets_in, text_from};
 use outage_schedule::Image;
@@ -93,7 +92,6 @@ impl Reader<Option<Image>> for ImageReader {
 
     #[tactic(auto, unfolding(crate::specs::meaning::Images::image_of))]
     fn read(&self, alloc: Global, value: Json) -> Result<Option<Image>, DocFault> {
-        require_built(alloc, LateForm::Image)?;
         let text = text_from(alloc, value)?;
         if !self.alone {
             return Err(DocFault::here(alloc, DocCode::Rule));

@@ -1,21 +1,23 @@
 //! Reader of a document whose tables, clients and events are read one after the other.
-ghost use Rattle.std.specs.Prelude.{◌≡◌, ◌<◌, length, true, Some, None, IfSome, Ok, codes, option_map};
+ghost use Rattle.std.specs.Prelude.{◌≡◌, ◌<◌, ◌&&◌, not, length, true, Some, None, IfSome, Ok, codes, option_map};
+ghost use Rattle.std.specs.List.{list_any};
 ghost use Rattle.serde_json.specs.Data.{Data, Members as MemberData, object};
 ghost use Rattle.serde_json.specs.Read.{read};
 ghost use Rattle.json_form.specs.meaning.Objects.{Named, named, known, is_among as is_among_def};
 ghost use Rattle.json_form.specs.Objects.{members_at};
 ghost use Rattle.json_form.specs.Streams.{members_ahead as members_ahead_def};
+ghost use Rattle.document_forms.specs.Keeping.{takes_store};
 ghost use Rattle.document_forms.specs.meaning.Tables.{tables_of};
 ghost use Rattle.doc_reader.specs.meaning.Documents.{begin_of, document_members, document_of, document_at};
 ghost use Rattle.doc_reader.specs.Ahead.{held_members, held_back, AreRead, Passes};
 
 use crate::counts::small;
 use crate::document::{Begin, begin_from, clients_ahead, document_with};
-use document_forms::{schedule_ahead, tables_ahead};
+use document_forms::{schedule_ahead, tables_ahead, take_store};
 use document_limits::DOCUMENT_LIMIT;
 use json::{Reader, Scratch};
 use json_form::{Members, is_among, object_begins, value_from};
-use outage_schedule::{Clients, DocTables, Document, Events};
+use outage_schedule::{Clients, DocTables, Document, Event, Events};
 use std::alloc::Global;
 use svc_values::Listed;
 
@@ -153,6 +155,13 @@ fn begin_with(alloc: Global, others: &mut Members, tables: Option<DocTables>) ->
     }
 }
 
+/// Whether a crash takes the only store away.
+fn lose_all(standby: bool, events: &[Event]) -> bool
+    ensures { result ≡ (not standby && list_any takes_store events.now) }
+{
+    !standby && take_store(events)
+}
+
 /// The document of which this was read.
 fn document_ahead(alloc: Global, ahead: Ahead) -> Option<Document>
     ensures { IfSome result (λ document. (ms : MemberData) → known document_members ms ≡ Ok tt → AreRead ahead (named ms)
@@ -166,10 +175,10 @@ fn document_ahead(alloc: Global, ahead: Ahead) -> Option<Document>
     } = ahead;
     let clients = clients?;
     let begin = begin_with(alloc, &mut others, tables)?;
-    if begin.service.standby {
+    let events = schedule.unwrap_or(Listed::new(alloc));
+    if lose_all(begin.service.standby, events.as_slice()) {
         return None;
     }
-    let events = schedule.unwrap_or(Listed::new(alloc));
     small(alloc, document_with(begin, clients, events)).ok()
 }
 

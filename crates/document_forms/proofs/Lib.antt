@@ -8,4 +8,5 @@ pub mod ReadSequences
 pub mod ReadService
 pub mod ReadScripts
 pub mod ReadEvents
+pub mod OneStore
 pub mod Offered

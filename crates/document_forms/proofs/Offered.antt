@@ -11,6 +11,8 @@ pub use Rattle.document_forms.proofs.OneByOne.{none_there, none_left, of_each, o
 pub use Rattle.document_forms.proofs.OneByOne.{members_there, required_there}
 -- tables, sequences, the service, clients and events that were read keep to what each of them does
 pub use Rattle.document_forms.proofs.ReadSequences.{AreTables, tables_read, no_tables, AreSequences, sequences_read, no_sequences}
-pub use Rattle.document_forms.proofs.ReadService.{IsServiceRead, service_read, usual_is}
+pub use Rattle.document_forms.proofs.ReadService.{service_read, usual_is}
 pub use Rattle.document_forms.proofs.ReadScripts.{AreClients, clients_read}
 pub use Rattle.document_forms.proofs.ReadEvents.{AreEvents, schedule_read, no_events}
+-- events that were read before it was known whether there is a second store
+pub use Rattle.document_forms.proofs.OneStore.{with_its_stores}

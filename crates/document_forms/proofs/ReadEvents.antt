@@ -12,10 +12,8 @@ use Rattle.json_form.specs.meaning.Texts.{head_of}
 use Rattle.svc_values.specs.declared.entry.Ltxid.{Ltxid}
 use Rattle.outage_schedule.specs.declared.event.Event.{Event}
 use Rattle.outage_schedule.specs.declared.event.Event.TheVariants as event
-use Rattle.document_forms.specs.declared.built.LateForm.TheVariants as form
 use Rattle.document_forms.specs.declared.event.EventWord.{EventWord}
 use Rattle.document_forms.specs.declared.event.EventWord.TheVariants as word
-use Rattle.document_forms.specs.meaning.Built.{built}
 use Rattle.call_forms.specs.meaning.Calls.{call_of}
 use Rattle.document_forms.specs.meaning.Events.{count_of, pick_of, lost_pick_of, go_of, serve_of, reap_of, cut_of, crash_of, upcrash_of, bare_of, outside_of, ltxid_of, ask_of, if_second, failover_of, event_words, event_by, event_of, schedule_of}
 use Rattle.document_forms.specs.meaning.Numbers.{is_count, is_small_ltxid}
@@ -148,20 +146,19 @@ lost_read d n h =
     let small : a.0 ≤ 3 = leb-true a.0 3 (second_true _ _ (whole_read 0 3 d a.0 a.1)) in
     ap (λ m. nat_le m 7) (sym (ok_is (a.0 + 4) n a.2)) ∙ le-leb (a.0 + 4) 7 (omega (arith, small))
 
-abbrev with_lost : Bool → Placed → ℕ → ℕ → Result Event Fault
+abbrev pub with_lost : Bool → Placed → ℕ → ℕ → Result Event Fault
 with_lost standby ds connection after_calls = part 3 lost_pick_of ds >>= λ pick. if_second standby (event.Crash connection after_calls pick)
 
-abbrev with_lost_after : Bool → Placed → ℕ → Result Event Fault
+abbrev pub with_lost_after : Bool → Placed → ℕ → Result Event Fault
 with_lost_after standby ds connection = part 2 count_of ds >>= with_lost standby ds connection
 
-abbrev with_lost_connection : Bool → Placed → Result Event Fault
+abbrev pub with_lost_connection : Bool → Placed → Result Event Fault
 with_lost_connection standby ds = part 1 count_of ds >>= with_lost_after standby ds
 
 failover_read : (clients : ℕ) (standby : Bool) (d : Data) (one : Event) → failover_of standby d ≡ Ok one → Fits clients standby one
 unfolding failover_of is_event
 failover_read clients standby d one h =
-    let z = after (built form.Failover) (λ _. fixed 4 d >>= with_lost_connection standby) one h in
-    let a = after (fixed 4 d) (with_lost_connection standby) one z.2 in
+    let a = after (fixed 4 d) (with_lost_connection standby) one h in
     let b = after (part 1 count_of a.0) (with_lost_after standby a.0) one a.2 in
     let c = after (part 2 count_of a.0) (with_lost standby a.0 b.0) one b.2 in
     let e = after (part 3 lost_pick_of a.0) (λ pick. if_second standby (event.Crash b.0 c.0 pick)) one c.2 in

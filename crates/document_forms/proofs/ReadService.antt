@@ -10,9 +10,7 @@ use Rattle.document_forms.specs.declared.service.Words.{Words}
 use Rattle.document_forms.specs.declared.service.Limits.{Limits}
 use Rattle.document_forms.specs.declared.service.Shares.{Shares}
 use Rattle.document_forms.specs.declared.service.Stores.{Stores}
-use Rattle.document_forms.specs.declared.built.LateForm.TheVariants as form
-use Rattle.document_forms.specs.meaning.Built.{is_built, built}
-use Rattle.document_forms.specs.meaning.Service.{usual_pool, usual_keep, pool_of, keep_of, words_of, limits_of, shares_of, standby_of, stores_of, service_with, service_members, service_of, usual_service}
+use Rattle.document_forms.specs.meaning.Service.{usual_pool, usual_keep, pool_of, keep_of, words_of, limits_of, shares_of, stores_of, service_with, service_members, service_of, usual_service}
 use Rattle.document_forms.specs.Numbers.{is_between}
 use Rattle.document_forms.specs.Keeping.{is_service}
 use Rattle.json_form.proofs.Offered.{after, ok_is, both_true, optional_keeps}
@@ -79,28 +77,13 @@ shares_read ms shares h =
     let made : Shares = record { pool = p.0; keep = k.0 } in
     subst AreShares {x = made} (ok_is made shares k.2) (record { pool = optional_keeps IsPool (codes "pool") usual_pool pool_of ms p.0 usual pool_read p.1 })
 
--- a second store is not built
-not_built : built form.Standby ≡ Ok tt → ⊥
-unfolding is_built
-not_built h = absurd (cc)
-
-standby_read : (d : Data) (standby : Bool) → standby_of d ≡ Ok standby → standby ≡ false
-standby_read d standby h = absurd (not_built (after (built form.Standby) (λ _. bool_of d) standby h).1)
-
-record AreStores (stores : Stores) : Type 0 where
-  retention : is_between 0 1000000 stores.retention ≡ true
-  standby : stores.standby ≡ false
-
-stores_read : (ms : Named) (stores : Stores) → stores_of ms ≡ Ok stores → AreStores stores
+stores_read : (ms : Named) (stores : Stores) → stores_of ms ≡ Ok stores → is_between 0 1000000 stores.retention ≡ true
 unfolding stores_of
 stores_read ms stores h =
-    let r = after (optional (codes "retention") 86400 (whole_of 0 1000000) ms) (λ retention. optional (codes "standby") false standby_of ms >>= λ standby. Ok (record { retention = retention; standby = standby })) stores h in
-    let s = after (optional (codes "standby") false standby_of ms) (λ standby. Ok (record { retention = r.0; standby = standby })) stores r.2 in
+    let r = after (optional (codes "retention") 86400 (whole_of 0 1000000) ms) (λ retention. optional (codes "standby") false bool_of ms >>= λ standby. Ok (record { retention = retention; standby = standby })) stores h in
+    let s = after (optional (codes "standby") false bool_of ms) (λ standby. Ok (record { retention = r.0; standby = standby })) stores r.2 in
     let made : Stores = record { retention = r.0; standby = s.0 } in
-    subst AreStores {x = made} (ok_is made stores s.2) (record {
-      retention = member_whole (codes "retention") 0 1000000 86400 ms r.0 refl r.1;
-      standby = optional_keeps (λ standby. standby ≡ false) (codes "standby") false standby_of ms s.0 refl standby_read s.1;
-    })
+    ap (λ (kept : Stores). is_between 0 1000000 kept.retention) (sym (ok_is made stores s.2)) ∙ member_whole (codes "retention") 0 1000000 86400 ms r.0 refl r.1
 
 abbrev with_stores : Named → Words → Limits → Shares → Result ServiceOf Fault
 with_stores ms words limits shares = stores_of ms >>= λ stores. Ok (service_with words limits shares stores)
@@ -125,11 +108,7 @@ made_service words limits shares stores are is kept =
     first_of (is_between 1 1000 limits.retries) (is_between 0 1000 limits.delay) (is_between 0 1000000 limits.timeout) (is_between 0 4 limits.replays) (is_between 1 256 limits.record_limit)
     (is_between 1 64 shares.pool.max && (is_between 1 1000000 shares.pool.wait && is_between 0 1000000 stores.retention)) are (both_true _ _ is.pool.slots (both_true _ _ is.pool.ticks kept))
 
-pub record IsServiceRead (service : ServiceOf) : Type 0 where
-  pub limits : is_service service ≡ true
-  pub standby : service.standby ≡ false
-
-pub service_read : (d : Data) (service : ServiceOf) → service_of d ≡ Ok service → IsServiceRead service
+pub service_read : (d : Data) (service : ServiceOf) → service_of d ≡ Ok service → is_service service ≡ true
 unfolding service_of
 service_read d service h =
     let a = after (object_with service_members d) (λ ms. words_of ms >>= with_limits ms) service h in
@@ -139,12 +118,8 @@ service_read d service h =
     let s = after (shares_of ms) (with_stores ms w.0 l.0) service l.2 in
     let t = after (stores_of ms) (λ stores. Ok (service_with w.0 l.0 s.0 stores)) service s.2 in
     let made : ServiceOf = service_with w.0 l.0 s.0 t.0 in
-    let stores = stores_read ms t.0 t.1 in
-    subst IsServiceRead {x = made} (ok_is made service t.2) (record {
-      limits = made_service w.0 l.0 s.0 t.0 (limits_read ms l.0 l.1) (shares_read ms s.0 s.1) stores.retention;
-      standby = stores.standby;
-    })
+    ap is_service (sym (ok_is made service t.2)) ∙ made_service w.0 l.0 s.0 t.0 (limits_read ms l.0 l.1) (shares_read ms s.0 s.1) (stores_read ms t.0 t.1)
 
-pub usual_is : IsServiceRead usual_service
+pub usual_is : is_service usual_service ≡ true
 unfolding is_service
-usual_is = record { limits = refl; standby = refl }
+usual_is = refl

@@ -21,8 +21,6 @@ use Rattle.svc_values.specs.meaning.Same.{same_value}
 use Rattle.svc_values.specs.meaning.Schemas.{key_of}
 use Rattle.svc_values.specs.meaning.Texts.{is_name}
 use Rattle.outage_schedule.specs.declared.document.DocTable.{DocTable}
-use Rattle.document_forms.specs.declared.built.LateForm.TheVariants as form
-use Rattle.document_forms.specs.meaning.Built.{built}
 use Rattle.call_forms.specs.meaning.Values.{name_of, new_name, value_of}
 use Rattle.document_forms.specs.meaning.Tables.{kind_words, column_of, field_of, fitting, row_of, rows_of, columns_of, known_column, indexed_of, index_of, table_of}
 use Rattle.document_forms.specs.Keeping.{is_table}
@@ -120,8 +118,7 @@ indexed_read columns taken d name h =
 index_read : (columns : List Column) (d : Data) (names : List (List ℕ)) → index_of columns d ≡ Ok names → AreIndexed columns names
 unfolding index_of
 index_read columns d names h =
-    let a = after (built form.Index) (λ _. items_of d >>= distinct bytes_eq (λ name. name) (indexed_of columns)) names h in
-    let b = after (items_of d) (distinct bytes_eq (λ name. name) (indexed_of columns)) names a.2 in record {
+    let b = after (items_of d) (distinct bytes_eq (λ name. name) (indexed_of columns)) names h in record {
       known = distinct_all bytes_eq (λ name. name) (has_column columns) (indexed_of columns) (λ taken inner name one. (indexed_read columns taken inner name one).0) b.0 names b.2;
       apart = distinct_read bytes_eq (λ name. name) (indexed_of columns) (λ taken inner name one. (indexed_read columns taken inner name one).1) b.0 names b.2;
     }

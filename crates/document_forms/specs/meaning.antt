@@ -1,5 +1,4 @@
 -- What the program's promise means: all that its definition uses of this crate.
-pub mod Built
 pub mod Events
 pub mod Numbers
 pub mod Scripts

@@ -1,11 +1,12 @@
 //! Readers of the events of a schedule: arrays that begin with a word.
-ghost use Rattle.std.specs.Prelude.{◌≤◌, ◌<◌, false, length, IfOk, IfSome};
+ghost use Rattle.std.specs.Prelude.{◌≡◌, ◌≤◌, ◌<◌, true, length, IfOk, IfSome};
+ghost use Rattle.std.specs.List.{list_any};
 ghost use Rattle.serde_json.specs.View.{view};
 ghost use Rattle.json_form.specs.Faults.{Gives};
 ghost use Rattle.document_forms.specs.meaning.Events.{count_of, pick_of, lost_pick_of, go_of, serve_of, reap_of, cut_of, crash_of, upcrash_of, bare_of, outside_of, ltxid_of, ask_of, failover_of, event_by as event_by_def, event_of, schedule_of};
+ghost use Rattle.document_forms.specs.Keeping.{takes_store as takes_store_def};
 ghost use Rattle.json_form.specs.Streams.{Begins};
 
-use crate::built::{LateForm, require_built};
 use crate::number::whole;
 use call_forms::CallReader;
 use document_limits::{Count, Number};
@@ -208,7 +209,6 @@ fn ask_from(alloc: Global, value: Json) -> Result<Event, DocFault>
 fn failover_from(alloc: Global, value: Json, standby: bool) -> Result<Event, DocFault>
     ensures { Gives result (failover_of standby (view value)) }
 {
-    require_built(alloc, LateForm::Failover)?;
     let mut parts = fixed(alloc, value, 4)?;
     let connection = parts.read(alloc, 1, &CountReader)?;
     let after = parts.read(alloc, 2, &CountReader)?;
@@ -302,8 +302,25 @@ impl Reader<Events> for ScheduleReader {
     }
 }
 
-/// The events that `ScheduleReader` reads where there is no second store, each read as soon as its tokens are
-/// passed.
+/// Whether the first store is lost for good behind this event, so that there has to be a second one.
+fn takes_store(event: &Event) -> bool
+    ensures { result ≡ takes_store_def event.now }
+{
+    match event {
+        Event::Crash { pick, .. } => *pick > 3,
+        _ => false,
+    }
+}
+
+/// Whether the first store is lost for good behind one of these events.
+pub fn take_store(events: &[Event]) -> bool
+    ensures { result ≡ list_any takes_store_def events.now }
+{
+    events.iter().any(|event| takes_store(event))
+}
+
+/// The events that `ScheduleReader` reads where there is a second store, each read as soon as its tokens are
+/// passed. Without one they are read alike where `take_store` finds none that takes the first store away.
 pub fn schedule_ahead(
     alloc: Global,
     tokens: &mut json::Reader<'_>,
@@ -311,12 +328,12 @@ pub fn schedule_ahead(
     clients: u64,
 ) -> Option<Events>
     ensures read { IfSome result
-        (λ events. Begins (schedule_of clients false) depth tokens.old events tokens.new) }
+        (λ events. Begins (schedule_of clients true) depth tokens.old events tokens.new) }
     ensures shorter { IfSome result (λ _. length tokens.new < length tokens.old) }
 {
     let reader = EventReader {
         clients,
-        standby: false,
+        standby: true,
     };
     let most = Count::Events.limit().most;
     let events = array_ahead(alloc, tokens, depth, most, &reader)?;

@@ -1,7 +1,6 @@
 //! How the parts of a document are read from JSON values: tables, sequences, the service, clients and events.
 #![tactic(auto)]
 
-mod built;
 mod event;
 mod number;
 mod script;
@@ -10,8 +9,7 @@ mod service;
 mod table;
 mod table_ahead;
 
-pub use built::{LateForm, require_built};
-pub use event::{ScheduleReader, schedule_ahead};
+pub use event::{ScheduleReader, schedule_ahead, take_store};
 pub use script::ClientReader;
 pub use sequence::SequencesReader;
 pub use service::{ServiceReader, usual_service};

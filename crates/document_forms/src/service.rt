@@ -3,9 +3,8 @@ ghost use Rattle.std.specs.Prelude.{◌≡◌, IfOk, codes};
 ghost use Rattle.json_form.specs.Faults.{Gives};
 ghost use Rattle.json_form.specs.Objects.{members_at, without};
 ghost use Rattle.json_form.specs.meaning.Texts.{word_of};
-ghost use Rattle.document_forms.specs.meaning.Service.{failover_words, consistency_words, pool_of, keep_of, words_of, limits_of, shares_of, stores_of, standby_of, service_with as service_with_def, service_of, usual_service as usual_service_def};
+ghost use Rattle.document_forms.specs.meaning.Service.{failover_words, consistency_words, pool_of, keep_of, words_of, limits_of, shares_of, stores_of, service_with as service_with_def, service_of, usual_service as usual_service_def};
 
-use crate::built::{LateForm, require_built};
 use crate::number::whole;
 use document_limits::Number;
 use json_form::{DocFault, Flag, Members, Reader, object_with, word_from};
@@ -116,19 +115,6 @@ impl Reader<KeepOf> for KeepReader {
     }
 }
 
-/// Reads whether the service has a second store.
-#[derive(Drop)]
-struct StandbyReader;
-
-impl Reader<bool> for StandbyReader {
-    ghost reads = { λ s. standby_of };
-
-    fn read(&self, alloc: Global, value: Json) -> Result<bool, DocFault> {
-        require_built(alloc, LateForm::Standby)?;
-        Flag.read(alloc, value)
-    }
-}
-
 /// The limits among the members of the service, which are taken out.
 #[tactic(auto, unfolding(crate::specs::meaning::Service::limits_of), using(json_form::proofs::Offered::others_stay))]
 fn limits_from(alloc: Global, members: &mut Members) -> Result<Limits, DocFault>
@@ -197,7 +183,7 @@ fn stores_from(alloc: Global, members: &mut Members) -> Result<Stores, DocFault>
     ensures { Gives result (stores_of (members_at members.old)) }
 {
     let retention = members.optional(alloc, "retention", &whole(Number::Retention), 86_400)?;
-    let standby = members.optional(alloc, "standby", &StandbyReader, false)?;
+    let standby = members.optional(alloc, "standby", &Flag, false)?;
     Ok(Stores { retention, standby })
 }
 

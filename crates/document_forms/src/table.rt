@@ -9,7 +9,6 @@ ghost use Rattle.document_forms.specs.meaning.Tables.{column_of, columns_of, kin
 ghost use Rattle.svc_values.specs.meaning.Schemas.{key_of as key_of_row};
 ghost use Rattle.json_form.specs.declared.fault.DocFault.TheVariants.{NoMemory};
 
-use crate::built::{LateForm, require_built};
 use crate::table_ahead::table_ahead;
 use call_forms::{NewNameReader, ValueReader, copied};
 use document_limits::Count;
@@ -246,7 +245,6 @@ impl Reader<IndexColumns> for IndexReader<'_> {
 
     #[tactic(auto, unfolding(crate::specs::meaning::Tables::index_of))]
     fn read(&self, alloc: Global, value: Json) -> Result<IndexColumns, DocFault> {
-        require_built(alloc, LateForm::Index)?;
         let columns = self.columns;
         let names = distinct_list(alloc, value, &IndexedReader { columns })?;
         Ok(Listed::from_vec(names))

@@ -1,6 +1,8 @@
 //! Documents whose members stand in any order, which are read one after the other or as one value.
 
+use crate::makers::told;
 use doc_reader::read_document;
+use outage_schedule::Event;
 use std::alloc::Global;
 
 /// How many tables, clients and events the text has, if it is a document.
@@ -83,5 +85,41 @@ fn an_index_stands_before_the_rows_or_behind_them(rt: HostRuntime) {
         r#"{"clients":[],"tables":[{"name":"t","index":["id"],"columns":[["id","int"],["a","int"]],"index":["a","id"]}]}"#,
     ] {
         assert_eq!(rt; indexed(alloc, text), Some(2));
+    }
+}
+
+/// The picks of the crashes, if the text is a document.
+fn picks(alloc: Global, text: &str) -> Option<Vec<u8>> {
+    let document = read_document(alloc, text.as_bytes()).ok()?;
+    let mut picks = Vec::new(alloc);
+    for event in document.schedule.as_slice() {
+        if let Event::Crash { pick, .. } = event {
+            picks.push(*pick).ok()?;
+        }
+    }
+    Some(picks)
+}
+
+#[test]
+fn a_second_store_is_told_before_the_events_or_behind_them(rt: HostRuntime) {
+    let alloc = rt.alloc();
+    for text in [
+        r#"{"service":{"standby":true},"clients":[],"schedule":[["failover",1,4,0],["crash",1,4,3],["failover",0,0,3]]}"#,
+        r#"{"clients":[],"schedule":[["failover",1,4,0],["crash",1,4,3],["failover",0,0,3]],"service":{"standby":true}}"#,
+        r#"{"schedule":[["failover",1,4,0],["crash",1,4,3],["failover",0,0,3]],"clients":[],"service":{"standby":true}}"#,
+        r#"{"service":{},"clients":[],"schedule":[["failover",1,4,0],["crash",1,4,3],["failover",0,0,3]],"service":{"standby":true}}"#,
+    ] {
+        let read = picks(alloc, text).expect(&rt, "a document");
+        assert_eq!(rt; read.as_slice(), [4, 3, 7].as_slice());
+    }
+    for text in [
+        r#"{"clients":[],"schedule":[["tick"],["failover",1,4,0]]}"#,
+        r#"{"clients":[],"schedule":[["tick"],["failover",1,4,0]],"service":{"standby":false}}"#,
+        r#"{"service":{"standby":true},"clients":[],"schedule":[["tick"],["failover",1,4,0]],"service":{}}"#,
+    ] {
+        assert_eq!(rt;
+            told(&read_document(alloc, text.as_bytes())),
+            (8, "/schedule/1")
+        );
     }
 }

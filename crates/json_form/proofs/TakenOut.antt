@@ -15,8 +15,8 @@ use Rattle.serde_json.specs.View.{view, items_view, members_view}
 use Rattle.serde_json.specs.declared.value.Value.{Value, Null, the_lemmas}
 use Rattle.serde_json.proofs.Views.{Entry, view-lookup, member_later}
 use Rattle.json_form.specs.meaning.Faults.{Fault}
-use Rattle.json_form.specs.meaning.Objects.{Named, named, has, required, optional}
-use Rattle.json_form.specs.Objects.{member_in, without}
+use Rattle.json_form.specs.meaning.Objects.{Named, named, has, required, optional, member_in}
+use Rattle.json_form.specs.Objects.{without}
 use Rattle.json_form.specs.meaning.Arrays.{Placed, placed, part}
 use Rattle.json_form.specs.Arrays.{taken_at}
 

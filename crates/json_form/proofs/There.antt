@@ -5,8 +5,7 @@ use Rattle.serde_json.specs.Data.{Data}
 use Rattle.json_form.specs.declared.fault.DocCode.TheVariants.{Missing}
 use Rattle.json_form.specs.meaning.Faults.{Fault, ◌>>=◌, here, under}
 use Rattle.json_form.specs.meaning.Pointers.{escaped}
-use Rattle.json_form.specs.meaning.Objects.{Named, has, present, required}
-use Rattle.json_form.specs.Objects.{all_there}
+use Rattle.json_form.specs.meaning.Objects.{Named, has, present, required, all_there}
 
 present_there : (name : List ℕ) (o : Option Data) (rest : Result ⊤ Fault) → is_some o ≡ true → (present name o >>= λ _. rest) ≡ rest
 present_there name None rest there = absurd (cc)

@@ -1,7 +1,7 @@
 -- The numbers of the codes.
 use Rattle.std.specs.Prelude.{ℕ}
 use Rattle.json_form.specs.declared.fault.DocCode.{DocCode}
-use Rattle.json_form.specs.declared.fault.DocCode.TheVariants.{TooLong, NotJson, WrongKind, Missing, Unknown, Limit, Duplicate, Rule, BadImage, NotBuilt, BadReport}
+use Rattle.json_form.specs.declared.fault.DocCode.TheVariants.{TooLong, NotJson, WrongKind, Missing, Unknown, Limit, Duplicate, Rule, BadImage, BadReport}
 
 -- the number of a code
 abbrev pub number_of : DocCode → ℕ
@@ -14,5 +14,4 @@ number_of Limit = 6
 number_of Duplicate = 7
 number_of Rule = 8
 number_of BadImage = 9
-number_of NotBuilt = 10
 number_of BadReport = 11

@@ -5,7 +5,7 @@ use crate::pointer::{Pointer, escape};
 use std::alloc::{AllocError, AllocFailed, Global};
 use thiserror::Error;
 
-/// What is wrong with a value of a document or of a report. The codes are 1 to 11, in this order.
+/// What is wrong with a value of a document or of a report. The codes are 1 to 9, in this order, and 11.
 #[derive(Clone, Copy, Debug, PartialEq, Eq, Error)]
 pub enum DocCode {
     /// The document has more bytes than its limit.
@@ -35,18 +35,15 @@ pub enum DocCode {
     /// No pairs of hexadecimal digits, or a damaged image.
     #[error("no image")]
     BadImage,
-    /// A form that is not supported.
-    #[error("not built")]
-    NotBuilt,
     /// A value that no report has at its place.
     #[error("no report")]
-    BadReport,
+    BadReport = 11,
 }
 
 impl DocCode {
     ghost use Rattle.json_form.specs.Codes.{number_of};
 
-    /// The code's number, 1 to 11.
+    /// The code's number, 1 to 9 or 11.
     pub fn number(self) -> u8
         ensures { result ≡ number_of self }
     {

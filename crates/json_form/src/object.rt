@@ -64,7 +64,8 @@ pub fn object_with(alloc: Global, value: Value, names: &[&str]) -> Result<Member
 impl Members {
     ghost use Rattle.std.specs.Prelude.{option_map};
     ghost use Rattle.json_form.specs.meaning.Objects.{has as has_def, required as required_def, optional as optional_def};
-    ghost use Rattle.json_form.specs.Objects.{without, putting, all_there, member_in};
+    ghost use Rattle.json_form.specs.Objects.{without, putting};
+    ghost use Rattle.json_form.specs.meaning.Objects.{all_there, member_in};
 
     /// No members.
     pub fn new(alloc: Global) -> Members
@@ -127,7 +128,7 @@ impl Members {
     }
 
     /// A member that has to be there, taken out and read. A fault is placed there.
-    #[tactic(auto, unfolding(crate::specs::Objects::member_in))]
+    #[tactic(auto, unfolding(crate::specs::meaning::Objects::member_in))]
     pub fn read<T, R: Reader<T>>(
         &mut self,
         alloc: Global,

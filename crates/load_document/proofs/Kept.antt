@@ -188,7 +188,6 @@ loaded_kept seed clients requests some few few_requests =
     let counted_events = events_counted clients (4 * clients * requests) x in
     record {
       service = service_kept clients few;
-      standby = refl;
       tables = both _ true table_kept refl;
       table_names = refl;
       few_tables = omega arith;

@@ -9,8 +9,6 @@ use Rattle.json_form.specs.meaning.Texts.{octets_in}
 use Rattle.commit_log.specs.declared.journal.Journal.{Journal}
 use Rattle.commit_log.specs.declared.journal.Reservation.{Reservation}
 use Rattle.commit_log.specs.meaning.Journals.{journal_of}
-use Rattle.document_forms.specs.declared.built.LateForm.TheVariants as form
-use Rattle.document_forms.specs.meaning.Built.{built}
 use Rattle.document_forms.specs.meaning.Numbers.{is_count, is_small_ltxid}
 
 -- there is no other word of what the store begins with
@@ -38,4 +36,4 @@ if_store read = if is_store read then Ok tt else Err (here BadImage)
 -- a text of pairs of digits, which stands without tables and sequences, and spells the bytes of a store
 unfoldable pub image_of : Bool → Data → Result (Option (List ℕ)) Fault
 image_of alone d =
-    built form.Image >>= λ _. text_of d >>= λ text. if_alone alone >>= λ _. octets_in text >>= λ bytes. if_store (journal_of bytes) >>= λ _. Ok (Some bytes)
+    text_of d >>= λ text. if_alone alone >>= λ _. octets_in text >>= λ bytes. if_store (journal_of bytes) >>= λ _. Ok (Some bytes)

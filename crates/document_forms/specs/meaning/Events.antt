@@ -10,10 +10,8 @@ use Rattle.json_form.specs.meaning.Texts.{head_of}
 use Rattle.svc_values.specs.declared.entry.Ltxid.{Ltxid}
 use Rattle.outage_schedule.specs.declared.event.Event.{Event}
 use Rattle.outage_schedule.specs.declared.event.Event.TheVariants as event
-use Rattle.document_forms.specs.declared.built.LateForm.TheVariants as form
 use Rattle.document_forms.specs.declared.event.EventWord.{EventWord}
 use Rattle.document_forms.specs.declared.event.EventWord.TheVariants as word
-use Rattle.document_forms.specs.meaning.Built.{built}
 use Rattle.call_forms.specs.meaning.Calls.{call_of}
 
 -- connections, numbers of bytes and device calls, and the parts of an identifier: at most 2^62
@@ -75,7 +73,7 @@ if_second standby one = if standby then Ok one else Err (here Rule)
 -- ["failover",connection,after,pick] is the crash with its pick plus 4. It asks for a second store once its parts are read.
 unfoldable pub failover_of : Bool → Data → Result Event Fault
 failover_of standby d =
-    built form.Failover >>= λ _. fixed 4 d >>= λ ds. part 1 count_of ds >>= λ connection. part 2 count_of ds >>= λ after. part 3 lost_pick_of ds >>= λ pick.
+    fixed 4 d >>= λ ds. part 1 count_of ds >>= λ connection. part 2 count_of ds >>= λ after. part 3 lost_pick_of ds >>= λ pick.
     if_second standby (event.Crash connection after pick)
 
 abbrev pub event_words : List (List ℕ × EventWord)

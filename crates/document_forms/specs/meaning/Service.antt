@@ -1,5 +1,5 @@
 -- How the service and its drivers are described in a document. Each member may be missing.
-use Rattle.std.specs.Prelude.{ℕ, List, [], ◌∷◌, Bool, false, Result, Ok, codes}
+use Rattle.std.specs.Prelude.{ℕ, List, [], ◌∷◌, false, Result, Ok, codes}
 use Rattle.serde_json.specs.Data.{Data}
 use Rattle.json_form.specs.meaning.Faults.{Fault, ◌>>=◌}
 use Rattle.json_form.specs.meaning.Values.{whole_of, bool_of}
@@ -12,12 +12,10 @@ use Rattle.outage_schedule.specs.declared.document.Consistency.TheVariants as co
 use Rattle.outage_schedule.specs.declared.document.PoolOf.{PoolOf}
 use Rattle.outage_schedule.specs.declared.document.KeepOf.{KeepOf}
 use Rattle.outage_schedule.specs.declared.document.ServiceOf.{ServiceOf}
-use Rattle.document_forms.specs.declared.built.LateForm.TheVariants as form
 use Rattle.document_forms.specs.declared.service.Words.{Words}
 use Rattle.document_forms.specs.declared.service.Limits.{Limits}
 use Rattle.document_forms.specs.declared.service.Shares.{Shares}
 use Rattle.document_forms.specs.declared.service.Stores.{Stores}
-use Rattle.document_forms.specs.meaning.Built.{built}
 
 abbrev pub failover_words : List (List ℕ × Failover)
 failover_words = (codes "transaction", failover.Transaction) ∷ (codes "none", failover.Off) ∷ (codes "auto", failover.Auto) ∷ []
@@ -63,13 +61,9 @@ limits_of ms =
 unfoldable pub shares_of : Named → Result Shares Fault
 shares_of ms = optional (codes "pool") usual_pool pool_of ms >>= λ pool. optional (codes "keep") usual_keep keep_of ms >>= λ keep. Ok (record { pool = pool; keep = keep })
 
--- whether there is a second store
-abbrev pub standby_of : Data → Result Bool Fault
-standby_of d = built form.Standby >>= λ _. bool_of d
-
 -- how long outcomes are kept, and whether there is a second store, among them
 unfoldable pub stores_of : Named → Result Stores Fault
-stores_of ms = optional (codes "retention") 86400 (whole_of 0 1000000) ms >>= λ retention. optional (codes "standby") false standby_of ms >>= λ standby. Ok (record { retention = retention; standby = standby })
+stores_of ms = optional (codes "retention") 86400 (whole_of 0 1000000) ms >>= λ retention. optional (codes "standby") false bool_of ms >>= λ standby. Ok (record { retention = retention; standby = standby })
 
 abbrev pub service_with : Words → Limits → Shares → Stores → ServiceOf
 service_with words limits shares stores = record {

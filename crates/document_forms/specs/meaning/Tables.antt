@@ -19,8 +19,6 @@ use Rattle.svc_values.specs.meaning.Schemas.{key_of}
 use Rattle.svc_values.specs.meaning.Texts.{is_name}
 use Rattle.outage_schedule.specs.declared.document.DocTable.{DocTable}
 use Rattle.outage_schedule.specs.declared.document.DocSequence.{DocSequence}
-use Rattle.document_forms.specs.declared.built.LateForm.TheVariants as form
-use Rattle.document_forms.specs.meaning.Built.{built}
 use Rattle.call_forms.specs.meaning.Values.{new_name, value_of}
 
 abbrev pub kind_words : List (List ℕ × Kind)
@@ -60,7 +58,7 @@ indexed_of columns taken d = text_of d >>= known_column columns >>= λ name. fre
 
 -- different columns by which the rows are indexed
 unfoldable pub index_of : List Column → Data → Result (List (List ℕ)) Fault
-index_of columns d = built form.Index >>= λ _. list_of (distinct bytes_eq (λ name. name) (indexed_of columns)) d
+index_of columns d = list_of (distinct bytes_eq (λ name. name) (indexed_of columns)) d
 
 abbrev pub table_members : List (List ℕ)
 table_members = codes "name" ∷ codes "columns" ∷ codes "rows" ∷ codes "index" ∷ []

@@ -1,5 +1,5 @@
 -- Objects: which members stand there, and what stands at their names.
-use Rattle.std.specs.Prelude.{ℕ, List, Bool, if◌then◌else◌, Option, Some, None, is_some, Result, Ok, Err, ⊤}
+use Rattle.std.specs.Prelude.{ℕ, List, [], ◌∷◌, Bool, if◌then◌else◌, Option, Some, None, is_some, Result, Ok, Err, ⊤}
 use Rattle.std.specs.List.{list_any}
 use Rattle.std.specs.Str.{bytes_eq}
 use Rattle.serde_json.specs.Data.{Data, Members, no_members, member}
@@ -41,6 +41,15 @@ present name (Some d) = Ok d
 -- a member that has to be there
 unfoldable pub required : List ℕ → Named → Result Data Fault
 required name ms = present name (ms name)
+
+-- the members with these names are there; the first one that is not, in this order, is the fault
+abbrev pub all_there : List (List ℕ) → Named → Result ⊤ Fault
+all_there [] ms = Ok tt
+all_there (name ∷ names) ms = required name ms >>= λ _. all_there names ms
+
+-- a member that has to be there, read; a fault is placed there
+unfoldable pub member_in : {A : Type 0} → List ℕ → (Data → Result A Fault) → Named → Result A Fault
+member_in name read ms = required name ms >>= λ d. within name (read d)
 
 -- what the member is read as, or what stands for it where it is missing
 abbrev pub read_or : {A : Type 0} → List ℕ → A → (Data → Result A Fault) → Option Data → Result A Fault

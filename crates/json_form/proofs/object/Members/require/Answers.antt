@@ -1,7 +1,8 @@
 use Rattle.std.proofs.Common.{ℕ, ◌+◌, List, [], Bor, map, drop, sym, ◌∙◌}
 use Rattle.std.proofs.lemmas.List.{at_drop_more}
 use Rattle.json_form.specs.declared.fault.DocCode.TheVariants.{Missing}
-use Rattle.json_form.specs.Objects.{all_there, members_at}
+use Rattle.json_form.specs.Objects.{members_at}
+use Rattle.json_form.specs.meaning.Objects.{all_there}
 use Rattle.json_form.proofs.Failures.{Fails-under}
 use Rattle.json_form.proofs.There.{there_step, there_stop}
 use Rattle.json_form.proofs.object.Members.require.Goals as goal

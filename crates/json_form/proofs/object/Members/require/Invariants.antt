@@ -1,5 +1,6 @@
 use Rattle.std.proofs.Common.{◌≡◌, map, drop}
-use Rattle.json_form.specs.Objects.{all_there, members_at}
+use Rattle.json_form.specs.Objects.{members_at}
+use Rattle.json_form.specs.meaning.Objects.{all_there}
 use Rattle.json_form.proofs.object.Members.require.Given as goal
 
 abbrev pub invariant-loop-name : goal.invariant-loop-name
