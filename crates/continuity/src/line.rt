@@ -7,7 +7,7 @@ use continuity_run::Status;
 use std::fmt;
 use std::io::{self, Write};
 
-/// The line that tells of an end without a report, with its line end. Of a report nothing is told.
+/// The line that tells of an end without an answer, with its line end. Of an answer nothing is told.
 #[derive(Drop)]
 pub struct Line<'a>(pub &'a Status);
 
@@ -25,6 +25,11 @@ impl fmt::Display for Line<'_> {
                 let code = code.number();
                 let path = path.as_str();
                 writeln!(f, "continuity: document: {code} at {path}")
+            }
+            Status::No { clause, path } => {
+                let clause = clause.word();
+                let path = path.as_str();
+                writeln!(f, "continuity: check: {clause} at {path}")
             }
         }
     }

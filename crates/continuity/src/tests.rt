@@ -78,3 +78,19 @@ fn each_end_without_a_report_has_its_line(rt: HostRuntime) -> Result<(), Fail> {
     assert_eq!(rt; told.as_str(), "continuity: document: 2 at \n");
     Ok(())
 }
+
+#[test]
+fn a_denied_report_has_its_line(rt: HostRuntime) -> Result<(), Fail> {
+    let alloc = rt.alloc();
+    let words = [String::from_str(alloc, "check")?];
+    let bytes =
+        b"{\"document\":{\"clients\":[]},\"report\":{\"alerts\":[],\"blocked\":[],\"clients\":[],\"entries\":[],\"notes\":[],\"served\":[],\"tables\":[[\"t\",[]]]}}".to_vec(
+            alloc,
+        )?;
+    let mut source = MemSource::new(bytes, Vec::new(alloc), 5);
+    let mut sink = MemSink::new(alloc, Vec::new(alloc), Vec::new(alloc), 5);
+    let status = continuity(alloc, &words, &mut source, &mut sink);
+    let told = Line(&status).to_string(alloc)?;
+    assert_eq!(rt; told.as_str(), "continuity: check: serial at /tables\n");
+    Ok(())
+}

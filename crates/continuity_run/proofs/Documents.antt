@@ -1,5 +1,5 @@
 -- What a run asks of a document is what a document that was read keeps to.
-use Rattle.std.proofs.Common.{◌≡◌, ℕ, zero, suc, ◌≤◌, ◌^◌, ◌+◌, List, [], ◌∷◌, length, length-append, true, false, refl, subst, arith}
+use Rattle.std.proofs.Common.{◌≡◌, ℕ, zero, suc, ◌≤◌, ◌^◌, ◌+◌, List, [], ◌∷◌, length, length-append, true, false, refl, arith}
 use Rattle.std.specs.Prelude.{Bool, ◌||◌, nat_le, ◌==◌}
 use Rattle.std.specs.List.{list_all, flat_map, AllByRecursion}
 use Rattle.std.proofs.lemmas.Bool.Decides.{nat_tests}
@@ -17,7 +17,7 @@ use Rattle.outage_schedule.specs.declared.document.Document.{Document}
 use Rattle.outage_schedule.specs.declared.event.Event.{Event}
 use Rattle.outage_schedule.specs.declared.event.Event.TheVariants as event
 use Rattle.doc_reader.specs.meaning.Counts.{is_small, calls_in_event, has_few_names, calls_in}
-use Rattle.document_forms.specs.Keeping.{is_service, is_request, is_client, is_event, is_pick}
+use Rattle.document_forms.specs.Keeping.{is_service, is_request, is_client, is_event}
 use Rattle.doc_reader.specs.Keeping.{IsDocument}
 use Rattle.document_forms.specs.meaning.Numbers.{is_count, is_small_ltxid}
 use Rattle.document_forms.specs.Numbers.{is_between}
@@ -199,29 +199,23 @@ small_ltxid x is =
     let behind = second_true (is_count x.incarnation) _ is in
     (counted x.incarnation (first_true (is_count x.incarnation) _ is), counted x.session (first_true (is_count x.session) _ behind), counted x.number (second_true (is_count x.session) (is_count x.number) behind))
 
-allowed : (clients : ℕ) (one : Event) → is_event clients false one ≡ true → IsAllowed clients one
+allowed : (clients : ℕ) (standby : Bool) (one : Event) → is_event clients standby one ≡ true → IsAllowed clients one
 unfolding is_event
-allowed clients (event.Go client) is = (low 1 clients client is, high 1 clients client is)
-allowed clients (event.Serve connection) is = tt
-allowed clients (event.Cut connection up down) is = tt
-allowed clients (event.Reap connection) is = tt
-allowed clients (event.Crash connection after pick) is =
-    one_store pick (alone (nat_le pick 3) (second_true (is_count after) (is_pick false pick) (second_true (is_count connection) _ is)))
-  where
-    alone : (small : Bool) → (small || false) ≡ true → small ≡ true
-    alone true is = refl
-    alone false is = is
-allowed clients event.Up is = tt
-allowed clients (event.UpCrash after pick) is = one_store pick (second_true (is_count after) (nat_le pick 3) is)
-allowed clients event.Tick is = tt
-allowed clients (event.Outside calls) is = made_all calls (first_true (list_all is_made calls) _ is)
-allowed clients (event.Ask ltxid) is = small_ltxid ltxid is
-allowed clients event.Drain is = tt
+allowed clients standby (event.Go client) is = (low 1 clients client is, high 1 clients client is)
+allowed clients standby (event.Serve connection) is = tt
+allowed clients standby (event.Cut connection up down) is = tt
+allowed clients standby (event.Reap connection) is = tt
+allowed clients standby (event.Crash connection after pick) is = tt
+allowed clients standby event.Up is = tt
+allowed clients standby (event.UpCrash after pick) is = one_store pick (second_true (is_count after) (nat_le pick 3) is)
+allowed clients standby event.Tick is = tt
+allowed clients standby (event.Outside calls) is = made_all calls (first_true (list_all is_made calls) _ is)
+allowed clients standby (event.Ask ltxid) is = small_ltxid ltxid is
+allowed clients standby event.Drain is = tt
 
 pub events_allowed : (document : Document) → IsDocument document → AllByRecursion (IsAllowed (length document.clients)) document.schedule
 events_allowed document is =
-    all_by (is_event (length document.clients) false) (IsAllowed (length document.clients)) (allowed (length document.clients)) document.schedule
-    (subst (λ (standby : Bool). list_all (is_event (length document.clients) standby) document.schedule ≡ true) is.standby is.schedule)
+    all_by (is_event (length document.clients) document.service.standby) (IsAllowed (length document.clients)) (allowed (length document.clients) document.service.standby) document.schedule is.schedule
 
 -- COVER -------------------------------------------------------------------------------------------
 

@@ -1,16 +1,14 @@
 -- What the report of a run that is over says of its document.
-use Rattle.std.proofs.Common.{◌≡◌, arith, ◌∙◌, refl, sym, ap, ap₂, subst, ℕ, Bool, true, false, List, [], ◌∷◌, ◌++◌, length, drop, map, Option, Some, None, Result, Ok}
-use Rattle.std.specs.Prelude.{IfOk, ◌==◌, ◌≤◌, ℤ, if◌then◌else◌}
+use Rattle.std.proofs.Common.{◌≡◌, arith, ◌∙◌, refl, sym, ap, ap₂, subst, ℕ, Bool, true, false, List, [], ◌∷◌, ◌++◌, length, drop, map, Some, Option, Ok}
+use Rattle.std.specs.Prelude.{◌==◌, ◌≤◌, ℤ, if◌then◌else◌}
 use Rattle.std.specs.Option.{option_map}
 use Rattle.std.specs.Str.{bytes_eq}
 use Rattle.std.proofs.Math.Path.{fun_ext}
 use Rattle.std.proofs.lemmas.Bool.Decides.{nat_tests}
-use Rattle.disk_model.specs.Disk.{DiskState}
 use Rattle.json_form.proofs.Offered.{both_true}
 use Rattle.svc_values.specs.declared.entry.Entry.{Entry}
 use Rattle.svc_values.specs.declared.entry.Ltxid.{Ltxid}
 use Rattle.stmt_meaning.specs.meaning.Serial.{Serial}
-use Rattle.mutable_values.specs.declared.grants.Grants.{Grants}
 use Rattle.mutable_values.specs.declared.source.SeqState.{SeqState}
 use Rattle.mutable_values.specs.Sources.{Opening, sequence_of}
 use Rattle.commit_log.specs.declared.journal.Journal.{Journal}
@@ -19,7 +17,7 @@ use Rattle.outage_schedule.specs.declared.document.Document.{Document}
 use Rattle.outage_schedule.specs.declared.item.Served.{Served}
 use Rattle.outage_schedule.specs.declared.note.Note.{Note}
 use Rattle.outage_schedule.specs.declared.report.Report.{Report}
-use Rattle.run_clauses.specs.meaning.Before.{journal_before, tables_of, start, shape}
+use Rattle.run_clauses.specs.meaning.Before.{journal_before, start, shape}
 use Rattle.run_clauses.specs.meaning.Serial.{IsSerial, printed_tables}
 use Rattle.run_clauses.specs.meaning.Horizons.{last_horizon}
 use Rattle.run_clauses.specs.meaning.ServiceBase.{sequences_of, service_base}
@@ -28,19 +26,10 @@ use Rattle.server_model.specs.meaning.Base.{Base, Sequence}
 use Rattle.server_model.specs.Base.{IsSound}
 use Rattle.server_model.specs.Core.{committed}
 use Rattle.server_model.specs.Laws.{RunsSerial}
-use Rattle.server_model.specs.Runs.{Happened, Server, Runs}
-use Rattle.server_model.specs.Seen.{ServiceState}
+use Rattle.server_model.specs.Seen.{Seen}
 use Rattle.server_model.specs.meaning.SetAside.{SetAside, ends_in}
 use Rattle.server_model.specs.SetAside.{ends_of}
-use Rattle.server_session.specs.declared.shared.Core.{Core}
 use Rattle.server_session.specs.Fits.{IsSourceOf, sequence_in}
-use Rattle.server_session.specs.Plain.{IsStored}
-use Rattle.service_calls.specs.Kept.{HaveOneBase}
-use Rattle.service_core.specs.declared.notes.Notes.{Notes}
-use Rattle.service_core.specs.Held.{Held}
-use Rattle.service_core.specs.Seeing.{Stands, SeesIn, bytes_in, store_in}
-use Rattle.service_core.specs.Sound.{IsSound as IsSoundIn}
-use Rattle.service_core.specs.Within.{Within}
 use Rattle.world_model.specs.meaning.Judged.{drawn_in}
 use Rattle.world_model.specs.Reached.{IsRun}
 use Rattle.world_model.specs.Reported.{IsReported}
@@ -52,41 +41,9 @@ use Rattle.continuity_run.specs.meaning.Headline.{Headline, IsReadFrom}
 use Rattle.continuity_run.proofs.Images.{image_is}
 use Rattle.continuity_run.specs.Reading.{IsReadOff}
 use Rattle.continuity_run.specs.RunLaws.{RunsHold}
-use Rattle.continuity_run.specs.Runs.{HasRun}
+use Rattle.continuity_run.specs.Runs.{HasRun, IsReportOf}
 use Rattle.continuity_run.specs.Stores.{Counts}
-
--- THE STORE AT THE END ----------------------------------------------------------------------------
-
--- The journal has what the service began with, and behind it what a run of the plain server has gained.
-record HasGained (start : Base) (history : List Happened) (journal : Journal) : Type 0 where
-  server : Server
-  runs : Runs start history server
-  entries : journal.entries ≡ start.entries ++ server.core.entries
-  blocked : journal.blocked ≡ start.blocked ++ server.core.blocked
-  alerts : journal.alerts ≡ start.alerts ++ server.core.alerts
-  tables : committed server.core ≡ tables_of journal
-  source : IsSourceOf server.core.opening journal
-  begins : server.core.base ≡ start
-
-gained_by : (start : Base) (history : List Happened) (server : Server) (journal : Journal) → Runs start history server → server.core.base ≡ start → IsStored server.core journal → HasGained start history journal
-gained_by start history server journal runs begins stored = record {
-  server = server;
-  runs = runs;
-  entries = sym stored.entries ∙ ap (λ (base : Base). base.entries ++ server.core.entries) begins;
-  blocked = sym stored.blocked ∙ ap (λ (base : Base). base.blocked ++ server.core.blocked) begins;
-  alerts = sym stored.alerts ∙ ap (λ (base : Base). base.alerts ++ server.core.alerts) begins;
-  tables = stored.tables;
-  source = stored.source;
-  begins = begins;
-}
-
-gained_in : (grants : Grants) (disk : DiskState) (core : Option Core) (held : Held) (notes : Notes) (start : Base) (history : List Happened) (journal : Journal) → IsSoundIn grants disk core held notes → Stands grants disk core held notes start history
-    → journal_of disk.now.seen ≡ Ok journal → HasGained start history journal
-gained_in grants disk None held notes start history journal down stands reads =
-    let came = stands disk.now.seen down.reads_now in
-    gained_by start history came.server journal came.runs came.is_base (subst (λ (read : Result Journal ℕ). IfOk read (IsStored came.server.core)) reads came.stands.stored)
-gained_in grants disk (Some core) held notes start history journal up stands reads =
-    gained_by start history stands.server journal stands.runs stands.is_base (subst (λ (read : Result Journal ℕ). IfOk read (IsStored stands.server.core)) reads stands.stands.plain.stored)
+use Rattle.continuity_run.proofs.Ending.{EndsIn, HasGained}
 
 -- LISTS -------------------------------------------------------------------------------------------
 
@@ -111,23 +68,13 @@ ends_as (sequence ∷ sequences) name = by (bytes_eq sequence.name name) (ends_a
 ends_same : (opening : Opening) (journal : Journal) → IsSourceOf opening journal → ends_of opening ≡ ends_in (sequences_of journal)
 ends_same opening journal source = fun_ext (λ name. ends_as opening.sequences name ∙ ap (λ (sequences : List Sequence). ends_in sequences name) source.sequences)
 
--- the store has the horizon, the incarnation and the entries of its journal
-horizon_in : (read : Result Journal ℕ) (records : ℕ) (journal : Journal) → read ≡ Ok journal → (store_in read records).horizon ≡ journal.horizon
-horizon_in read records journal is = ap (λ (found : Result Journal ℕ). (store_in found records).horizon) is
-
-incarnation_in : (read : Result Journal ℕ) (records : ℕ) (journal : Journal) → read ≡ Ok journal → (store_in read records).incarnation ≡ journal.incarnation
-incarnation_in read records journal is = ap (λ (found : Result Journal ℕ). (store_in found records).incarnation) is
-
-entries_in : (read : Result Journal ℕ) (records : ℕ) (journal : Journal) → read ≡ Ok journal → (store_in read records).entries ≡ journal.entries
-entries_in read records journal is = ap (λ (found : Result Journal ℕ). (store_in found records).entries) is
-
 same_number : (a b : ℕ) → (a == b) ≡ true → a ≡ b
 same_number a b is = grind (arith, nat_tests)
 
 -- THE REPORT --------------------------------------------------------------------------------------
 
-module _ (document : Document) (ran : Ran Within) (before : Before) (report : Report) (has : HasRun SeesIn document ran) (counts : Counts (journal_before document) before)
-    (off : IsReadOff (bytes_in ran.service) before document.print_image ran report) (base : off.journal.base ≡ (journal_before document).base) where
+module _ {S : Type 0} (sees : S → Seen → Type 0) (document : Document) (ran : Ran S) (bytes : List ℕ) (before : Before) (report : Report) (has : HasRun sees document ran) (counts : Counts (journal_before document) before)
+    (off : IsReadOff bytes before document.print_image ran report) (ends : EndsIn has.seen off.journal) (base : off.journal.base ≡ (journal_before document).base) where
   is_run : IsRun document report.notes report.served has.seen has.traced
   is_run =
       subst (λ (notes : List Note). IsRun document notes report.served has.seen has.traced) (sym off.notes)
@@ -137,10 +84,7 @@ module _ (document : Document) (ran : Ran Within) (before : Before) (report : Re
   starts = finishing_start document has.run.place ran.notes ran.served has.seen has.traced has.run.finishing
 
   gained : HasGained (service_base document) has.seen.history off.journal
-  gained =
-      let sees = has.place.seen_so in
-      subst (λ (start : Base). HasGained start has.seen.history off.journal) starts
-      (gained_in ran.service.grants ran.service.disk ran.service.core ran.service.held ran.service.notes has.seen.start has.seen.history off.journal sees.sound sees.sees.stands off.reads)
+  gained = subst (λ (start : Base). HasGained start has.seen.history off.journal) starts ends.gained
 
   entries_are : report.entries ≡ gained.server.core.entries
   entries_are = behind (journal_before document).entries gained.server.core.entries off.journal.entries report.entries before.entries gained.entries counts.entries off.entries
@@ -163,21 +107,6 @@ module _ (document : Document) (ran : Ran Within) (before : Before) (report : Re
     printed = printed;
   }
 
-  store_horizon : has.seen.state.store.horizon ≡ off.journal.horizon
-  store_horizon =
-      ap (λ (state : ServiceState). state.store.horizon) has.place.seen_so.sees.state_is
-      ∙ horizon_in (journal_of (bytes_in ran.service)) _ off.journal off.reads
-
-  store_incarnation : has.seen.state.store.incarnation ≡ off.journal.incarnation
-  store_incarnation =
-      ap (λ (state : ServiceState). state.store.incarnation) has.place.seen_so.sees.state_is
-      ∙ incarnation_in (journal_of (bytes_in ran.service)) _ off.journal off.reads
-
-  store_entries : has.seen.state.store.entries ≡ off.journal.entries
-  store_entries =
-      ap (λ (state : ServiceState). state.store.entries) has.place.seen_so.sees.state_is
-      ∙ entries_in (journal_of (bytes_in ran.service)) _ off.journal off.reads
-
   entries_read : off.journal.entries ≡ (journal_before document).entries ++ report.entries
   entries_read = gained.entries ∙ ap (λ (entries : List Entry). (journal_before document).entries ++ entries) (sym entries_are)
 
@@ -187,10 +116,10 @@ module _ (document : Document) (ran : Ran Within) (before : Before) (report : Re
     clients = off.clients ∙ has.clients;
     runs = gained.runs;
     entries = entries_are;
-    gained = store_entries ∙ entries_read;
+    gained = ends.entries ∙ entries_read;
     blocked = blocked_are;
     alerts = alerts_are;
-    forgotten = off.forgotten ∙ sym store_horizon;
+    forgotten = off.forgotten ∙ sym ends.horizon;
   }
 
   -- what the journal at the end says of the report
@@ -202,7 +131,7 @@ module _ (document : Document) (ran : Ran Within) (before : Before) (report : Re
     alerts = gained.alerts ∙ ap (λ (alerts : List (List ℕ)). (journal_before document).alerts ++ alerts) (sym alerts_are);
     tables = off.tables;
     horizon = off.forgotten;
-    incarnation = sym store_incarnation ∙ laws.incarnations document report has.seen has.traced is_run;
+    incarnation = sym ends.incarnation ∙ laws.incarnations document report has.seen has.traced is_run;
     set_aside =
         subst (λ (ends : List ℕ → Option ℤ). SetAside (sequences_of (journal_before document)) ends (drawn_in document report)) (ends_same gained.server.core.opening off.journal gained.source)
         (laws.set_aside document report has.seen has.traced gained.server reported);
@@ -217,7 +146,7 @@ module _ (document : Document) (ran : Ran Within) (before : Before) (report : Re
       (both_true _ _ (laws.apart document report has.seen has.traced gained.server reported)
       (both_true _ _
       (both_true _ _ (laws.answered document report has.seen has.traced gained.server reported) (laws.ordered document report has.seen has.traced gained.server reported))
-      (image_is document report off.journal (read_from laws) (sym off.forgotten ∙ same_number report.forgotten (last_horizon document report) told) (bytes_in ran.service) off.reads off.image)))))
+      (image_is document report off.journal (read_from laws) (sym off.forgotten ∙ same_number report.forgotten (last_horizon document report) told) bytes off.reads off.image)))))
 
   headline : RunsHold → all_requests_right document ≡ true → 1 ≤ document.service.retries → Headline document report
   headline laws calls tries = record {
@@ -234,16 +163,17 @@ module _ (document : Document) (ran : Ran Within) (before : Before) (report : Re
     caused_so = laws.caused document report has.seen has.traced gained.server calls tries reported;
     whole_so = laws.whole document report has.seen has.traced gained.server calls reported;
     calm_so = laws.calm document report has.seen has.traced gained.server calls reported;
-    bytes = bytes_in ran.service;
+    bytes = bytes;
     journal = off.journal;
     holds = off.reads;
     read = read_from laws;
     image = off.image;
   }
 
--- The report that is read off the store of a run says what the headline says.
-pub headline_of : (document : Document) (ran : Ran Within) (before : Before) (report : Report) → HasRun SeesIn document ran → Counts (journal_before document) before
-    → IsReadOff (bytes_in ran.service) before document.print_image ran report → (bytes : List ℕ) → journal_of bytes ≡ Ok (journal_before document) → HaveOneBase bytes (bytes_in ran.service) → RunsHold → all_requests_right document ≡ true → 1 ≤ document.service.retries
-    → Headline document report
-headline_of document ran before report has counts off bytes reads kept laws calls tries =
-    headline document ran before report has counts off (kept (journal_before document) off.journal reads off.reads) laws calls tries
+-- The report that is read off the store of a run says what the headline says, where what is seen of the service says what its store holds.
+pub headline_of : {S : Type 0} (sees : S → Seen → Type 0) (bytes : S → List ℕ) → ((service : S) (seen : Seen) (journal : Journal) → sees service seen → journal_of (bytes service) ≡ Ok journal → EndsIn seen journal)
+    → (first : List ℕ) (document : Document) (before : Before) (report : Report) → IsReportOf sees bytes first before document.print_image document report → Counts (journal_before document) before → journal_of first ≡ Ok (journal_before document)
+    → RunsHold → all_requests_right document ≡ true → 1 ≤ document.service.retries → Headline document report
+headline_of sees bytes end first document before report of counts reads laws calls tries =
+    headline sees document of.ran (bytes of.ran.service) before report of.has counts of.off (end of.ran.service of.has.seen of.off.journal of.has.place.seen_so of.off.reads)
+    (of.base (journal_before document) of.off.journal reads of.off.reads) laws calls tries

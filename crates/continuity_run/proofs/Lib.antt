@@ -1,5 +1,7 @@
 mod Beginning
+mod Checked
 mod Documents
+mod Ending
 mod Headlines
 mod Images
 mod Indexing
@@ -10,6 +12,5 @@ mod Moves
 mod ReadOff
 mod Responses
 mod Schedule
-mod StartBase
 mod StartRoom
 mod WordFaults

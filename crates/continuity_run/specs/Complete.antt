@@ -1,26 +1,38 @@
 -- When a command has to end with its answer, but for want of memory.
-use Rattle.std.specs.Prelude.{◌≡◌, ℕ, List, Option, Some, Ok, String}
-use Rattle.std.specs.declared.alloc.Global.{Global}
-use Rattle.outage_schedule.specs.declared.document.Document.{Document}
+use Rattle.std.specs.Prelude.{◌≡◌, ◌⊎◌, ℕ, List, Option, Some, Result, Ok}
+use Rattle.json_form.specs.meaning.Faults.{Fault}
 use Rattle.doc_reader.specs.meaning.Documents.{document_at}
-use Rattle.continuity_run.specs.Causes.{Rose}
+use Rattle.report_check.specs.meaning.Pairs.{pair_at}
 use Rattle.continuity_run.specs.declared.command.Command.{Command}
-use Rattle.continuity_run.specs.Words.{command_of}
+use Rattle.continuity_run.specs.declared.command.Command.TheVariants as command
+use Rattle.continuity_run.specs.declared.status.Status.{Status}
+use Rattle.continuity_run.specs.declared.status.Status.TheVariants as status
+use Rattle.continuity_run.specs.Causes.{Rose}
 
--- Nothing is at fault: what the source has left is told and is a document, and neither the source's
+-- Nothing is at fault: what the source has left is told and is read so, and neither the source's
 -- count of faults rose nor the sink's.
-pub record IsFaultlessOn (left : Option (List ℕ))
+pub record IsFaultlessOn {A : Type 0} (reads : List ℕ → Result A Fault) (left : Option (List ℕ))
     (reads_before reads_after writes_before writes_after : ℕ) : Type 0 where
   pub bytes : List ℕ
   pub told : left ≡ Some bytes
-  pub document : Document
-  pub accepted : document_at bytes ≡ Ok document
+  pub value : A
+  pub accepted : reads bytes ≡ Ok value
   pub read : Rose reads_before reads_after → ⊥
   pub wrote : Rose writes_before writes_after → ⊥
 
--- So it is, and the words are a command.
-pub record IsFaultless (words : List (String Global)) (left : Option (List ℕ))
-    (reads_before reads_after writes_before writes_after : ℕ) : Type 0 where
-  pub command : Command
-  pub commanded : command_of words ≡ Some command
-  pub faultless : IsFaultlessOn left reads_before reads_after writes_before writes_after
+-- So it is with a document, and for `check` with a document and its report.
+abbrev pub IsFaultless : Command → Option (List ℕ) → ℕ → ℕ → ℕ → ℕ → Type 0
+IsFaultless command.Check left reads_before reads_after writes_before writes_after =
+    IsFaultlessOn pair_at left reads_before reads_after writes_before writes_after
+IsFaultless _ left reads_before reads_after writes_before writes_after =
+    IsFaultlessOn document_at left reads_before reads_after writes_before writes_after
+
+-- the report is denied
+abbrev pub IsNo : Status → Type 0
+IsNo (status.No one path) = Unit {0}
+IsNo _ = ⊥
+
+-- The command ended with its answer, or for want of memory. A report that was judged may be denied.
+abbrev pub HasAnswered : Command → Status → Type 0
+HasAnswered command.Check end = (end ≡ status.Done) ⊎ ((end ≡ status.NoMemory) ⊎ IsNo end)
+HasAnswered _ end = (end ≡ status.Done) ⊎ (end ≡ status.NoMemory)

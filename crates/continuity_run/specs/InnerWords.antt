@@ -9,16 +9,19 @@ use Rattle.clap.specs.Simple.{App, new_app, new_shape, on_top, with_subcommand}
 abbrev pub begins_with_hyphen : String Global → Bool
 begins_with_hyphen word = slice_index (string_bytes word) 0 == 45
 
--- the commands `run` and `cover`, one of which has to be there, with no help and no version of
--- clap's own
-abbrev pub program : App
-program = with_subcommand (with_subcommand (on_top (λ s. record s {
+-- one of the commands has to be there, with no help and no version of clap's own
+abbrev pub bare_program : App
+bare_program = on_top (λ s. record s {
   no_binary_name = true;
   disable_help_flag = true;
   disable_help_subcommand = true;
   disable_version_flag = true;
   subcommand_required = true;
-}) (new_app (codes "continuity"))) (new_shape (codes "run"))) (new_shape (codes "cover"))
+}) (new_app (codes "continuity"))
+
+-- the commands are `run`, `cover` and `check`
+abbrev pub program : App
+program = with_subcommand (with_subcommand (with_subcommand bare_program (new_shape (codes "run"))) (new_shape (codes "cover"))) (new_shape (codes "check"))
 
 -- one word, the name of a command
 abbrev pub named_in : List (String Global) → Option Command

@@ -1,4 +1,5 @@
 pub mod Causes
+pub mod Checking
 pub mod Clauses
 pub mod Complete
 pub mod Indexes

@@ -47,3 +47,4 @@ abbrev pub HasItsNumbers : Command → Type 0
 HasItsNumbers (command.Load seed clients requests) = HasLoadNumbers clients requests
 HasItsNumbers command.Run = Unit {0}
 HasItsNumbers command.Cover = Unit {0}
+HasItsNumbers command.Check = Unit {0}

@@ -1,7 +1,7 @@
 -- The exit status of each end of a run.
 use Rattle.std.specs.Prelude.{ℕ}
-use Rattle.continuity_run.specs.declared.top.Status.{Status}
-use Rattle.continuity_run.specs.declared.top.Status.TheVariants as status
+use Rattle.continuity_run.specs.declared.status.Status.{Status}
+use Rattle.continuity_run.specs.declared.status.Status.TheVariants as status
 
 abbrev pub number_of : Status → ℕ
 number_of status.Done = 0
@@ -10,3 +10,4 @@ number_of status.Words = 2
 number_of status.Read = 3
 number_of status.Write = 4
 number_of (status.Document code path) = 5
+number_of (status.No one path) = 6

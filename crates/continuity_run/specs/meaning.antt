@@ -1,4 +1,5 @@
 -- What the program's promise means: all that its definition uses of this crate.
+pub mod Check
 pub mod Clauses
 pub mod Headline
 pub mod Load

@@ -1,10 +1,8 @@
-//! The answer to a command: the text that it writes of a document.
+//! What is told of a document that was read: the text that is written.
 ghost use Rattle.std.specs.Prelude.{IfOk};
 ghost use Rattle.doc_reader.specs.Keeping.{IsDocument};
 ghost use Rattle.continuity_run.specs.meaning.Clauses.{IsReported, IsCovered, Tells};
 
-use crate::command::Command;
-use crate::load::line_text;
 use crate::run::run_document;
 use cover_core::{counts_of_run, cover_bytes};
 use outage_schedule::Document;
@@ -12,19 +10,27 @@ use report_text::report_bytes;
 use std::alloc::Global;
 use svc_values::NoMemory;
 
-/// The text that the command tells of the document.
+/// What is told of a document that is run.
+#[derive(Clone, Copy, Debug, PartialEq, Eq)]
+pub enum Telling {
+    /// Its report.
+    Report,
+    /// How many of its clients' calls were protected.
+    Cover,
+}
+
+/// The text that is told of the document.
 pub(crate) fn text_of(
     alloc: Global,
-    command: Command,
+    telling: Telling,
     document: Document,
 ) -> Result<Vec<u8>, NoMemory>
     requires document { IsDocument document }
-    ensures { IfOk result (λ text. Tells command document text.items) }
+    ensures { IfOk result (λ text. Tells telling document text.items) }
 {
-    match command {
-        Command::Run => report_text(alloc, document),
-        Command::Cover => cover_text(alloc, document),
-        Command::Load { .. } => line_text(alloc, document),
+    match telling {
+        Telling::Report => report_text(alloc, document),
+        Telling::Cover => cover_text(alloc, document),
     }
 }
 

@@ -7,6 +7,8 @@ pub enum Command {
     Run,
     /// It is run, and it is written how many of its clients' calls were protected.
     Cover,
+    /// It is read with a report, which is judged.
+    Check,
     /// The document that is made of these numbers is run, and a line of counts is written.
     Load {
         seed: u64,

@@ -2,6 +2,7 @@
 #![tactic(auto)]
 
 mod answer;
+mod check;
 mod command;
 mod indexes;
 pub mod laws;
@@ -10,6 +11,7 @@ mod memory;
 mod outside;
 mod reporting;
 mod run;
+mod status;
 mod store;
 mod top;
 mod whole;
@@ -19,5 +21,6 @@ pub use command::Command;
 pub use memory::{MemSink, MemSource};
 pub use outside::{Failed, Sink, Source};
 pub use run::run_document;
-pub use top::{Status, continuity};
+pub use status::Status;
+pub use top::continuity;
 pub use whole::{ReadError, read_to_limit, write_whole};

@@ -7,9 +7,9 @@ ghost use Rattle.continuity_run.specs.Reading.{IsReadOff, MayBeRead, printed_by}
 use crate::store::Before;
 use commit_log::Journal;
 use commit_log::laws::keeps_journal;
+use journal_tables::tables_of;
 use outage_schedule::{Image, Report, ReportTable, ReportTables};
 use service_calls::{ServeFault, Service};
-use service_core::tables_of;
 use std::alloc::Global;
 use svc_values::{Listed, NoMemory};
 use table_store::{TableRows, Tables};
@@ -98,7 +98,7 @@ pub(crate) fn report_of<S: Service + Drop>(
         alerts,
         ..
     } = journal_of(alloc, service)?;
-    let tables = tables_of(alloc, base, entries.as_slice(), &[])?;
+    let tables = tables_of(alloc, base, entries.as_slice())?;
     Ok(Report {
         alerts: behind(alloc, alerts.into_vec(), before.alerts)?,
         blocked: behind(alloc, blocked.into_vec(), before.blocked)?,

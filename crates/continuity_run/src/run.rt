@@ -7,13 +7,14 @@ ghost use Rattle.service_calls.specs.Kept.{HaveOneBase};
 ghost use Rattle.world_model.specs.meaning.Settings.{rules_of};
 ghost use Rattle.continuity_run.specs.meaning.Headline.{Headline};
 ghost use Rattle.continuity_run.specs.RunLaws.{RunsHold};
-ghost use Rattle.continuity_run.specs.Runs.{HasRun, IsRunOf, IsRunOfSome};
+ghost use Rattle.continuity_run.specs.Runs.{HasRun, IsReportOf, IsRunOf, IsRunOfSome};
 
 use crate::indexes::indexes_of;
 use crate::reporting::report_of;
-use crate::store::{Store, store_of};
+use crate::store::{Before, Store, store_of};
 use auto_bounds::AutoRule;
 use calm_laws::laws::calm_runs_answer;
+use disk_model::MemDisk;
 use fresh_laws::laws::runs_are_fresh;
 use legal_laws::judged::{runs_are_fresh_new, runs_are_legal, runs_are_set_aside};
 use legal_laws::laws::runs_are_legal_told;
@@ -34,6 +35,7 @@ use service_calls::Service;
 use service_core::OneService;
 use shown_laws::laws::runs_are_caused;
 use shown_laws::reports::runs_are_whole;
+use standby_ship::Pair;
 use std::alloc::Global;
 use svc_values::NoMemory;
 use world_model::laws::{finish_falls, finish_goes_on, runs_are_followed, runs_are_orderly};
@@ -98,6 +100,29 @@ fn run_all<S: Service + Drop>(
     }
 }
 
+/// The report of the whole run over a service, read off what its store holds at the end.
+fn run_over<S: Service + Drop>(
+    alloc: Global,
+    of: &ServiceOf,
+    scripts: &[Client],
+    schedule: &[Event],
+    service: S,
+    opened: bool,
+    before: Before,
+    print_image: bool,
+) -> Result<Report, NoMemory>
+    requires begins { IsRunOfSome (S.sees service) (rules_of of.now.failover of.now.consistency) of.now scripts.now schedule.now opened }
+    ensures { IfOk result (λ report. (document : Given) → IsRunOf (S.sees service) (rules_of of.now.failover of.now.consistency) of.now scripts.now schedule.now opened document
+        → IsReportOf S.sees S.bytes (S.bytes service) before print_image document report) }
+{
+    finish_falls();
+    finish_goes_on();
+    finish_is_short();
+    runs_are_orderly();
+    let ran = run_all(alloc, of, scripts, schedule, service, opened)?;
+    report_of(alloc, ran, before, print_image)
+}
+
 /// What holds of whole runs and of their reports.
 fn runs_hold()
     ensures { RunsHold }
@@ -123,16 +148,13 @@ fn runs_hold()
     calm_runs_answer();
 }
 
-/// The run of a document: the scripts of its clients, as they were, and its report.
+/// The run of a document: the scripts of its clients, as they were, and its report. Where the document asks for
+/// a second store, it begins with a copy of the first one's bytes.
 pub fn run_document(alloc: Global, document: Document) -> Result<(Clients, Report), NoMemory>
     requires document { IsDocument document }
     ensures scripts { IfOk result (λ ran. ran.0 ≡ document.clients) }
     ensures report { IfOk result (λ ran. Headline document ran.1) }
 {
-    finish_falls();
-    finish_goes_on();
-    finish_is_short();
-    runs_are_orderly();
     runs_hold();
     let Document {
         service: of,
@@ -149,15 +171,32 @@ pub fn run_document(alloc: Global, document: Document) -> Result<(Clients, Repor
         opened,
         before,
     } = store_of(alloc, tables, sequences, image)?;
-    let service = OneService::indexed(alloc, disk, grants_of(of.keep), indexes);
-    let ran = run_all(
+    let grants = grants_of(of.keep);
+    if of.standby {
+        let second = MemDisk::of(alloc, disk.bytes())?;
+        let service = Pair::indexed(alloc, disk, second, grants, indexes);
+        let report = run_over(
+            alloc,
+            &of,
+            clients.as_slice(),
+            schedule.as_slice(),
+            service,
+            opened,
+            before,
+            print_image,
+        )?;
+        return Ok((clients, report));
+    }
+    let service = OneService::indexed(alloc, disk, grants, indexes);
+    let report = run_over(
         alloc,
         &of,
         clients.as_slice(),
         schedule.as_slice(),
         service,
         opened,
+        before,
+        print_image,
     )?;
-    let report = report_of(alloc, ran, before, print_image)?;
     Ok((clients, report))
 }

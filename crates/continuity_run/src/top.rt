@@ -1,71 +1,38 @@
 //! The top call: from the words and the bytes in to the bytes out.
 ghost use Rattle.std.specs.Prelude.{◌≡◌, ◌⊎◌, ℕ, false, Err, IfOk, IfErr, IsErrOf, None, OnOk, Some};
-ghost use Rattle.continuity_run.specs.Causes.{Rose};
 ghost use Rattle.doc_reader.specs.Keeping.{IsDocument};
-ghost use Rattle.doc_reader.specs.meaning.Documents.{document_at};
+ghost use Rattle.doc_reader.specs.meaning.Documents.{document_at, limit};
+ghost use Rattle.continuity_run.specs.Causes.{Rose};
 ghost use Rattle.continuity_run.specs.Words.{command_of as command_of_def, reads_source};
 ghost use Rattle.continuity_run.specs.LoadWords.{HasLoadNumbers};
-ghost use Rattle.continuity_run.specs.meaning.Clauses.{Tells, IsDone, IsAnswered, LoadIsDone, IsRead};
-ghost use Rattle.continuity_run.specs.Clauses.{IsCut, IsAnsweredInPart, IsRefused, Writes, WritesFront, IfDocument, IsBefore, IsReply, UnlessRead, EndsAtSink, LoadIsCut};
-ghost use Rattle.continuity_run.specs.Complete.{IsFaultless, IsFaultlessOn};
+ghost use Rattle.continuity_run.specs.meaning.Clauses.{Tells, IsDone, IsDenied, IsAnswered, LoadIsDone, IsRead};
+ghost use Rattle.continuity_run.specs.Clauses.{IsCut, IsAnsweredInPart, HasFault, IsRefused, Writes, WritesFront, IfDocument, IfNo, IsBefore, IsReply, UnlessRead, EndsAtSink, LoadIsCut};
+ghost use Rattle.continuity_run.specs.Complete.{IsFaultless, IsFaultlessOn, HasAnswered, IsNo};
 ghost use Rattle.continuity_run.specs.InnerEnds.{ended_as, IsWritten};
 
-use crate::answer::text_of;
+use crate::answer::{Telling, text_of};
+use crate::check::tell_of_check;
 use crate::command::Command;
 use crate::load::load_text;
 use crate::outside::{Sink, Source};
+use crate::status::Status;
 use crate::whole::{ReadError, read_to_limit, write_whole};
 use crate::words::command_of;
 use doc_reader::{DOCUMENT_LIMIT, read_document};
-use json_form::{DocCode, DocFault, Pointer};
+use json_form::DocFault;
 use outage_schedule::Document;
 use std::alloc::Global;
 use svc_values::NoMemory;
 
-/// How a run ended. The numbers 0 to 5 are the program's exit status, in this order.
-#[derive(Debug, Drop)]
-pub enum Status {
-    /// The document was read to its end, and the sink took the report's text.
-    Done,
-    /// Memory was refused.
-    NoMemory,
-    /// The words are none of the commands.
-    Words,
-    /// The source failed.
-    Read,
-    /// The sink failed, or took nothing. It holds a front of the text.
-    Write,
-    /// The bytes are no document. The path is a JSON Pointer (RFC 6901) to the value at fault.
-    Document { code: DocCode, path: Pointer },
-}
-
-impl Status {
-    ghost use Rattle.continuity_run.specs.Statuses.{number_of};
-
-    /// The exit status of a program that ends so.
-    pub fn number(&self) -> u8
-        ensures { result ≡ number_of self.now }
-    {
-        match self {
-            Status::Done => 0,
-            Status::NoMemory => 1,
-            Status::Words => 2,
-            Status::Read => 3,
-            Status::Write => 4,
-            Status::Document { .. } => 5,
-        }
-    }
-}
-
-/// The text that the command tells of the document that was read, or why none was. For the text
-/// there may be no memory.
+/// The text that is told of the document that was read, or why none was. For the text there may be no
+/// memory.
 fn answer(
     alloc: Global,
-    command: Command,
+    telling: Telling,
     read: Result<Document, DocFault>,
 ) -> Result<Vec<u8>, DocFault>
     requires document { IfOk read IsDocument }
-    ensures told { IfOk read (λ document. IfOk result (λ text. Tells command document text.items)) }
+    ensures told { IfOk read (λ document. IfOk result (λ text. Tells telling document text.items)) }
     ensures lacked { IfOk read (λ _. IfErr result (λ fault. fault ≡ DocFault.NoMemory)) }
     ensures refused { IfErr read (λ fault. result ≡ Err fault) }
 {
@@ -73,14 +40,14 @@ fn answer(
         Ok(document) => document,
         Err(fault) => return Err(fault),
     };
-    match text_of(alloc, command, document) {
+    match text_of(alloc, telling, document) {
         Ok(text) => Ok(text),
         Err(NoMemory) => Err(DocFault::NoMemory),
     }
 }
 
 fn read_input<S: Source>(alloc: Global, source: &mut S) -> Result<Vec<u8>, ReadError>
-    ensures read { IfOk result (λ bytes. IsRead (S.left source.old) (S.left source.new) bytes.items) }
+    ensures read { IfOk result (λ bytes. IsRead limit document_at (S.left source.old) (S.left source.new) bytes.items) }
     ensures kept { OnOk result (S.faults source.new ≡ S.faults source.old) }
     ensures lacked { IsErrOf result ReadError.NoMemory → S.faults source.new ≡ S.faults source.old }
     ensures failed { IsErrOf result ReadError.Failed → Rose (S.faults source.old) (S.faults source.new) }
@@ -105,10 +72,10 @@ fn write_answer<K: Sink>(answer: Result<Vec<u8>, DocFault>, sink: &mut K) -> Sta
     }
 }
 
-/// Judges the bytes, which are given up once they are read, and writes what the command tells.
-fn respond<K: Sink>(alloc: Global, command: Command, bytes: Vec<u8>, sink: &mut K) -> Status
-    ensures done { result ≡ Status.Done → Writes command bytes.items (K.held sink.old) (K.held sink.new) }
-    ensures cut { result ≡ Status.Write → WritesFront command bytes.items (K.held sink.old) (K.held sink.new) }
+/// Judges the bytes, which are given up once they are read, and writes what is told of the document.
+fn respond<K: Sink>(alloc: Global, telling: Telling, bytes: Vec<u8>, sink: &mut K) -> Status
+    ensures done { result ≡ Status.Done → Writes telling bytes.items (K.held sink.old) (K.held sink.new) }
+    ensures cut { result ≡ Status.Write → WritesFront telling bytes.items (K.held sink.old) (K.held sink.new) }
     ensures write { result ≡ Status.Write → Rose (K.faults sink.old) (K.faults sink.new) }
     ensures document { IfDocument result (λ fault. document_at bytes.items ≡ Err fault) }
     ensures untouched { IsBefore result → sink.new ≡ sink.old }
@@ -116,13 +83,13 @@ fn respond<K: Sink>(alloc: Global, command: Command, bytes: Vec<u8>, sink: &mut 
 {
     let read = read_document(alloc, bytes.as_slice());
     drop(bytes);
-    write_answer(answer(alloc, command, read), sink)
+    write_answer(answer(alloc, telling, read), sink)
 }
 
-/// Reads a document, and tells of it what the command tells.
+/// Reads a document, and writes what is told of it.
 fn tell_of_read<S: Source, K: Sink>(
     alloc: Global,
-    command: Command,
+    telling: Telling,
     source: &mut S,
     sink: &mut K,
 ) -> Status
@@ -130,12 +97,13 @@ fn tell_of_read<S: Source, K: Sink>(
     ensures read { result ≡ Status.Read → Rose (S.faults source.old) (S.faults source.new) }
     ensures kept { UnlessRead result (S.faults source.new ≡ S.faults source.old) }
     ensures write { result ≡ Status.Write → Rose (K.faults sink.old) (K.faults sink.new) }
-    ensures document { IfDocument result (IsRefused (S.left source.old) (S.left source.new)) }
-    ensures done { result ≡ Status.Done → IsAnswered command (S.left source.old) (S.left source.new)
+    ensures document { IfDocument result (HasFault limit document_at (S.left source.old) (S.left source.new)) }
+    ensures done { result ≡ Status.Done → IsAnswered telling (S.left source.old) (S.left source.new)
         (K.held sink.old) (K.held sink.new) }
-    ensures cut { result ≡ Status.Write → IsAnsweredInPart command (S.left source.old) (S.left source.new)
+    ensures cut { result ≡ Status.Write → IsAnsweredInPart telling (S.left source.old) (S.left source.new)
         (K.held sink.old) (K.held sink.new) }
-    ensures complete { IsFaultlessOn (S.left source.old)
+    ensures judges { IsNo result → ⊥ }
+    ensures complete { IsFaultlessOn document_at (S.left source.old)
         (S.faults source.old) (S.faults source.new) (K.faults sink.old) (K.faults sink.new)
         → (result ≡ Status.Done) ⊎ (result ≡ Status.NoMemory) }
     ensures untouched { IsBefore result → sink.new ≡ sink.old }
@@ -145,7 +113,7 @@ fn tell_of_read<S: Source, K: Sink>(
         Err(ReadError::NoMemory) => return Status::NoMemory,
         Err(ReadError::Failed) => return Status::Read,
     };
-    respond(alloc, command, bytes, sink)
+    respond(alloc, telling, bytes, sink)
 }
 
 /// Makes the document of these numbers, and writes the line of its report.
@@ -168,11 +136,12 @@ fn tell_load<K: Sink>(alloc: Global, seed: u64, clients: u64, requests: u64, sin
 
 /// Carries out a command. `run` and `cover` read a document from the source and run its clients'
 /// scripts under its schedule: `run` writes the report to the sink as compact JSON, and `cover` how
-/// many calls of each report were shown and protected. `load` makes its document of three numbers,
+/// many calls of each report were shown and protected. `check` reads a document with a report of it,
+/// and writes `yes` where each clause of the report holds. `load` makes its document of three numbers,
 /// and writes a line of counts. The words are looked at first, which may want memory; then the
-/// source is read, to one byte past the limit of 8,388,608 bytes at most; then the document is
-/// judged. Memory is proportional to the input, and the cost of reading, judging and writing is
-/// n log n in it.
+/// source is read, to one byte past the limit of 8,388,608 bytes at most, which for `check` is
+/// 67,108,864; then the document is judged. Memory is proportional to the input, and the cost of
+/// reading, judging and writing is n log n in it.
 pub fn continuity<S: Source, K: Sink>(
     alloc: Global,
     words: &[String],
@@ -189,11 +158,17 @@ pub fn continuity<S: Source, K: Sink>(
     ensures kept { UnlessRead result (S.faults source.new ≡ S.faults source.old) }
     ensures write { result ≡ Status.Write → Rose (K.faults sink.old) (K.faults sink.new) }
 
-    // The bytes are no document, and this is why.
-    ensures document { IfDocument result (IsRefused (S.left source.old) (S.left source.new)) }
+    // The bytes are no document, or for `check` none with a report of it, and this is why.
+    ensures document { (command : Command) → command_of_def words.now ≡ Some command
+        → IfDocument result (IsRefused command (S.left source.old) (S.left source.new)) }
+
+    // This clause of the report is the first that is false, which `check` alone tells.
+    ensures denied { IfNo result (IsDenied (S.left source.old) (S.left source.new)) }
+    ensures denies { IsNo result → command_of_def words.now ≡ Some Command.Check }
 
     // The sink took the text of the command, or a front of it: of a report with its headline, of how
-    // many of its calls were protected, or of the counts of a load.
+    // many of its calls were protected, of a report of which each clause holds, or of the counts of a
+    // load.
     ensures done { (command : Command) → command_of_def words.now ≡ Some command
         → result ≡ Status.Done
         → IsDone command (S.left source.old) (S.left source.new)
@@ -207,9 +182,10 @@ pub fn continuity<S: Source, K: Sink>(
     ensures loads { (seed clients requests : ℕ) → command_of_def words.now ≡ Some (Command.Load seed clients requests) → EndsAtSink result }
 
     // Where nothing is at fault there is an answer, but for want of memory.
-    ensures complete { IsFaultless words.now (S.left source.old)
+    ensures complete { (command : Command) → command_of_def words.now ≡ Some command
+        → IsFaultless command (S.left source.old)
         (S.faults source.old) (S.faults source.new) (K.faults sink.old) (K.faults sink.new)
-        → (result ≡ Status.Done) ⊎ (result ≡ Status.NoMemory) }
+        → HasAnswered command result }
 
     // Else nothing was written.
     ensures untouched { IsBefore result → sink.new ≡ sink.old }
@@ -220,8 +196,9 @@ pub fn continuity<S: Source, K: Sink>(
         Err(NoMemory) => return Status::NoMemory,
     };
     match command {
-        Command::Run => tell_of_read(alloc, Command::Run, source, sink),
-        Command::Cover => tell_of_read(alloc, Command::Cover, source, sink),
+        Command::Run => tell_of_read(alloc, Telling::Report, source, sink),
+        Command::Cover => tell_of_read(alloc, Telling::Cover, source, sink),
+        Command::Check => tell_of_check(alloc, source, sink),
         Command::Load {
             seed,
             clients,

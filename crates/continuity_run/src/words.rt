@@ -4,7 +4,7 @@ ghost use Rattle.std.specs.List.{list_any};
 ghost use Rattle.clap.specs.Words.{app_of};
 ghost use Rattle.continuity_run.specs.Words.{command_named as command_named_def, command_of as command_of_def};
 ghost use Rattle.continuity_run.specs.LoadWords.{load_in as load_in_def, HasItsNumbers};
-ghost use Rattle.continuity_run.specs.InnerWords.{begins_with_hyphen, named_in, program};
+ghost use Rattle.continuity_run.specs.InnerWords.{bare_program, begins_with_hyphen, named_in, program};
 
 use crate::command::Command;
 use crate::load::load_of;
@@ -77,15 +77,15 @@ fn command_named(name: Option<&str>) -> Option<Command>
     match name {
         Some("run") => Some(Command::Run),
         Some("cover") => Some(Command::Cover),
+        Some("check") => Some(Command::Check),
         _ => None,
     }
 }
 
-/// The subcommands `run` and `cover`, one of which has to be there, with neither help nor a
-/// version of
-/// clap's own.
-fn command_line<'a>(alloc: Global) -> Result<Line<'a>, AllocError>
-    ensures { IfOk result (λ line. app_of line ≡ program) }
+/// The program's line without its commands: one of these has to be there, with neither help nor a
+/// version of clap's own.
+fn bare_line<'a>(alloc: Global) -> Line<'a>
+    ensures { app_of result ≡ bare_program }
 {
     Line::new(alloc, "continuity")
         .no_binary_name(true)
@@ -93,6 +93,14 @@ fn command_line<'a>(alloc: Global) -> Result<Line<'a>, AllocError>
         .disable_help_subcommand(true)
         .disable_version_flag(true)
         .subcommand_required(true)
+}
+
+/// The line with the subcommands `run`, `cover` and `check`.
+fn command_line<'a>(alloc: Global) -> Result<Line<'a>, AllocError>
+    ensures { IfOk result (λ line. app_of line ≡ program) }
+{
+    bare_line(alloc)
         .subcommand(Line::new(alloc, "run"))?
-        .subcommand(Line::new(alloc, "cover"))
+        .subcommand(Line::new(alloc, "cover"))?
+        .subcommand(Line::new(alloc, "check"))
 }

@@ -4,4 +4,6 @@
 #[cfg(test)]
 mod failing;
 #[cfg(test)]
+mod judging;
+#[cfg(test)]
 mod piecewise;

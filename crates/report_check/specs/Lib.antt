@@ -1,3 +1,3 @@
 pub mod Judged
-pub mod Pairs
-pub mod Verdicts
+pub mod Words
+pub mod meaning

@@ -1,5 +1,5 @@
-//! Judging of a report with its document: which of the clauses `Serial` and `Fresh` is the first that
-//! does not hold, and where.
+//! Judging of a report with its document: which of the clauses is the first that does not hold, and
+//! where.
 #![tactic(auto)]
 
 mod pair;

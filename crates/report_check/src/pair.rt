@@ -4,7 +4,7 @@ ghost use Rattle.serde_json.specs.View.{view};
 ghost use Rattle.json_form.specs.Faults.{Gives};
 ghost use Rattle.doc_reader.specs.Keeping.{IsDocument};
 ghost use Rattle.report_reader.specs.Keeping.{IsTold};
-ghost use Rattle.report_check.specs.Pairs.{pair_of, pair_at};
+ghost use Rattle.report_check.specs.meaning.Pairs.{pair_of, pair_at};
 
 use doc_reader::document_from;
 use json_form::{DocFault, json_from, object_with, within};
@@ -17,7 +17,7 @@ use std::alloc::Global;
 pub const CHECK_LIMIT: usize = 67_108_864;
 
 /// The document and the report of a JSON value.
-#[tactic(auto, unfolding(crate::specs::Pairs::pair_of), using(json_form::proofs::Offered::others_stay))]
+#[tactic(auto, unfolding(crate::specs::meaning::Pairs::pair_of), using(json_form::proofs::Offered::others_stay))]
 fn pair_in(alloc: Global, value: Json) -> Result<(Document, Report), DocFault>
     ensures read { Gives result (pair_of (view value)) }
     ensures document { IfOk result (λ pair. IsDocument pair.0) }

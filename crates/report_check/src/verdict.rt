@@ -2,7 +2,9 @@
 ghost use Rattle.std.specs.Prelude.{◌≡◌, IfOk};
 ghost use Rattle.doc_reader.specs.Keeping.{IsDocument};
 ghost use Rattle.report_check.specs.Judged.{IsJudged};
+ghost use Rattle.report_check.specs.Words.{word_of};
 
+use entry_check::{judge_once, judge_same};
 use json_form::Pointer;
 use outage_schedule::{Document, Report};
 use serial_check::laws::{fresh_is_placed, serial_is_placed};
@@ -17,6 +19,24 @@ pub enum Clause {
     Serial,
     /// No value was drawn twice.
     Fresh,
+    /// Each transaction stands among the entries at most once, and as it was shown.
+    Once,
+    /// Each transaction stands there with the calls, answers, draws and settings that its client knows.
+    Same,
+}
+
+impl Clause {
+    /// Its word, in lower case.
+    pub fn word(&self) -> &'static str
+        ensures { result.now ≡ word_of self.now }
+    {
+        match self {
+            Clause::Serial => "serial",
+            Clause::Fresh => "fresh",
+            Clause::Once => "once",
+            Clause::Same => "same",
+        }
+    }
 }
 
 /// Whether each clause that is judged holds.
@@ -25,12 +45,12 @@ pub enum Verdict {
     /// Each holds.
     Yes,
     /// This one is the first that does not. The path is a JSON Pointer (RFC 6901) from the report to the
-    /// place where it first fails.
+    /// place where it fails: of `Serial` and `Fresh` it is promised that it is the first such place.
     No { clause: Clause, path: Pointer },
 }
 
 /// Judges a report with its document. A later clause is looked at only where those before it hold. The
-/// cost is that of `judge_serial` and `judge_fresh`.
+/// cost is that of `judge_serial`, `judge_fresh`, `judge_once` and `judge_same`.
 pub fn judge(alloc: Global, document: &Document, report: &Report) -> Result<Verdict, NoMemory>
     requires { IsDocument document.now }
     ensures { IfOk result (IsJudged document.now report.now) }
@@ -42,6 +62,12 @@ pub fn judge(alloc: Global, document: &Document, report: &Report) -> Result<Verd
     }
     if let Some(path) = judge_fresh(alloc, report)? {
         return Ok(against(Clause::Fresh, path));
+    }
+    if let Some(path) = judge_once(alloc, document, report)? {
+        return Ok(against(Clause::Once, path));
+    }
+    if let Some(path) = judge_same(alloc, document, report)? {
+        return Ok(against(Clause::Same, path));
     }
     Ok(Verdict::Yes)
 }

@@ -8,8 +8,7 @@ use Rattle.json_form.specs.meaning.Faults.{Fault, ◌>>=◌, within}
 use Rattle.json_form.specs.meaning.Pointers.{escaped}
 use Rattle.json_form.specs.meaning.Values.{items_of, bool_of}
 use Rattle.json_form.specs.meaning.Arrays.{Placed, each_of, fixed, part}
-use Rattle.json_form.specs.meaning.Objects.{Named, object_with, required}
-use Rattle.json_form.specs.Objects.{all_there, member_in}
+use Rattle.json_form.specs.meaning.Objects.{Named, object_with, required, all_there, member_in}
 use Rattle.svc_values.specs.declared.call.Call.{Call}
 use Rattle.svc_values.specs.declared.entry.Entry.{Entry}
 use Rattle.svc_values.specs.declared.entry.Ltxid.{Ltxid}
@@ -18,10 +17,10 @@ use Rattle.svc_values.specs.meaning.Calls.{is_made}
 use Rattle.svc_values.specs.meaning.SettingsList.{NamedValues}
 use Rattle.json_form.proofs.Offered.{after, ok_is, within_ok, part_read, all_read, both_true}
 use Rattle.call_forms.proofs.Offered.{call_read}
-use Rattle.report_reader.specs.Parts.{identifier_in, settings_in, call_in}
-use Rattle.report_reader.specs.Answers.{answers_in}
-use Rattle.report_reader.specs.Draws.{draws_in}
-use Rattle.report_reader.specs.Entries.{piece_in, pieces_in, entry_members, entry_in, entries_in}
+use Rattle.report_reader.specs.meaning.Parts.{identifier_in, settings_in, call_in}
+use Rattle.report_reader.specs.meaning.Answers.{answers_in}
+use Rattle.report_reader.specs.meaning.Draws.{draws_in}
+use Rattle.report_reader.specs.meaning.Entries.{piece_in, pieces_in, entry_members, entry_in, entries_in}
 use Rattle.report_reader.specs.Keeping.{is_entry}
 use Rattle.report_reader.proofs.ReadSettings.{settings_read}
 

@@ -20,12 +20,12 @@ use Rattle.report_reader.specs.declared.item.ServedWord.{ServedWord}
 use Rattle.report_reader.specs.declared.item.ServedWord.TheVariants as word
 use Rattle.svc_values.specs.declared.entry.Ltxid.{Ltxid}
 use Rattle.report_reader.specs.declared.told.ToldWord.{ToldWord}
-use Rattle.report_reader.specs.Parts.{if_count, number_in, identifier_in, session_in, settings_in, call_in}
-use Rattle.report_reader.specs.Answers.{answers_in}
-use Rattle.report_reader.specs.Draws.{draws_in}
-use Rattle.report_reader.specs.Told.{told_words, behind_of, told_by}
-use Rattle.report_reader.specs.Notes.{count_in}
-use Rattle.report_reader.specs.Items.{item_words, fits_event, last_event, event_in, place_in, served_at, bare_in, begin_in, answered_in, blocked_in, told_in, refused_in, stopped_outcome_in, stopped_call_in, crashed_in, served_by, one_served, served_in}
+use Rattle.report_reader.specs.meaning.Parts.{if_count, number_in, identifier_in, session_in, settings_in, call_in}
+use Rattle.report_reader.specs.meaning.Answers.{answers_in}
+use Rattle.report_reader.specs.meaning.Draws.{draws_in}
+use Rattle.report_reader.specs.meaning.Told.{told_words, behind_of, told_by}
+use Rattle.report_reader.specs.meaning.Notes.{count_in}
+use Rattle.report_reader.specs.meaning.Items.{item_words, fits_event, last_event, event_in, place_in, served_at, bare_in, begin_in, answered_in, blocked_in, told_in, refused_in, stopped_outcome_in, stopped_call_in, crashed_in, served_by, one_served, served_in}
 use Rattle.report_reader.specs.Keeping.{word_of_item, events_fit, is_item}
 use Rattle.report_reader.proofs.ReadSettings.{settings_read}
 use Rattle.report_reader.proofs.ReadEntries.{call_at}

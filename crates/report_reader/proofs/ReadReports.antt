@@ -7,18 +7,17 @@ use Rattle.json_form.specs.declared.fault.DocFault.{DocFault}
 use Rattle.json_form.specs.meaning.Faults.{Fault, ◌>>=◌}
 use Rattle.json_form.specs.Faults.{Gives}
 use Rattle.json_form.specs.meaning.Values.{whole_of}
-use Rattle.json_form.specs.meaning.Objects.{Named, optional}
-use Rattle.json_form.specs.Objects.{member_in}
+use Rattle.json_form.specs.meaning.Objects.{Named, optional, member_in}
 use Rattle.outage_schedule.specs.declared.document.Document.{Document}
 use Rattle.outage_schedule.specs.declared.note.Note.{Note}
 use Rattle.outage_schedule.specs.declared.report.Report.{Report}
 use Rattle.json_form.proofs.Offered.{after, ok_is}
 use Rattle.report_reader.specs.declared.report.Middle.{Middle}
 use Rattle.report_reader.specs.declared.report.Back.{Back}
-use Rattle.report_reader.specs.Notes.{notes_in}
-use Rattle.report_reader.specs.Items.{served_in}
-use Rattle.report_reader.specs.Entries.{entries_in, tables_in}
-use Rattle.report_reader.specs.Reports.{members_in, front_in, middle_in, image_in, back_in, report_with, report_in, as_bad, report_of}
+use Rattle.report_reader.specs.meaning.Notes.{notes_in}
+use Rattle.report_reader.specs.meaning.Items.{served_in}
+use Rattle.report_reader.specs.meaning.Entries.{entries_in, tables_in}
+use Rattle.report_reader.specs.meaning.Reports.{members_in, front_in, middle_in, image_in, back_in, report_with, report_in, as_bad, report_of}
 use Rattle.report_reader.specs.Keeping.{is_entry, IsTold}
 use Rattle.report_reader.proofs.ReadEntries.{member_read, entries_read}
 use Rattle.report_reader.proofs.ReadItems.{Good, served_read}

@@ -8,11 +8,10 @@ use Rattle.json_form.specs.meaning.Faults.{Fault, ◌>>=◌, here, within_item}
 use Rattle.json_form.specs.meaning.Values.{items_of}
 use Rattle.json_form.specs.meaning.Arrays.{Placed, each_after, fixed, part}
 use Rattle.svc_values.specs.declared.value.Value.{Value}
-use Rattle.svc_values.specs.meaning.SettingsList.{NamedValues, rises}
-use Rattle.svc_values.specs.SettingsList.{last_name}
+use Rattle.svc_values.specs.meaning.SettingsList.{NamedValues, rises, last_name}
 use Rattle.call_forms.specs.meaning.Values.{name_of}
 use Rattle.json_form.proofs.Offered.{after, ok_is, within_ok, passed, each_keeps, first_true, second_true, both_true}
-use Rattle.report_reader.specs.Parts.{value_in, if_rising, setting_in, settings_in}
+use Rattle.report_reader.specs.meaning.Parts.{value_in, if_rising, setting_in, settings_in}
 use Rattle.report_reader.specs.Keeping.{names_rise}
 
 names_push : (o : Option (List ℕ)) (before : NamedValues) (pair : List ℕ × Value) → names_rise o before ≡ true

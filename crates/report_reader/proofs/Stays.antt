@@ -14,10 +14,10 @@ use Rattle.report_reader.specs.declared.go.GoWord.{GoWord}
 use Rattle.report_reader.specs.declared.go.GoWord.TheVariants as go
 use Rattle.report_reader.specs.declared.told.ToldWord.{ToldWord}
 use Rattle.report_reader.specs.declared.told.ToldWord.TheVariants as word
-use Rattle.report_reader.specs.Told.{told_by, asked_by}
-use Rattle.report_reader.specs.Notes.{go_by, bytes_in, with_word}
-use Rattle.report_reader.specs.Items.{last_event}
-use Rattle.report_reader.specs.Reports.{image_in, middle_in, back_in}
+use Rattle.report_reader.specs.meaning.Told.{told_by, asked_by}
+use Rattle.report_reader.specs.meaning.Notes.{go_by, bytes_in, with_word}
+use Rattle.report_reader.specs.meaning.Items.{last_event}
+use Rattle.report_reader.specs.meaning.Reports.{image_in, middle_in, back_in}
 
 -- ---- parts of an array
 

@@ -11,7 +11,7 @@ use Rattle.outage_schedule.specs.declared.note.Note.{Note}
 use Rattle.outage_schedule.specs.declared.report.Report.{Report}
 use Rattle.report_reader.specs.declared.item.ServedWord.{ServedWord}
 use Rattle.report_reader.specs.declared.item.ServedWord.TheVariants as word
-use Rattle.report_reader.specs.Items.{fits_event}
+use Rattle.report_reader.specs.meaning.Items.{fits_event}
 
 -- the word of an item
 abbrev pub word_of_item : Item → ServedWord

@@ -1,12 +1,3 @@
-pub mod Parts
-pub mod Answers
-pub mod Draws
-pub mod Failures
-pub mod Requests
-pub mod Told
-pub mod Notes
-pub mod Items
-pub mod Entries
-pub mod Reports
 pub mod Keeping
 pub mod Laws
+pub mod meaning

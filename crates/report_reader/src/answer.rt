@@ -2,7 +2,7 @@
 ghost use Rattle.std.specs.Prelude.{◌≡◌};
 ghost use Rattle.serde_json.specs.View.{view};
 ghost use Rattle.json_form.specs.Faults.{Gives};
-ghost use Rattle.report_reader.specs.Answers.{rows_in, refusal_of as refusal_of_def, answer_of as answer_of_def, answer_named as answer_named_def, answer_in, answers_in};
+ghost use Rattle.report_reader.specs.meaning.Answers.{rows_in, refusal_of as refusal_of_def, answer_of as answer_of_def, answer_named as answer_named_def, answer_in, answers_in};
 
 use crate::part::{NUMBER, RowReader};
 use call_forms::only_member;
@@ -97,7 +97,7 @@ struct AnswerReader;
 impl Reader<Answer> for AnswerReader {
     ghost reads = { λ s. answer_in };
 
-    #[tactic(auto, unfolding(crate::specs::Answers::answer_in))]
+    #[tactic(auto, unfolding(crate::specs::meaning::Answers::answer_in))]
     fn read(&self, alloc: Global, value: Json) -> Result<Answer, DocFault> {
         match value {
             Json::String(text) => Ok(answer_of(chosen(alloc, text.as_str(), &WORDS)?)),

@@ -1,7 +1,7 @@
 //! Readers of draws.
 ghost use Rattle.serde_json.specs.View.{view};
 ghost use Rattle.json_form.specs.Faults.{Gives};
-ghost use Rattle.report_reader.specs.Draws.{seq_in, clock_in, id_in, draw_by as draw_by_def, draw_in, draws_in};
+ghost use Rattle.report_reader.specs.meaning.Draws.{seq_in, clock_in, id_in, draw_by as draw_by_def, draw_in, draws_in};
 
 use crate::part::{IdReader, NUMBER};
 use call_forms::NameReader;
@@ -18,7 +18,7 @@ pub enum DrawWord {
     Id,
 }
 
-#[tactic(auto, unfolding(crate::specs::Draws::seq_in), using(json_form::proofs::Offered::others_stay))]
+#[tactic(auto, unfolding(crate::specs::meaning::Draws::seq_in), using(json_form::proofs::Offered::others_stay))]
 fn seq_from(alloc: Global, value: Json) -> Result<Draw, DocFault>
     ensures { Gives result (seq_in (view value)) }
 {
@@ -28,7 +28,7 @@ fn seq_from(alloc: Global, value: Json) -> Result<Draw, DocFault>
     Ok(Draw::Seq { name, value })
 }
 
-#[tactic(auto, unfolding(crate::specs::Draws::clock_in))]
+#[tactic(auto, unfolding(crate::specs::meaning::Draws::clock_in))]
 fn clock_from(alloc: Global, value: Json) -> Result<Draw, DocFault>
     ensures { Gives result (clock_in (view value)) }
 {
@@ -37,7 +37,7 @@ fn clock_from(alloc: Global, value: Json) -> Result<Draw, DocFault>
     Ok(Draw::Clock { tick })
 }
 
-#[tactic(auto, unfolding(crate::specs::Draws::id_in))]
+#[tactic(auto, unfolding(crate::specs::meaning::Draws::id_in))]
 fn id_from(alloc: Global, value: Json) -> Result<Draw, DocFault>
     ensures { Gives result (id_in (view value)) }
 {
@@ -68,7 +68,7 @@ struct DrawReader;
 impl Reader<Draw> for DrawReader {
     ghost reads = { λ s. draw_in };
 
-    #[tactic(auto, unfolding(crate::specs::Draws::draw_in))]
+    #[tactic(auto, unfolding(crate::specs::meaning::Draws::draw_in))]
     fn read(&self, alloc: Global, value: Json) -> Result<Draw, DocFault> {
         let word = head_from(alloc, &value, &WORDS)?;
         draw_by(alloc, value, word)

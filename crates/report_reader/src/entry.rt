@@ -1,5 +1,5 @@
 //! Readers of entries and tables.
-ghost use Rattle.report_reader.specs.Entries.{piece_in, pieces_in, entry_in, entries_in, table_rows_in, table_in, tables_in};
+ghost use Rattle.report_reader.specs.meaning.Entries.{piece_in, pieces_in, entry_in, entries_in, table_rows_in, table_in, tables_in};
 
 use crate::answer::AnswersReader;
 use crate::draw::DrawsReader;
@@ -17,7 +17,7 @@ struct PieceReader;
 impl Reader<Piece> for PieceReader {
     ghost reads = { λ s. piece_in };
 
-    #[tactic(auto, unfolding(crate::specs::Entries::piece_in), using(json_form::proofs::Offered::others_stay))]
+    #[tactic(auto, unfolding(crate::specs::meaning::Entries::piece_in), using(json_form::proofs::Offered::others_stay))]
     fn read(&self, alloc: Global, value: Json) -> Result<Piece, DocFault> {
         let mut parts = fixed(alloc, value, 3)?;
         let call = parts.read(alloc, 0, &CALL)?;
@@ -51,7 +51,7 @@ struct EntryReader;
 impl Reader<Entry> for EntryReader {
     ghost reads = { λ s. entry_in };
 
-    #[tactic(auto, unfolding(crate::specs::Entries::entry_in), using(json_form::proofs::Offered::others_stay))]
+    #[tactic(auto, unfolding(crate::specs::meaning::Entries::entry_in), using(json_form::proofs::Offered::others_stay))]
     fn read(&self, alloc: Global, value: Json) -> Result<Entry, DocFault> {
         let mut members = object_with(alloc, value, &MEMBERS)?;
         members.require(alloc, &MEMBERS)?;
@@ -99,7 +99,7 @@ struct TableReader;
 impl Reader<ReportTable> for TableReader {
     ghost reads = { λ s. table_in };
 
-    #[tactic(auto, unfolding(crate::specs::Entries::table_in), using(json_form::proofs::Offered::others_stay))]
+    #[tactic(auto, unfolding(crate::specs::meaning::Entries::table_in), using(json_form::proofs::Offered::others_stay))]
     fn read(&self, alloc: Global, value: Json) -> Result<ReportTable, DocFault> {
         let mut parts = fixed(alloc, value, 2)?;
         let name = parts.read(alloc, 0, &NameReader)?;

@@ -1,7 +1,7 @@
 //! Readers of the errors that requests show.
 ghost use Rattle.serde_json.specs.View.{view};
 ghost use Rattle.json_form.specs.Faults.{Gives};
-ghost use Rattle.report_reader.specs.Failures.{lone_reason, number_behind, reason_by as reason_by_def, reason_in, disabled_in, mismatch_in, incomplete_in, retries_in, timeout_in, replays_in, wait_in, unknown_in, failure_by as failure_by_def, failure_in, failed_in};
+ghost use Rattle.report_reader.specs.meaning.Failures.{lone_reason, number_behind, reason_by as reason_by_def, reason_in, disabled_in, mismatch_in, incomplete_in, retries_in, timeout_in, replays_in, wait_in, unknown_in, failure_by as failure_by_def, failure_in, failed_in};
 
 use crate::part::{DigestReader, LtxidReader, NUMBER};
 use json_form::{DocFault, Reader, fixed, head_from};
@@ -41,7 +41,7 @@ fn lone_from(alloc: Global, value: Json, one: Reason) -> Result<Reason, DocFault
     Ok(one)
 }
 
-#[tactic(auto, unfolding(crate::specs::Failures::number_behind))]
+#[tactic(auto, unfolding(crate::specs::meaning::Failures::number_behind))]
 fn number_from(alloc: Global, value: Json) -> Result<u64, DocFault>
     ensures { Gives result (number_behind (view value)) }
 {
@@ -79,14 +79,14 @@ struct ReasonReader;
 impl Reader<Reason> for ReasonReader {
     ghost reads = { λ s. reason_in };
 
-    #[tactic(auto, unfolding(crate::specs::Failures::reason_in))]
+    #[tactic(auto, unfolding(crate::specs::meaning::Failures::reason_in))]
     fn read(&self, alloc: Global, value: Json) -> Result<Reason, DocFault> {
         let word = head_from(alloc, &value, &REASONS)?;
         reason_by(alloc, value, word)
     }
 }
 
-#[tactic(auto, unfolding(crate::specs::Failures::disabled_in), using(json_form::proofs::Offered::others_stay))]
+#[tactic(auto, unfolding(crate::specs::meaning::Failures::disabled_in), using(json_form::proofs::Offered::others_stay))]
 fn disabled_from(alloc: Global, value: Json) -> Result<Failure, DocFault>
     ensures { Gives result (disabled_in (view value)) }
 {
@@ -96,7 +96,7 @@ fn disabled_from(alloc: Global, value: Json) -> Result<Failure, DocFault>
     Ok(Failure::Disabled { why, event })
 }
 
-#[tactic(auto, unfolding(crate::specs::Failures::mismatch_in), using(json_form::proofs::Offered::others_stay))]
+#[tactic(auto, unfolding(crate::specs::meaning::Failures::mismatch_in), using(json_form::proofs::Offered::others_stay))]
 fn mismatch_from(alloc: Global, value: Json) -> Result<Failure, DocFault>
     ensures { Gives result (mismatch_in (view value)) }
 {
@@ -107,7 +107,7 @@ fn mismatch_from(alloc: Global, value: Json) -> Result<Failure, DocFault>
     Ok(Failure::Mismatch { call, seen, now })
 }
 
-#[tactic(auto, unfolding(crate::specs::Failures::incomplete_in))]
+#[tactic(auto, unfolding(crate::specs::meaning::Failures::incomplete_in))]
 fn incomplete_from(alloc: Global, value: Json) -> Result<Failure, DocFault>
     ensures { Gives result (incomplete_in (view value)) }
 {
@@ -116,7 +116,7 @@ fn incomplete_from(alloc: Global, value: Json) -> Result<Failure, DocFault>
     Ok(Failure::Incomplete { ltxid })
 }
 
-#[tactic(auto, unfolding(crate::specs::Failures::retries_in))]
+#[tactic(auto, unfolding(crate::specs::meaning::Failures::retries_in))]
 fn retries_from(alloc: Global, value: Json) -> Result<Failure, DocFault>
     ensures { Gives result (retries_in (view value)) }
 {
@@ -125,7 +125,7 @@ fn retries_from(alloc: Global, value: Json) -> Result<Failure, DocFault>
     Ok(Failure::Retries { tries })
 }
 
-#[tactic(auto, unfolding(crate::specs::Failures::timeout_in), using(json_form::proofs::Offered::others_stay))]
+#[tactic(auto, unfolding(crate::specs::meaning::Failures::timeout_in), using(json_form::proofs::Offered::others_stay))]
 fn timeout_from(alloc: Global, value: Json) -> Result<Failure, DocFault>
     ensures { Gives result (timeout_in (view value)) }
 {
@@ -135,7 +135,7 @@ fn timeout_from(alloc: Global, value: Json) -> Result<Failure, DocFault>
     Ok(Failure::ReplayTimeout { first, ready })
 }
 
-#[tactic(auto, unfolding(crate::specs::Failures::replays_in), using(json_form::proofs::Offered::others_stay))]
+#[tactic(auto, unfolding(crate::specs::meaning::Failures::replays_in), using(json_form::proofs::Offered::others_stay))]
 fn replays_from(alloc: Global, value: Json) -> Result<Failure, DocFault>
     ensures { Gives result (replays_in (view value)) }
 {
@@ -145,7 +145,7 @@ fn replays_from(alloc: Global, value: Json) -> Result<Failure, DocFault>
     Ok(Failure::Replays { limit, event })
 }
 
-#[tactic(auto, unfolding(crate::specs::Failures::wait_in), using(json_form::proofs::Offered::others_stay))]
+#[tactic(auto, unfolding(crate::specs::meaning::Failures::wait_in), using(json_form::proofs::Offered::others_stay))]
 fn wait_from(alloc: Global, value: Json) -> Result<Failure, DocFault>
     ensures { Gives result (wait_in (view value)) }
 {
@@ -155,7 +155,7 @@ fn wait_from(alloc: Global, value: Json) -> Result<Failure, DocFault>
     Ok(Failure::PoolWait { first, now })
 }
 
-#[tactic(auto, unfolding(crate::specs::Failures::unknown_in))]
+#[tactic(auto, unfolding(crate::specs::meaning::Failures::unknown_in))]
 fn unknown_from(alloc: Global, value: Json) -> Result<Failure, DocFault>
     ensures { Gives result (unknown_in (view value)) }
 {
@@ -190,7 +190,7 @@ const FAILURES: [(&str, FailureWord); 8] = [
     ("unknown", FailureWord::Unknown),
 ];
 
-#[tactic(auto, unfolding(crate::specs::Failures::failure_in))]
+#[tactic(auto, unfolding(crate::specs::meaning::Failures::failure_in))]
 fn failure_from(alloc: Global, value: Json) -> Result<Failure, DocFault>
     ensures { Gives result (failure_in (view value)) }
 {

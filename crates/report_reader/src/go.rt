@@ -4,7 +4,7 @@ ghost use Rattle.serde_json.specs.View.{view};
 ghost use Rattle.json_form.specs.Faults.{Gives};
 ghost use Rattle.json_form.specs.meaning.Texts.{word_of};
 ghost use Rattle.json_form.specs.Arrays.{parts_at};
-ghost use Rattle.report_reader.specs.Notes.{go_words, go_count, sent_by, go_by as go_by_def, go_in};
+ghost use Rattle.report_reader.specs.meaning.Notes.{go_words, go_count, sent_by, go_by as go_by_def, go_in};
 
 use crate::part::{NUMBER, if_count};
 use json_form::{DocFault, Parts, Reader, Whole, parts_from, word_from};
@@ -108,7 +108,7 @@ fn go_by(alloc: Global, word: GoWord, parts: &mut Parts) -> Result<GoNote, DocFa
 }
 
 /// The note of a client's step.
-#[tactic(auto, unfolding(crate::specs::Notes::go_in), using(json_form::proofs::Offered::others_stay, crate::proofs::Stays::go_stays))]
+#[tactic(auto, unfolding(crate::specs::meaning::Notes::go_in), using(json_form::proofs::Offered::others_stay, crate::proofs::Stays::go_stays))]
 pub(crate) fn go_from(alloc: Global, value: Json) -> Result<Note, DocFault>
     ensures { Gives result (go_in (view value)) }
 {

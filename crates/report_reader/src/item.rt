@@ -4,7 +4,7 @@ ghost use Rattle.serde_json.specs.View.{view, items_view};
 ghost use Rattle.json_form.specs.Faults.{Gives, GivesBy};
 ghost use Rattle.json_form.specs.meaning.Arrays.{each_after};
 ghost use Rattle.json_form.specs.Arrays.{count_at, parts_at, taken_at};
-ghost use Rattle.report_reader.specs.Items.{is_of_frame as is_of_frame_def, may_stand as may_stand_def, fits_event as fits_event_def, last_event, event_in, place_in, served_at as served_at_def, bare_in, begin_in, answered_in, blocked_in, told_in, refused_in, stopped_outcome_in, stopped_call_in, crashed_in, served_by as served_by_def, one_served, served_in};
+ghost use Rattle.report_reader.specs.meaning.Items.{is_of_frame as is_of_frame_def, may_stand as may_stand_def, fits_event as fits_event_def, last_event, event_in, place_in, served_at as served_at_def, bare_in, begin_in, answered_in, blocked_in, told_in, refused_in, stopped_outcome_in, stopped_call_in, crashed_in, served_by as served_by_def, one_served, served_in};
 
 use crate::answer::AnswersReader;
 use crate::draw::DrawsReader;
@@ -124,7 +124,7 @@ struct ServedReader<'a> {
 
 impl ServedReader<'_> {
     /// The event and the session of an item of this word.
-    #[tactic(auto, unfolding(crate::specs::Items::place_in), using(json_form::proofs::Offered::others_stay))]
+    #[tactic(auto, unfolding(crate::specs::meaning::Items::place_in), using(json_form::proofs::Offered::others_stay))]
     fn place(
         &self,
         alloc: Global,
@@ -141,7 +141,7 @@ impl ServedReader<'_> {
         Ok(ServedAt { event, session })
     }
 
-    #[tactic(auto, unfolding(crate::specs::Items::bare_in))]
+    #[tactic(auto, unfolding(crate::specs::meaning::Items::bare_in))]
     fn bare(
         &self,
         alloc: Global,
@@ -156,7 +156,7 @@ impl ServedReader<'_> {
         Ok(served_at(place, item))
     }
 
-    #[tactic(auto, unfolding(crate::specs::Items::begin_in), using(json_form::proofs::Offered::others_stay))]
+    #[tactic(auto, unfolding(crate::specs::meaning::Items::begin_in), using(json_form::proofs::Offered::others_stay))]
     fn begin(&self, alloc: Global, value: Json) -> Result<Served, DocFault>
         ensures { Gives result (begin_in self.now.notes.now self.now.last (view value)) }
     {
@@ -166,7 +166,7 @@ impl ServedReader<'_> {
         Ok(served_at(place, Item::Begin { settings }))
     }
 
-    #[tactic(auto, unfolding(crate::specs::Items::answered_in), using(json_form::proofs::Offered::others_stay))]
+    #[tactic(auto, unfolding(crate::specs::meaning::Items::answered_in), using(json_form::proofs::Offered::others_stay))]
     fn answered(&self, alloc: Global, value: Json) -> Result<Served, DocFault>
         ensures { Gives result (answered_in self.now.notes.now self.now.last (view value)) }
     {
@@ -185,7 +185,7 @@ impl ServedReader<'_> {
         Ok(served_at(place, item))
     }
 
-    #[tactic(auto, unfolding(crate::specs::Items::blocked_in), using(json_form::proofs::Offered::others_stay))]
+    #[tactic(auto, unfolding(crate::specs::meaning::Items::blocked_in), using(json_form::proofs::Offered::others_stay))]
     fn blocked(&self, alloc: Global, value: Json) -> Result<Served, DocFault>
         ensures { Gives result (blocked_in self.now.notes.now self.now.last (view value)) }
     {
@@ -196,7 +196,7 @@ impl ServedReader<'_> {
     }
 
     /// An outcome that was told: the word says how many items stand there.
-    #[tactic(auto, unfolding(crate::specs::Items::told_in), using(json_form::proofs::Offered::others_stay, crate::proofs::Stays::told_stays))]
+    #[tactic(auto, unfolding(crate::specs::meaning::Items::told_in), using(json_form::proofs::Offered::others_stay, crate::proofs::Stays::told_stays))]
     fn told(&self, alloc: Global, value: Json) -> Result<Served, DocFault>
         ensures { Gives result (told_in self.now.notes.now self.now.last (view value)) }
     {
@@ -209,7 +209,7 @@ impl ServedReader<'_> {
         Ok(served_at(place, Item::Outcome { ltxid, result }))
     }
 
-    #[tactic(auto, unfolding(crate::specs::Items::refused_in), using(json_form::proofs::Offered::others_stay))]
+    #[tactic(auto, unfolding(crate::specs::meaning::Items::refused_in), using(json_form::proofs::Offered::others_stay))]
     fn refused(&self, alloc: Global, value: Json) -> Result<Served, DocFault>
         ensures { Gives result (refused_in self.now.notes.now self.now.last (view value)) }
     {
@@ -219,7 +219,7 @@ impl ServedReader<'_> {
         Ok(served_at(place, Item::Refused { cause }))
     }
 
-    #[tactic(auto, unfolding(crate::specs::Items::stopped_outcome_in), using(json_form::proofs::Offered::others_stay))]
+    #[tactic(auto, unfolding(crate::specs::meaning::Items::stopped_outcome_in), using(json_form::proofs::Offered::others_stay))]
     fn stopped_outcome(&self, alloc: Global, value: Json) -> Result<Served, DocFault>
         ensures { Gives result (stopped_outcome_in self.now.notes.now self.now.last (view value)) }
     {
@@ -229,7 +229,7 @@ impl ServedReader<'_> {
         Ok(served_at(place, Item::CrashedOutcome { ltxid }))
     }
 
-    #[tactic(auto, unfolding(crate::specs::Items::stopped_call_in), using(json_form::proofs::Offered::others_stay))]
+    #[tactic(auto, unfolding(crate::specs::meaning::Items::stopped_call_in), using(json_form::proofs::Offered::others_stay))]
     fn stopped_call(&self, alloc: Global, value: Json) -> Result<Served, DocFault>
         ensures { Gives result (stopped_call_in self.now.notes.now self.now.last (view value)) }
     {
@@ -297,7 +297,7 @@ const WORDS: [(&str, ServedWord); 9] = [
 impl Reader<Served> for ServedReader<'_> {
     ghost reads = { λ s. one_served s.notes.now s.last };
 
-    #[tactic(auto, unfolding(crate::specs::Items::one_served))]
+    #[tactic(auto, unfolding(crate::specs::meaning::Items::one_served))]
     fn read(&self, alloc: Global, value: Json) -> Result<Served, DocFault> {
         let word = head_from(alloc, &value, &WORDS)?;
         self.by(alloc, value, word)

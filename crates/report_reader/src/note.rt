@@ -3,7 +3,7 @@ ghost use Rattle.serde_json.specs.View.{view};
 ghost use Rattle.json_form.specs.Faults.{Gives};
 ghost use Rattle.json_form.specs.meaning.Texts.{word_of};
 ghost use Rattle.json_form.specs.Arrays.{count_at, parts_at};
-ghost use Rattle.report_reader.specs.Notes.{count_in, serve_words, serve_in, just, bytes_in, cut_in, with_word as with_word_def, reap_in, crash_in, incarnation_in, up_in, upcrash_in, tick_in, run_in, runs_in, ran_in, outside_in, ask_in, drain_in, note_by as note_by_def, note_in, notes_in};
+ghost use Rattle.report_reader.specs.meaning.Notes.{count_in, serve_words, serve_in, just, bytes_in, cut_in, with_word as with_word_def, reap_in, crash_in, incarnation_in, up_in, upcrash_in, tick_in, run_in, runs_in, ran_in, outside_in, ask_in, drain_in, note_by as note_by_def, note_in, notes_in};
 
 use crate::answer::AnswersReader;
 use crate::draw::DrawsReader;
@@ -67,7 +67,7 @@ impl Reader<Option<FrameName>> for FrameReader {
     }
 }
 
-#[tactic(auto, unfolding(crate::specs::Notes::serve_in), using(json_form::proofs::Offered::others_stay))]
+#[tactic(auto, unfolding(crate::specs::meaning::Notes::serve_in), using(json_form::proofs::Offered::others_stay))]
 fn serve_from(alloc: Global, value: Json) -> Result<Note, DocFault>
     ensures { Gives result (serve_in (view value)) }
 {
@@ -107,7 +107,7 @@ fn reached_from(alloc: Global, parts: &mut Parts) -> Result<Option<Reached>, Doc
     Ok(Some(Reached { up, down }))
 }
 
-#[tactic(auto, unfolding(crate::specs::Notes::cut_in), using(crate::proofs::Stays::bytes_stay))]
+#[tactic(auto, unfolding(crate::specs::meaning::Notes::cut_in), using(crate::proofs::Stays::bytes_stay))]
 fn cut_from(alloc: Global, value: Json) -> Result<Note, DocFault>
     ensures { Gives result (cut_in (view value)) }
 {
@@ -131,7 +131,7 @@ fn with_word(alloc: Global, parts: &mut Parts, word: &str) -> Result<bool, DocFa
     parts.read(alloc, 2, &JustReader { word })
 }
 
-#[tactic(auto, unfolding(crate::specs::Notes::reap_in), using(crate::proofs::Stays::word_stays))]
+#[tactic(auto, unfolding(crate::specs::meaning::Notes::reap_in), using(crate::proofs::Stays::word_stays))]
 fn reap_from(alloc: Global, value: Json) -> Result<Note, DocFault>
     ensures { Gives result (reap_in (view value)) }
 {
@@ -144,7 +144,7 @@ fn reap_from(alloc: Global, value: Json) -> Result<Note, DocFault>
     })
 }
 
-#[tactic(auto, unfolding(crate::specs::Notes::crash_in), using(crate::proofs::Stays::word_stays))]
+#[tactic(auto, unfolding(crate::specs::meaning::Notes::crash_in), using(crate::proofs::Stays::word_stays))]
 fn crash_from(alloc: Global, value: Json) -> Result<Note, DocFault>
     ensures { Gives result (crash_in (view value)) }
 {
@@ -169,7 +169,7 @@ impl Reader<Option<u64>> for IncarnationReader {
     }
 }
 
-#[tactic(auto, unfolding(crate::specs::Notes::up_in))]
+#[tactic(auto, unfolding(crate::specs::meaning::Notes::up_in))]
 fn up_from(alloc: Global, value: Json) -> Result<Note, DocFault>
     ensures { Gives result (up_in (view value)) }
 {
@@ -178,7 +178,7 @@ fn up_from(alloc: Global, value: Json) -> Result<Note, DocFault>
     Ok(Note::Up { incarnation })
 }
 
-#[tactic(auto, unfolding(crate::specs::Notes::upcrash_in))]
+#[tactic(auto, unfolding(crate::specs::meaning::Notes::upcrash_in))]
 fn upcrash_from(alloc: Global, value: Json) -> Result<Note, DocFault>
     ensures { Gives result (upcrash_in (view value)) }
 {
@@ -203,7 +203,7 @@ struct RunReader;
 impl Reader<NoteRun> for RunReader {
     ghost reads = { λ s. run_in };
 
-    #[tactic(auto, unfolding(crate::specs::Notes::run_in), using(json_form::proofs::Offered::others_stay))]
+    #[tactic(auto, unfolding(crate::specs::meaning::Notes::run_in), using(json_form::proofs::Offered::others_stay))]
     fn read(&self, alloc: Global, value: Json) -> Result<NoteRun, DocFault> {
         let mut parts = fixed(alloc, value, 2)?;
         let answers = parts.read(alloc, 0, &AnswersReader)?;
@@ -225,7 +225,7 @@ impl Reader<NoteRuns> for RunsReader {
 }
 
 /// What an `outside` did where the server was up.
-#[tactic(auto, unfolding(crate::specs::Notes::ran_in), using(json_form::proofs::Offered::others_stay))]
+#[tactic(auto, unfolding(crate::specs::meaning::Notes::ran_in), using(json_form::proofs::Offered::others_stay))]
 fn ran_from(alloc: Global, value: Json) -> Result<OutsideNote, DocFault>
     ensures { Gives result (ran_in (view value)) }
 {
@@ -235,7 +235,7 @@ fn ran_from(alloc: Global, value: Json) -> Result<OutsideNote, DocFault>
     Ok(OutsideNote { ltxid, runs })
 }
 
-#[tactic(auto, unfolding(crate::specs::Notes::outside_in))]
+#[tactic(auto, unfolding(crate::specs::meaning::Notes::outside_in))]
 fn outside_from(alloc: Global, value: Json) -> Result<Note, DocFault>
     ensures { Gives result (outside_in (view value)) }
 {
@@ -248,7 +248,7 @@ fn outside_from(alloc: Global, value: Json) -> Result<Note, DocFault>
     Ok(Note::Outside { ran: Some(ran) })
 }
 
-#[tactic(auto, unfolding(crate::specs::Notes::ask_in), using(json_form::proofs::Offered::others_stay, crate::proofs::Stays::asked_stays))]
+#[tactic(auto, unfolding(crate::specs::meaning::Notes::ask_in), using(json_form::proofs::Offered::others_stay, crate::proofs::Stays::asked_stays))]
 fn ask_from(alloc: Global, value: Json) -> Result<Note, DocFault>
     ensures { Gives result (ask_in (view value)) }
 {
@@ -260,7 +260,7 @@ fn ask_from(alloc: Global, value: Json) -> Result<Note, DocFault>
     Ok(Note::Ask { ltxid, told })
 }
 
-#[tactic(auto, unfolding(crate::specs::Notes::drain_in))]
+#[tactic(auto, unfolding(crate::specs::meaning::Notes::drain_in))]
 fn drain_from(alloc: Global, value: Json) -> Result<Note, DocFault>
     ensures { Gives result (drain_in (view value)) }
 {
@@ -307,7 +307,7 @@ struct NoteReader;
 impl Reader<Note> for NoteReader {
     ghost reads = { λ s. note_in };
 
-    #[tactic(auto, unfolding(crate::specs::Notes::note_in))]
+    #[tactic(auto, unfolding(crate::specs::meaning::Notes::note_in))]
     fn read(&self, alloc: Global, value: Json) -> Result<Note, DocFault> {
         let word = head_from(alloc, &value, &WORDS)?;
         note_by(alloc, value, word)

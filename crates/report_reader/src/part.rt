@@ -5,7 +5,7 @@ ghost use Rattle.json_form.specs.Faults.{Gives};
 ghost use Rattle.json_form.specs.meaning.Arrays.{each_after};
 ghost use Rattle.json_form.specs.Arrays.{count_at};
 ghost use Rattle.svc_values.specs.SettingsList.{AllBelow};
-ghost use Rattle.report_reader.specs.Parts.{if_count as if_count_def, octets_in, identifier_in, identifiers_in, session_in, sessions_in, if_rising, setting_in, settings_in, row_in};
+ghost use Rattle.report_reader.specs.meaning.Parts.{if_count as if_count_def, octets_in, identifier_in, identifiers_in, session_in, sessions_in, if_rising, setting_in, settings_in, row_in};
 
 use call_forms::{CallReader, NameReader, ValueReader};
 use json_form::{
@@ -80,7 +80,7 @@ pub(crate) struct LtxidReader;
 impl Reader<Ltxid> for LtxidReader {
     ghost reads = { λ s. identifier_in };
 
-    #[tactic(auto, unfolding(crate::specs::Parts::identifier_in), using(json_form::proofs::Offered::others_stay))]
+    #[tactic(auto, unfolding(crate::specs::meaning::Parts::identifier_in), using(json_form::proofs::Offered::others_stay))]
     fn read(&self, alloc: Global, value: Json) -> Result<Ltxid, DocFault> {
         let mut parts = fixed(alloc, value, 3)?;
         let incarnation = parts.read(alloc, 0, &NUMBER)?;
@@ -112,7 +112,7 @@ pub(crate) struct SessionReader;
 impl Reader<SessionId> for SessionReader {
     ghost reads = { λ s. session_in };
 
-    #[tactic(auto, unfolding(crate::specs::Parts::session_in), using(json_form::proofs::Offered::others_stay))]
+    #[tactic(auto, unfolding(crate::specs::meaning::Parts::session_in), using(json_form::proofs::Offered::others_stay))]
     fn read(&self, alloc: Global, value: Json) -> Result<SessionId, DocFault> {
         let mut parts = fixed(alloc, value, 2)?;
         let incarnation = parts.read(alloc, 0, &NUMBER)?;
@@ -149,7 +149,7 @@ fn rising(alloc: Global, before: &Settings, name: &Name) -> Result<(), DocFault>
 }
 
 /// The name and the value of a setting behind these.
-#[tactic(auto, unfolding(crate::specs::Parts::setting_in), using(json_form::proofs::Offered::others_stay))]
+#[tactic(auto, unfolding(crate::specs::meaning::Parts::setting_in), using(json_form::proofs::Offered::others_stay))]
 fn setting_from(alloc: Global, before: &Settings, value: Json) -> Result<(Name, Value), DocFault>
     ensures read { Gives result (setting_in before.now (view value)) }
     ensures above { IfOk result (λ pair. AllBelow before.now pair.0) }

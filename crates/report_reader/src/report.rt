@@ -5,7 +5,7 @@ ghost use Rattle.json_form.specs.meaning.Faults.{Fault};
 ghost use Rattle.json_form.specs.Faults.{Gives, GivesBy};
 ghost use Rattle.json_form.specs.Objects.{members_at};
 ghost use Rattle.report_reader.specs.Keeping.{IsTold};
-ghost use Rattle.report_reader.specs.Reports.{alerts_in, image_bytes_in, image_in, front_in, middle_in, back_in, report_with as report_with_def, members_in, report_in, as_bad as as_bad_def, report_of};
+ghost use Rattle.report_reader.specs.meaning.Reports.{alerts_in, image_bytes_in, image_in, front_in, middle_in, back_in, report_with as report_with_def, members_in, report_in, as_bad as as_bad_def, report_of};
 
 use crate::entry::{EntriesReader, TablesReader};
 use crate::item::ItemsReader;
@@ -57,7 +57,7 @@ pub struct Front {
 }
 
 /// The first part of the report, among its members, which are taken out.
-#[tactic(auto, unfolding(crate::specs::Reports::front_in), using(json_form::proofs::Offered::others_stay, crate::proofs::Stays::middle_stays, crate::proofs::Stays::back_stays))]
+#[tactic(auto, unfolding(crate::specs::meaning::Reports::front_in), using(json_form::proofs::Offered::others_stay, crate::proofs::Stays::middle_stays, crate::proofs::Stays::back_stays))]
 fn front_from(alloc: Global, members: &mut Members) -> Result<Front, DocFault>
     ensures read { Gives result (front_in (members_at members.old)) }
     ensures middle { IfOk result (λ _. (print : Bool) →
@@ -96,7 +96,7 @@ fn image_from(alloc: Global, members: &mut Members, print: bool) -> Result<Optio
 }
 
 /// The second part of the report, among its members, which are taken out.
-#[tactic(auto, unfolding(crate::specs::Reports::middle_in), using(json_form::proofs::Offered::others_stay, crate::proofs::Stays::image_stays, crate::proofs::Stays::back_stays))]
+#[tactic(auto, unfolding(crate::specs::meaning::Reports::middle_in), using(json_form::proofs::Offered::others_stay, crate::proofs::Stays::image_stays, crate::proofs::Stays::back_stays))]
 fn middle_from(alloc: Global, members: &mut Members, print: bool) -> Result<Middle, DocFault>
     ensures read { Gives result (middle_in print (members_at members.old)) }
     ensures back { IfOk result (λ _. back_in (members_at members.new) ≡ back_in (members_at members.old)) }
@@ -121,7 +121,7 @@ pub struct Back {
 }
 
 /// The last part of the report, among its members, which are taken out.
-#[tactic(auto, unfolding(crate::specs::Reports::back_in), using(json_form::proofs::Offered::others_stay))]
+#[tactic(auto, unfolding(crate::specs::meaning::Reports::back_in), using(json_form::proofs::Offered::others_stay))]
 fn back_from(alloc: Global, members: &mut Members) -> Result<Back, DocFault>
     ensures { Gives result (back_in (members_at members.old)) }
 {
@@ -214,7 +214,7 @@ fn members_of(alloc: Global, value: Json, print: bool) -> Result<Members, DocFau
 }
 
 /// The report, or its first fault with the code of that fault.
-#[tactic(auto, unfolding(crate::specs::Reports::report_in))]
+#[tactic(auto, unfolding(crate::specs::meaning::Reports::report_in))]
 fn report_in_form(alloc: Global, value: Json, print: bool) -> Result<Report, DocFault>
     ensures { Gives result (report_in print (view value)) }
 {

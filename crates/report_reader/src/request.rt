@@ -1,5 +1,5 @@
 //! Readers of what the requests of clients were shown.
-ghost use Rattle.report_reader.specs.Requests.{shown_in, outcome_in, calls_in, outcomes_in, tried_in, request_in, transcript_in, clients_in};
+ghost use Rattle.report_reader.specs.meaning.Requests.{shown_in, outcome_in, calls_in, outcomes_in, tried_in, request_in, transcript_in, clients_in};
 
 use crate::answer::AnswersReader;
 use crate::draw::DrawsReader;
@@ -19,7 +19,7 @@ struct ShownReader;
 impl Reader<ShownCall> for ShownReader {
     ghost reads = { λ s. shown_in };
 
-    #[tactic(auto, unfolding(crate::specs::Requests::shown_in), using(json_form::proofs::Offered::others_stay))]
+    #[tactic(auto, unfolding(crate::specs::meaning::Requests::shown_in), using(json_form::proofs::Offered::others_stay))]
     fn read(&self, alloc: Global, value: Json) -> Result<ShownCall, DocFault> {
         let mut parts = fixed(alloc, value, 3)?;
         let answers = parts.read(alloc, 0, &AnswersReader)?;
@@ -51,7 +51,7 @@ struct OutcomeReader;
 impl Reader<Outcome> for OutcomeReader {
     ghost reads = { λ s. outcome_in };
 
-    #[tactic(auto, unfolding(crate::specs::Requests::outcome_in), using(json_form::proofs::Offered::others_stay))]
+    #[tactic(auto, unfolding(crate::specs::meaning::Requests::outcome_in), using(json_form::proofs::Offered::others_stay))]
     fn read(&self, alloc: Global, value: Json) -> Result<Outcome, DocFault> {
         let mut parts = fixed(alloc, value, 3)?;
         let ltxid = parts.read(alloc, 0, &LtxidReader)?;
@@ -97,7 +97,7 @@ struct RequestReader;
 impl Reader<RequestReport> for RequestReader {
     ghost reads = { λ s. request_in };
 
-    #[tactic(auto, unfolding(crate::specs::Requests::request_in), using(json_form::proofs::Offered::others_stay))]
+    #[tactic(auto, unfolding(crate::specs::meaning::Requests::request_in), using(json_form::proofs::Offered::others_stay))]
     fn read(&self, alloc: Global, value: Json) -> Result<RequestReport, DocFault> {
         let mut members = object_with(alloc, value, &MEMBERS)?;
         members.require(alloc, &MEMBERS)?;

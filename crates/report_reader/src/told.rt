@@ -3,7 +3,7 @@ ghost use Rattle.std.specs.Prelude.{◌≡◌};
 ghost use Rattle.json_form.specs.Faults.{Gives};
 ghost use Rattle.json_form.specs.meaning.Texts.{word_of};
 ghost use Rattle.json_form.specs.Arrays.{parts_at};
-ghost use Rattle.report_reader.specs.Told.{told_words, behind_of, told_by as told_by_def, asked_words, asked_behind as asked_behind_def, asked_by as asked_by_def};
+ghost use Rattle.report_reader.specs.meaning.Told.{told_words, behind_of, told_by as told_by_def, asked_words, asked_behind as asked_behind_def, asked_by as asked_by_def};
 
 use crate::part::NUMBER;
 use json_form::{DocFault, Flag, Parts, Reader, word_from};

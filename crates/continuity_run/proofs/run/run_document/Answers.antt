@@ -1,49 +1,82 @@
 use Rattle.std.proofs.Common.{◌≡◌, ◌∙◌, List, sym, ap, subst, Ok}
+use Rattle.disk_model.specs.Disk.{DiskState}
 use Rattle.disk_model.specs.Mem.{mem_state}
+use Rattle.redo_store.specs.meaning.Records.{records_of}
 use Rattle.table_store.specs.declared.shelves.IndexOf.{IndexOf}
 use Rattle.commit_log.specs.meaning.Journals.{journal_of}
 use Rattle.run_clauses.specs.meaning.Before.{journal_before}
 use Rattle.service_core.specs.Indexed.{FitBase}
 use Rattle.service_core.specs.Seeing.{SeesIn, bytes_in}
 use Rattle.service_core.specs.Within.{Within}
+use Rattle.standby_ship.specs.Seeing.{SeesPair, bytes_in as bytes_in_pair}
+use Rattle.standby_ship.specs.Twins.{Twin}
 use Rattle.world_model.specs.meaning.Settings.{rules_of}
 use Rattle.continuity_run.specs.Indexes.{indexes_of}
 use Rattle.continuity_run.specs.Runs.{IsRunOf}
-use Rattle.continuity_run.proofs.Beginning.{can_begin, run_begins}
-use Rattle.continuity_run.proofs.Lasting.{may_be_read}
+use Rattle.continuity_run.proofs.Beginning.{can_begin, copy_can_begin, run_begins, pair_begins}
 use Rattle.continuity_run.proofs.Documents.{are_limits, may_try}
+use Rattle.continuity_run.proofs.Ending.{one_ends, pair_ends}
 use Rattle.continuity_run.proofs.Headlines.{headline_of}
 use Rattle.continuity_run.proofs.Indexing.{indexes_fit}
 use Rattle.continuity_run.proofs.run.run_document.Goals as goal
 
-pub indexed-service-requires-clause-begins : goal.indexed-service-requires-clause-begins
-indexed-service-requires-clause-begins c = can_begin c.args.document c.requires.document c.in_ok-disk.field-0 c.in_ok-disk.ensures
+-- TWO STORES --------------------------------------------------------------------------------------
+
+pub indexed-service-requires-clause-primary : goal.indexed-service-requires-clause-primary
+indexed-service-requires-clause-primary c = can_begin c.args.document c.requires.document c.in_ok-disk.field-0 c.in_ok-disk.ensures
+
+pub indexed-service-requires-clause-second : goal.indexed-service-requires-clause-second
+indexed-service-requires-clause-second c =
+    copy_can_begin c.args.document c.requires.document c.in_ok-disk.field-0 c.in_ok-disk.ensures c.in_ok-second.second c.bytes.result.now c.in_ok-second.ensures.state c.bytes.ensures c.in_ok-second.ensures.settled
+
+pub indexed-service-requires-clause-same : goal.indexed-service-requires-clause-same
+indexed-service-requires-clause-same c = ap (λ (disk : DiskState). records_of disk.now.seen) c.in_ok-second.ensures.state ∙ ap records_of c.bytes.ensures
 
 pub indexed-service-requires-clause-indexes : goal.indexed-service-requires-clause-indexes
 indexed-service-requires-clause-indexes c =
     subst (λ (indexes : List IndexOf). FitBase indexes (mem_state c.in_ok-disk.field-0.disk).now.seen) (sym (c.in_ok-indexes.ensures ∙ ap indexes_of c.as_slice.ensures)) (indexes_fit c.args.document c.requires.document c.in_ok-disk.field-0 c.in_ok-disk.ensures)
 
-pub run_all-requires : goal.run_all-requires
-run_all-requires c = record {
+pub run_over-requires : goal.run_over-requires
+run_over-requires c = record {
   begins = (
     c.args.document,
-    run_begins c.args.document c.requires.document c.in_ok-disk.field-0 c.in_ok-disk.ensures c.as_slice-2.result.now c.as_slice-3.result.now c.grants_of.result c.indexed-service.result c.as_slice-2.ensures c.as_slice-3.ensures c.grants_of.ensures
-        c.indexed-service.ensures.made c.indexed-service.ensures.sound c.indexed-service.ensures.seen,
+    pair_begins c.args.document c.requires.document c.in_ok-disk.field-0 c.in_ok-disk.ensures c.as_slice-then-of.result.now c.as_slice-then-of-2.result.now c.grants_of-grants.result c.in_ok-second.second c.bytes.result.now c.indexed-service.result
+        c.if-of.true c.as_slice-then-of.ensures c.as_slice-then-of-2.ensures c.grants_of-grants.ensures c.in_ok-second.ensures.state c.indexed-service.ensures.made c.indexed-service.ensures.sound c.indexed-service.ensures.seen,
   );
 }
 
-pub report_of-requires : goal.report_of-requires
-report_of-requires c =
-    let begun : IsRunOf (SeesIn c.indexed-service.result) (rules_of c.args.document.service.failover c.args.document.service.consistency) c.args.document.service c.as_slice-2.result.now c.as_slice-3.result.now c.in_ok-disk.field-0.opened c.args.document =
-    run_begins c.args.document c.requires.document c.in_ok-disk.field-0 c.in_ok-disk.ensures c.as_slice-2.result.now c.as_slice-3.result.now c.grants_of.result c.indexed-service.result c.as_slice-2.ensures c.as_slice-3.ensures c.grants_of.ensures
-    c.indexed-service.ensures.made c.indexed-service.ensures.sound c.indexed-service.ensures.seen in
-    may_be_read c.finish_goes_on.ensures.start c.finish_falls.ensures c.finish_goes_on.ensures.event c.finish_is_short.ensures c.runs_are_orderly.ensures c.args.document c.requires.document SeesIn c.in_ok-ran.ran (c.in_ok-ran.ensures.ran c.args.document begun)
+pub returns-then-of-clause-report : goal.returns-then-of-clause-report
+returns-then-of-clause-report c =
+    let begun : IsRunOf (SeesPair c.indexed-service.result) (rules_of c.args.document.service.failover c.args.document.service.consistency) c.args.document.service c.as_slice-then-of.result.now c.as_slice-then-of-2.result.now c.in_ok-disk.field-0.opened c.args.document =
+    pair_begins c.args.document c.requires.document c.in_ok-disk.field-0 c.in_ok-disk.ensures c.as_slice-then-of.result.now c.as_slice-then-of-2.result.now c.grants_of-grants.result c.in_ok-second.second c.bytes.result.now c.indexed-service.result
+    c.if-of.true c.as_slice-then-of.ensures c.as_slice-then-of-2.ensures c.grants_of-grants.ensures c.in_ok-second.ensures.state c.indexed-service.ensures.made c.indexed-service.ensures.sound c.indexed-service.ensures.seen in
+    let reads : journal_of (bytes_in_pair c.indexed-service.result) ≡ Ok (journal_before c.args.document) = ap (λ (pair : Twin). journal_of (bytes_in_pair pair)) c.indexed-service.ensures.made ∙ c.in_ok-disk.ensures.reads in
+    headline_of SeesPair bytes_in_pair pair_ends (bytes_in_pair c.indexed-service.result) c.args.document c.in_ok-disk.field-0.before c.in_ok-report.report (c.in_ok-report.ensures c.args.document begun) c.in_ok-disk.ensures.counts reads
+    c.runs_hold.ensures (are_limits c.args.document c.requires.document).have_calls (may_try c.args.document c.requires.document)
+
+-- ONE STORE ---------------------------------------------------------------------------------------
+
+pub indexed-service-requires-2-clause-begins : goal.indexed-service-requires-2-clause-begins
+indexed-service-requires-2-clause-begins c = can_begin c.args.document c.requires.document c.in_ok-disk.field-0 c.in_ok-disk.ensures
+
+pub indexed-service-requires-2-clause-indexes : goal.indexed-service-requires-2-clause-indexes
+indexed-service-requires-2-clause-indexes c =
+    subst (λ (indexes : List IndexOf). FitBase indexes (mem_state c.in_ok-disk.field-0.disk).now.seen) (sym (c.in_ok-indexes.ensures ∙ ap indexes_of c.as_slice.ensures)) (indexes_fit c.args.document c.requires.document c.in_ok-disk.field-0 c.in_ok-disk.ensures)
+
+pub run_over-requires-2 : goal.run_over-requires-2
+run_over-requires-2 c = record {
+  begins = (
+    c.args.document,
+    run_begins c.args.document c.requires.document c.in_ok-disk.field-0 c.in_ok-disk.ensures c.as_slice-2.result.now c.as_slice-3.result.now c.grants_of-grants.result c.indexed-service-2.result
+        c.if-of.false c.as_slice-2.ensures c.as_slice-3.ensures c.grants_of-grants.ensures c.indexed-service-2.ensures.made c.indexed-service-2.ensures.sound c.indexed-service-2.ensures.seen,
+  );
+}
 
 pub returns-clause-report : goal.returns-clause-report
 returns-clause-report c =
-    let begun : IsRunOf (SeesIn c.indexed-service.result) (rules_of c.args.document.service.failover c.args.document.service.consistency) c.args.document.service c.as_slice-2.result.now c.as_slice-3.result.now c.in_ok-disk.field-0.opened c.args.document =
-    run_begins c.args.document c.requires.document c.in_ok-disk.field-0 c.in_ok-disk.ensures c.as_slice-2.result.now c.as_slice-3.result.now c.grants_of.result c.indexed-service.result c.as_slice-2.ensures c.as_slice-3.ensures c.grants_of.ensures
-    c.indexed-service.ensures.made c.indexed-service.ensures.sound c.indexed-service.ensures.seen in
-    let reads : journal_of (bytes_in c.indexed-service.result) ≡ Ok (journal_before c.args.document) = ap (λ (service : Within). journal_of (bytes_in service)) c.indexed-service.ensures.made ∙ c.in_ok-disk.ensures.reads in
-    headline_of c.args.document c.in_ok-ran.ran c.in_ok-disk.field-0.before c.in_ok-report.report (c.in_ok-ran.ensures.ran c.args.document begun) c.in_ok-disk.ensures.counts c.in_ok-report.ensures (bytes_in c.indexed-service.result) reads c.in_ok-ran.ensures.base
+    let begun : IsRunOf (SeesIn c.indexed-service-2.result) (rules_of c.args.document.service.failover c.args.document.service.consistency) c.args.document.service c.as_slice-2.result.now c.as_slice-3.result.now c.in_ok-disk.field-0.opened c.args.document =
+    run_begins c.args.document c.requires.document c.in_ok-disk.field-0 c.in_ok-disk.ensures c.as_slice-2.result.now c.as_slice-3.result.now c.grants_of-grants.result c.indexed-service-2.result
+    c.if-of.false c.as_slice-2.ensures c.as_slice-3.ensures c.grants_of-grants.ensures c.indexed-service-2.ensures.made c.indexed-service-2.ensures.sound c.indexed-service-2.ensures.seen in
+    let reads : journal_of (bytes_in c.indexed-service-2.result) ≡ Ok (journal_before c.args.document) = ap (λ (service : Within). journal_of (bytes_in service)) c.indexed-service-2.ensures.made ∙ c.in_ok-disk.ensures.reads in
+    headline_of SeesIn bytes_in one_ends (bytes_in c.indexed-service-2.result) c.args.document c.in_ok-disk.field-0.before c.in_ok-report-2.report (c.in_ok-report-2.ensures c.args.document begun) c.in_ok-disk.ensures.counts reads
     c.runs_hold.ensures (are_limits c.args.document c.requires.document).have_calls (may_try c.args.document c.requires.document)

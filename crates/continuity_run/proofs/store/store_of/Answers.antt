@@ -3,7 +3,7 @@ use Rattle.commit_log.specs.declared.base.BaseTable.{BaseTable}
 use Rattle.commit_log.specs.declared.base.BaseSequence.{BaseSequence}
 use Rattle.commit_log.specs.Bases.{IsBase}
 use Rattle.run_clauses.specs.meaning.Before.{base_table}
-use Rattle.continuity_run.proofs.StartBase.{begins_base}
+use Rattle.before_run.proofs.Offered.{begins_base}
 use Rattle.continuity_run.proofs.store.store_of.Goals as goal
 
 pub created-requires : goal.created-requires

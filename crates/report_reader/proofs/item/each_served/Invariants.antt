@@ -1,7 +1,7 @@
 use Rattle.std.proofs.Common.{◌≡◌, []}
 use Rattle.serde_json.specs.View.{items_view}
 use Rattle.json_form.specs.meaning.Arrays.{each_after}
-use Rattle.report_reader.specs.Items.{last_event, one_served}
+use Rattle.report_reader.specs.meaning.Items.{last_event, one_served}
 use Rattle.report_reader.proofs.item.each_served.Given as goal
 
 abbrev pub invariant-loop-value : goal.invariant-loop-value

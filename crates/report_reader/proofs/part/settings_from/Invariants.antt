@@ -1,7 +1,7 @@
 use Rattle.std.proofs.Common.{◌≡◌, []}
 use Rattle.serde_json.specs.View.{items_view}
 use Rattle.json_form.specs.meaning.Arrays.{each_after}
-use Rattle.report_reader.specs.Parts.{setting_in}
+use Rattle.report_reader.specs.meaning.Parts.{setting_in}
 use Rattle.report_reader.proofs.part.settings_from.Given as goal
 
 abbrev pub invariant-loop-value : goal.invariant-loop-value

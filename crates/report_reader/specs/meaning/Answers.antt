@@ -16,7 +16,7 @@ use Rattle.svc_values.specs.declared.answer.StatementFault.TheVariants as fault
 use Rattle.call_forms.specs.meaning.Values.{only_member}
 use Rattle.report_reader.specs.declared.answer.AnswerWord.{AnswerWord}
 use Rattle.report_reader.specs.declared.answer.AnswerWord.TheVariants as word
-use Rattle.report_reader.specs.Parts.{number_in, row_in}
+use Rattle.report_reader.specs.meaning.Parts.{number_in, row_in}
 
 -- 0 to 32 rows
 abbrev pub rows_in : Data → Result (List (List Value)) Fault

@@ -10,7 +10,7 @@ use Rattle.svc_values.specs.declared.draw.Draw.TheVariants as draw
 use Rattle.call_forms.specs.meaning.Values.{name_of}
 use Rattle.report_reader.specs.declared.draw.DrawWord.{DrawWord}
 use Rattle.report_reader.specs.declared.draw.DrawWord.TheVariants as word
-use Rattle.report_reader.specs.Parts.{number_in, octets_in}
+use Rattle.report_reader.specs.meaning.Parts.{number_in, octets_in}
 
 abbrev pub draw_words : List (List ℕ × DrawWord)
 draw_words = (codes "seq", word.Seq) ∷ (codes "clock", word.Clock) ∷ (codes "id", word.Id) ∷ []

@@ -21,10 +21,10 @@ use Rattle.report_reader.specs.declared.go.GoWord.{GoWord}
 use Rattle.report_reader.specs.declared.go.GoWord.TheVariants as go
 use Rattle.report_reader.specs.declared.note.NoteWord.{NoteWord}
 use Rattle.report_reader.specs.declared.note.NoteWord.TheVariants as word
-use Rattle.report_reader.specs.Parts.{if_count, number_in, identifier_in}
-use Rattle.report_reader.specs.Answers.{answers_in}
-use Rattle.report_reader.specs.Draws.{draws_in}
-use Rattle.report_reader.specs.Told.{asked_words, asked_behind, asked_by}
+use Rattle.report_reader.specs.meaning.Parts.{if_count, number_in, identifier_in}
+use Rattle.report_reader.specs.meaning.Answers.{answers_in}
+use Rattle.report_reader.specs.meaning.Draws.{draws_in}
+use Rattle.report_reader.specs.meaning.Told.{asked_words, asked_behind, asked_by}
 
 -- how many items
 abbrev pub count_in : Data → Result ℕ Fault

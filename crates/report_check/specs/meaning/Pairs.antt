@@ -7,7 +7,7 @@ use Rattle.json_form.specs.meaning.Texts.{json_at}
 use Rattle.outage_schedule.specs.declared.document.Document.{Document}
 use Rattle.outage_schedule.specs.declared.report.Report.{Report}
 use Rattle.doc_reader.specs.meaning.Documents.{document_of}
-use Rattle.report_reader.specs.Reports.{report_of}
+use Rattle.report_reader.specs.meaning.Reports.{report_of}
 
 -- 64 MiB
 abbrev pub check_limit : ℕ

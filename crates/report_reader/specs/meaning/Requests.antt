@@ -4,16 +4,15 @@ use Rattle.serde_json.specs.Data.{Data}
 use Rattle.json_form.specs.meaning.Faults.{Fault, ◌>>=◌}
 use Rattle.json_form.specs.meaning.Values.{bool_of}
 use Rattle.json_form.specs.meaning.Arrays.{each_of, list_of, fixed, part}
-use Rattle.json_form.specs.meaning.Objects.{object_with}
-use Rattle.json_form.specs.Objects.{all_there, member_in}
+use Rattle.json_form.specs.meaning.Objects.{object_with, all_there, member_in}
 use Rattle.svc_values.specs.declared.entry.Ltxid.{Ltxid}
 use Rattle.outage_schedule.specs.declared.request.ShownCall.{ShownCall}
 use Rattle.outage_schedule.specs.declared.request.Outcome.{Outcome}
 use Rattle.outage_schedule.specs.declared.request.RequestReport.{RequestReport}
-use Rattle.report_reader.specs.Parts.{identifier_in, identifiers_in, sessions_in}
-use Rattle.report_reader.specs.Answers.{answers_in}
-use Rattle.report_reader.specs.Draws.{draws_in}
-use Rattle.report_reader.specs.Failures.{failed_in}
+use Rattle.report_reader.specs.meaning.Parts.{identifier_in, identifiers_in, sessions_in}
+use Rattle.report_reader.specs.meaning.Answers.{answers_in}
+use Rattle.report_reader.specs.meaning.Draws.{draws_in}
+use Rattle.report_reader.specs.meaning.Failures.{failed_in}
 
 -- [answers,draws,identifier]
 unfoldable pub shown_in : Data → Result ShownCall Fault

@@ -7,7 +7,7 @@ use Rattle.outage_schedule.specs.declared.note.AskResult.{AskResult}
 use Rattle.outage_schedule.specs.declared.note.AskResult.TheVariants as told
 use Rattle.report_reader.specs.declared.told.ToldWord.{ToldWord}
 use Rattle.report_reader.specs.declared.told.ToldWord.TheVariants as word
-use Rattle.report_reader.specs.Parts.{number_in}
+use Rattle.report_reader.specs.meaning.Parts.{number_in}
 
 abbrev pub told_words : List (List ℕ × ToldWord)
 told_words =

@@ -19,11 +19,11 @@ use Rattle.outage_schedule.specs.declared.note.Note.TheVariants as note
 use Rattle.report_reader.specs.declared.item.ServedWord.{ServedWord}
 use Rattle.report_reader.specs.declared.item.ServedWord.TheVariants as word
 use Rattle.report_reader.specs.declared.item.ServedAt.{ServedAt}
-use Rattle.report_reader.specs.Parts.{if_count, number_in, identifier_in, session_in, settings_in, call_in}
-use Rattle.report_reader.specs.Answers.{answers_in}
-use Rattle.report_reader.specs.Draws.{draws_in}
-use Rattle.report_reader.specs.Told.{told_words, behind_of, told_by}
-use Rattle.report_reader.specs.Notes.{count_in}
+use Rattle.report_reader.specs.meaning.Parts.{if_count, number_in, identifier_in, session_in, settings_in, call_in}
+use Rattle.report_reader.specs.meaning.Answers.{answers_in}
+use Rattle.report_reader.specs.meaning.Draws.{draws_in}
+use Rattle.report_reader.specs.meaning.Told.{told_words, behind_of, told_by}
+use Rattle.report_reader.specs.meaning.Notes.{count_in}
 
 abbrev pub item_words : List (List ℕ × ServedWord)
 item_words =

@@ -7,19 +7,18 @@ use Rattle.json_form.specs.meaning.Faults.{Fault, ◌>>=◌}
 use Rattle.json_form.specs.meaning.Values.{whole_of}
 use Rattle.json_form.specs.meaning.Texts.{octets_of}
 use Rattle.json_form.specs.meaning.Arrays.{each_of, list_of}
-use Rattle.json_form.specs.meaning.Objects.{Named, object_with, optional}
-use Rattle.json_form.specs.Objects.{all_there, member_in}
+use Rattle.json_form.specs.meaning.Objects.{Named, object_with, optional, all_there, member_in}
 use Rattle.call_forms.specs.meaning.Values.{line_of}
 use Rattle.outage_schedule.specs.declared.document.Document.{Document}
 use Rattle.outage_schedule.specs.declared.report.Report.{Report}
 use Rattle.report_reader.specs.declared.report.Front.{Front}
 use Rattle.report_reader.specs.declared.report.Middle.{Middle}
 use Rattle.report_reader.specs.declared.report.Back.{Back}
-use Rattle.report_reader.specs.Parts.{identifiers_in}
-use Rattle.report_reader.specs.Requests.{clients_in}
-use Rattle.report_reader.specs.Notes.{notes_in}
-use Rattle.report_reader.specs.Items.{served_in}
-use Rattle.report_reader.specs.Entries.{entries_in, tables_in}
+use Rattle.report_reader.specs.meaning.Parts.{identifiers_in}
+use Rattle.report_reader.specs.meaning.Requests.{clients_in}
+use Rattle.report_reader.specs.meaning.Notes.{notes_in}
+use Rattle.report_reader.specs.meaning.Items.{served_in}
+use Rattle.report_reader.specs.meaning.Entries.{entries_in, tables_in}
 
 abbrev pub alerts_in : Data → Result (List (List ℕ)) Fault
 alerts_in d = list_of (each_of line_of) d

@@ -13,7 +13,7 @@ use Rattle.report_reader.specs.declared.failure.FailureWord.{FailureWord}
 use Rattle.report_reader.specs.declared.failure.FailureWord.TheVariants as word
 use Rattle.report_reader.specs.declared.failure.ReasonWord.{ReasonWord}
 use Rattle.report_reader.specs.declared.failure.ReasonWord.TheVariants as why
-use Rattle.report_reader.specs.Parts.{number_in, octets_in, identifier_in}
+use Rattle.report_reader.specs.meaning.Parts.{number_in, octets_in, identifier_in}
 
 -- ---- why a request is not replayed
 

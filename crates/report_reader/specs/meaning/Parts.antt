@@ -11,8 +11,7 @@ use Rattle.svc_values.specs.declared.value.Value.{Value}
 use Rattle.svc_values.specs.declared.call.Call.{Call}
 use Rattle.svc_values.specs.declared.entry.Ltxid.{Ltxid}
 use Rattle.svc_values.specs.declared.entry.SessionId.{SessionId}
-use Rattle.svc_values.specs.meaning.SettingsList.{NamedValues, rises}
-use Rattle.svc_values.specs.SettingsList.{last_name}
+use Rattle.svc_values.specs.meaning.SettingsList.{NamedValues, rises, last_name}
 use Rattle.call_forms.specs.meaning.Values.{in_limits, name_of, value_of}
 use Rattle.call_forms.specs.meaning.Calls.{call_of}
 

@@ -4,16 +4,15 @@ use Rattle.serde_json.specs.Data.{Data}
 use Rattle.json_form.specs.meaning.Faults.{Fault, ◌>>=◌}
 use Rattle.json_form.specs.meaning.Values.{bool_of}
 use Rattle.json_form.specs.meaning.Arrays.{each_of, list_of, fixed, part}
-use Rattle.json_form.specs.meaning.Objects.{object_with}
-use Rattle.json_form.specs.Objects.{all_there, member_in}
+use Rattle.json_form.specs.meaning.Objects.{object_with, all_there, member_in}
 use Rattle.svc_values.specs.declared.value.Value.{Value}
 use Rattle.svc_values.specs.declared.entry.Entry.{Entry}
 use Rattle.svc_values.specs.declared.entry.Piece.{Piece}
 use Rattle.outage_schedule.specs.declared.report.ReportTable.{ReportTable}
 use Rattle.call_forms.specs.meaning.Values.{name_of}
-use Rattle.report_reader.specs.Parts.{identifier_in, settings_in, call_in, row_in}
-use Rattle.report_reader.specs.Answers.{answers_in}
-use Rattle.report_reader.specs.Draws.{draws_in}
+use Rattle.report_reader.specs.meaning.Parts.{identifier_in, settings_in, call_in, row_in}
+use Rattle.report_reader.specs.meaning.Answers.{answers_in}
+use Rattle.report_reader.specs.meaning.Draws.{draws_in}
 
 -- [call,answers,draws]
 unfoldable pub piece_in : Data → Result Piece Fault

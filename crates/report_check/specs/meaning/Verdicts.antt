@@ -2,30 +2,35 @@
 use Rattle.std.specs.Prelude.{◌≡◌, Bool, not, List, [], ◌∷◌, ℕ, find, Option, Some}
 use Rattle.outage_schedule.specs.declared.document.Document.{Document}
 use Rattle.outage_schedule.specs.declared.report.Report.{Report}
-use Rattle.run_clauses.specs.Serial.{serial}
+use Rattle.run_clauses.specs.meaning.Serial.{serial}
 use Rattle.run_clauses.specs.meaning.Fresh.{fresh}
-use Rattle.serial_check.specs.Places.{serial_place, fresh_place}
+use Rattle.run_clauses.specs.meaning.Once.{once}
+use Rattle.run_clauses.specs.meaning.Same.{same}
+use Rattle.serial_check.specs.meaning.Places.{serial_place, fresh_place}
 use Rattle.report_check.specs.declared.verdict.Clause.{Clause}
 use Rattle.report_check.specs.declared.verdict.Clause.TheVariants as clause
 
 abbrev pub holds : Document → Report → Clause → Bool
 holds document report clause.Serial = serial document report
 holds document report clause.Fresh = fresh report
+holds document report clause.Once = once document report
+holds document report clause.Same = same document report
 
 -- the clauses that are judged, in their order
 abbrev pub clauses : List Clause
-clauses = clause.Serial ∷ clause.Fresh ∷ []
+clauses = clause.Serial ∷ clause.Fresh ∷ clause.Once ∷ clause.Same ∷ []
 
 -- None exactly where all of these hold
 abbrev pub first_false : Document → Report → Option Clause
 first_false document report = find (λ one. not (holds document report one)) clauses
 
--- the first place where a clause fails
-abbrev pub place_of : Document → Report → Clause → Option (List ℕ)
-place_of document report clause.Serial = serial_place document report
-place_of document report clause.Fresh = fresh_place report
+-- it is the first place where the clause fails; of the clauses behind `Fresh` no place is promised
+abbrev pub IsPlace : Document → Report → Clause → List ℕ → Type 0
+IsPlace document report clause.Serial path = serial_place document report ≡ Some path
+IsPlace document report clause.Fresh path = fresh_place report ≡ Some path
+IsPlace document report _ path = Unit {0}
 
 -- this clause is the first that is false, and it first fails there
 pub record IsFirstFalse (document : Document) (report : Report) (one : Clause) (path : List ℕ) : Type 0 where
   pub wrong : first_false document report ≡ Some one
-  pub place : place_of document report one ≡ Some path
+  pub place : IsPlace document report one path

@@ -1,0 +1,10 @@
+-- The words for clauses.
+use Rattle.std.specs.Prelude.{ℕ, List, codes}
+use Rattle.report_check.specs.declared.verdict.Clause.{Clause}
+use Rattle.report_check.specs.declared.verdict.Clause.TheVariants as clause
+
+abbrev pub word_of : Clause → List ℕ
+word_of clause.Serial = codes "serial"
+word_of clause.Fresh = codes "fresh"
+word_of clause.Once = codes "once"
+word_of clause.Same = codes "same"
