@@ -16,7 +16,8 @@ TOP = pathlib.Path(__file__).resolve().parents[2]
 LAUNCHER, BUILT = TOP / "continuity", TOP / "crates/continuity/out/continuity"
 ABOUT = """Says what can happen to the clients of a DOCUMENT. It is run once as it is; then again with each connection cut
 at each place of that run, with none, all and all but one of the bytes on their way arriving; and with a crash at each
-place, and after each device call of each event in which the server works, with each image that a crash may leave.
+place, and after each device call of each event in which the server works, with each image that a crash may leave;
+with a second store also as a failover, which takes the first one away.
 With --seed random schedules are run in place of these. The table has a line for each request and each end that it came
 to: how often, what was shown, the error, whether each transaction that was tried is stored, and the first run that
 ended so. It stops at a report that cannot be.

@@ -1,5 +1,6 @@
 """The schedules to try: the run of the document itself with one outage more at each place, or random ones."""
 
+import itertools
 import random
 
 # More than can be on its way.
@@ -37,12 +38,21 @@ def numbers(most):
     return sorted({0, max(most - 1, 0), most})
 
 
+def falls(document):
+    """The events by which the server may fall: with a second store a crash may take the first one away."""
+    return ["crash", "failover"] if document.get("service", {}).get("standby", False) else ["crash"]
+
+
 def with_events(document, events):
     return {**document, "schedule": events}
 
 
 class Each:
-    """Each cut and each crash at each place of the document's own run. A step gives documents, and is told their reports."""
+    """Each cut and each crash at each place of the document's own run. A step gives documents, and is told their reports.
+
+    With a second store each crash is tried as a failover too. Behind one that the own schedule has there is one store, and
+    a further failover is a crash of it.
+    """
 
     def __init__(self, document, report):
         self.document, self.report = document, report
@@ -76,14 +86,15 @@ class Each:
 
     def crashes(self, place):
         """The server crashes between two events, or in the event of this place after each of its device calls."""
-        yield place, self.changed(place, ["crash", 0, 0, 0])
+        for word in falls(self.document):
+            yield place, self.changed(place, [word, 0, 0, 0])
         if place == len(self.events) or self.events[place][0] != "serve":
             return
         is_stopped, after = True, 0
         while is_stopped:
             is_stopped = False
-            for pick in PICKS:
-                report = yield place, self.changed(place, ["crash", self.events[place][1], after, pick], 1)
+            for word, pick in itertools.product(falls(self.document), PICKS):
+                report = yield place, self.changed(place, [word, self.events[place][1], after, pick], 1)
                 is_stopped = is_stopped or any(item[0] == "crashed" and item[1] == place + 1 for item in report["served"])
             after += 1
 
@@ -95,6 +106,7 @@ class Random:
 
     def __init__(self, document, report, seed, count):
         self.document, self.random, self.places = document, random.Random(seed), count
+        self.falls = falls(document)
         self.length = 2 * len(report["notes"]) + 2
         self.connections = sum(note[2:3] == ["open"] for note in report["notes"] if note[0] == "go") + 2
 
@@ -114,6 +126,8 @@ class Random:
             return ["go", below(clients) + 1]
         if kind == "cut":
             return ["cut", connection, chosen([0, below(200), ALL]), chosen([0, below(200), ALL])]
+        if kind == "crash" and self.falls[1:]:
+            return [chosen(self.falls), connection, below(12), chosen(PICKS)]
         if kind == "crash":
             return ["crash", connection, below(6), chosen(PICKS)]
         if kind == "upcrash":

@@ -5,10 +5,12 @@ import sys
 from trusted.sources import read_files
 from trusted.walk import reached_from
 
-# What is believed once the proofs are: the headline, and the clause of the call that the program makes.
+# What is believed once the proofs are: the headline, and the clauses of the call that the program makes: of an end with an answer,
+# and of a report that is denied.
 ROOTS = {
     "Headline": "Rattle.continuity_run.specs.meaning.Headline",
     "IsDone": "Rattle.continuity_run.specs.meaning.Clauses",
+    "IsDenied": "Rattle.continuity_run.specs.meaning.Clauses",
 }
 # The folder of a crate's specs/ with what the roots reach of it, and nothing else.
 FOLDER = "/specs/meaning/"

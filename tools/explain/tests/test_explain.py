@@ -27,6 +27,10 @@ CODES = """# How a run ends
 | Code | Document | Line |
 |---|---|---|
 | 7 | `{"a":["show",1]}` | `document: 7 at /a` |
+
+| Clause | Says | Place |
+|---|---|---|
+| `fresh` | no value twice | the piece |
 """
 REPORT = """# The report
 
@@ -93,12 +97,17 @@ class OfSmallPages(unittest.TestCase):
     def test_a_word_that_no_page_has_is_told_with_those_that_have_one(self):
         status, out, err = told(self.docs, "show")
         self.assertEqual((status, out), (2, ""))
-        self.assertIn("Words: 1, 2, 3, 5, 7, disabled, full, mismatch, off, statelost", err)
+        self.assertIn("Words: 1, 2, 3, 5, 7, disabled, fresh, full, mismatch, off, statelost", err)
 
     def test_one_line_of_a_code(self):
         line = "continuity: 7: a name twice; see docs/CODES.md\n"
         self.assertEqual(told(self.docs, "--line", "7"), (0, line, ""))
         self.assertEqual(told(self.docs, "--line", "5")[0], 2)
+
+    def test_one_line_of_a_clause(self):
+        line = "continuity: fresh: no value twice; see docs/CODES.md\n"
+        self.assertEqual(told(self.docs, "--line", "fresh"), (0, line, ""))
+        self.assertEqual(told(self.docs, "--line", "disabled")[0], 2)
 
     def test_pages_that_are_not_there(self):
         (self.docs / "REPORT.md").unlink()
@@ -106,12 +115,12 @@ class OfSmallPages(unittest.TestCase):
 
 
 class OfThePages(unittest.TestCase):
-    def test_each_code_has_its_line(self):
-        for code in range(1, 11):
-            with self.subTest(code):
-                status, out, _ = told(explain.DOCS, "--line", str(code))
+    def test_each_code_and_each_clause_has_its_line(self):
+        for word in [*range(1, 10), 11, "serial", "fresh", "once", "same"]:
+            with self.subTest(word):
+                status, out, _ = told(explain.DOCS, "--line", str(word))
                 self.assertEqual(status, 0)
-                self.assertTrue(out.startswith(f"continuity: {code}: "))
+                self.assertTrue(out.startswith(f"continuity: {word}: "))
         self.assertIn("json.tool", told(explain.DOCS, "--line", "2")[1])
 
     def test_each_error_and_each_reason_is_found(self):

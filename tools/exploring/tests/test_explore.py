@@ -28,7 +28,7 @@ if schedule:
     kind, *parts = schedule[-1]
     note = ["cut", parts[0], min(parts[1], 36), min(parts[2], 2)] if kind == "cut" else ["crash", parts[0]]
     base["notes"].insert(len(schedule) - 1, note)
-    if kind == "crash" and parts[0] and parts[1] < 2:
+    if kind != "cut" and parts[0] and parts[1] < 2:
         base["served"].append(["crashed", len(schedule), [1, 1], False, [["commit"]]])
 print(json.dumps(base))
 """
@@ -80,8 +80,10 @@ class Schedules(unittest.TestCase):
 
         self.assertEqual(made(1), made(1))
         self.assertNotEqual(made(1), made(2))
-        kinds = {event[0] for schedule in made(1) for event in schedule}
-        self.assertEqual(kinds, {"go", "serve", "tick", "cut", "crash", "up", "upcrash", "reap"})
+        wanted = {"go", "serve", "tick", "cut", "crash", "up", "upcrash", "reap"}
+        self.assertEqual({event[0] for schedule in made(1) for event in schedule}, wanted)
+        document["service"] = {"standby": True}
+        self.assertEqual({event[0] for schedule in made(1) for event in schedule}, wanted | {"failover"})
 
 
 class Reports(unittest.TestCase):
@@ -155,6 +157,15 @@ class Commands(unittest.TestCase):
         self.assertIn("3 of 3 calls, committed  none   once    the document as it is", out)
         self.assertTrue(out.endswith(f"{runs} runs; no report that cannot be\n"))
         self.assertIn(f"explore: place {places} of {places}, {runs} runs", err)
+
+    def test_with_a_second_store_each_crash_is_a_failover_too(self):
+        document = {**example("first")[0], "service": {"standby": True}}
+        paired = self.room / "paired.json"
+        paired.write_text(json.dumps(document), encoding="utf-8")
+        self.assertEqual(explored("--program", self.program, paired)[0], 0)
+        tried = self.outages()
+        self.assertEqual([event[1:] for event in tried if event[0] == "failover"], [event[1:] for event in tried if event[0] == "crash"])
+        self.assertEqual(tried.count(("failover", 0, 0, 0)), len(self.report["notes"]) + 1)
 
     def test_at_most_so_many_runs(self):
         status, out, _ = self.explored("--max", "5")
