@@ -235,6 +235,20 @@ def openings_document(openings, rows):
     return compact({"tables": [accounts(rows)], "clients": [], "schedule": schedule})
 
 
+def image_of(records):
+    """The bytes of a store without a table, which was opened so many times less one: its base, and a record for each opening."""
+    payloads = [bytes([1]) + bytes(16)] + [bytes([2]) + n.to_bytes(8, "big") for n in range(1, records)]
+    opened = b"".join(b"\1" + len(payload).to_bytes(8, "big") + payload for payload in payloads)
+    return b"TGSTORE1" + opened + b"\0"
+
+
+def stores_document(commits, records, standby):
+    """So many commits over a store of so many records: what does a second store cost, which has to get each record too?"""
+    requests = [{"calls": [[["commit"]]] * min(1_000, commits - n)} for n in range(0, commits, 1_000)]
+    image = image_of(records).hex()
+    return compact({"service": {"standby": standby}, "image": image, "clients": [{"requests": requests}]})
+
+
 def stopped_openings_document(openings, rows):
     """A store whose openings stop before they are stored, so often: what such an opening costs."""
     schedule = [["crash", 0, 0, 0]] + [["upcrash", 0, 0]] * openings + [["up"]]
@@ -338,6 +352,10 @@ CASES = {
     "events": lambda: document_case("events of a schedule", events_document, [(1_000,), (10_000,), (100_000,)], 5),
     "crashes": lambda: document_case("calls of clients under crashes", crashes_document, [(16,), (64,)], 5),
     "openings": lambda: document_case("openings of a store", openings_document, [(200, 5_000), (2_000, 5_000)]),
+    "stores": lambda: document_case(
+        "commits over a store of many records, and over two such stores", stores_document,
+        [(2_000, 80_000, False), (2_000, 80_000, True)], 5
+    ),
     "stopped": lambda: document_case("openings that stop", stopped_openings_document, [(1_000, 64), (4_000, 64)]),
     "alternations": lambda: document_case("crashes and openings of a small store", openings_document, [(2_000, 64), (8_000, 64)]),
     "limits": lambda: document_case("all limits at once", limits_document, [(10_000, 1_000_000), (100_000, 8_300_000)]),
