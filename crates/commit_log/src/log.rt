@@ -229,6 +229,30 @@ impl Log {
         self.add(disk, Adding::Alert(line))
     }
 
+    /// Adds a horizon, in four device calls: the sessions of incarnations below it are forgotten for good.
+    ///
+    /// It takes the memory for the record before the first of them, 17 bytes. The caller sees to it that the horizon may come
+    /// next in the journal of the disk.
+    pub fn forget<D: Disk>(&mut self, disk: &mut D, horizon: u64) -> Result<(), LogFault>
+        requires ready { CanLog self.old (D.state disk.old) }
+        requires may { MayAdd (D.state disk.old) (kept.Horizon horizon) }
+        ensures { Adds result self.new (D.state disk.old) (D.state disk.new) (kept.Horizon horizon) }
+    {
+        self.add(disk, Adding::Horizon(horizon))
+    }
+
+    /// Adds an opening with this incarnation, in four device calls. What a crash left whole goes on so with nothing read.
+    ///
+    /// It takes the memory for the record before the first of them, 17 bytes. The caller sees to it that the opening may come
+    /// next in the journal of the disk.
+    pub fn begin<D: Disk>(&mut self, disk: &mut D, incarnation: u64) -> Result<(), LogFault>
+        requires ready { CanLog self.old (D.state disk.old) }
+        requires may { MayAdd (D.state disk.old) (kept.Opened incarnation) }
+        ensures { Adds result self.new (D.state disk.old) (D.state disk.new) (kept.Opened incarnation) }
+    {
+        self.add(disk, Adding::Opened(incarnation))
+    }
+
     // Adds a record that may come next in a store that was opened.
     fn add<D: Disk>(&mut self, disk: &mut D, adding: Adding) -> Result<(), LogFault>
         requires ready { CanLog self.old (D.state disk.old) }

@@ -123,6 +123,13 @@ impl Source {
         }
     }
 
+    /// Its sequences, each with what is left of its last reservation. It takes no memory.
+    pub fn into_sequences(self) -> Vec<SeqState>
+        ensures { result.items ≡ self.sequences }
+    {
+        self.sequences
+    }
+
     /// The incarnation of this opening.
     pub fn incarnation(&self) -> u64
         ensures { result ≡ self.now.incarnation }

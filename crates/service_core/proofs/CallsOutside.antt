@@ -17,7 +17,7 @@ use Rattle.service_core.specs.Seeing.{LeavesIn, SeesIn, Stands, state_of}
 use Rattle.service_core.specs.Sound.{IsSound, IsSoundWithin, IsUp}
 use Rattle.service_core.specs.Through.{HasHaltedFrom, HasRunFrom}
 use Rattle.service_core.specs.Within.{Within}
-use Rattle.service_core.proofs.CallsHalted.{halted_base, halted_came, halted_does, halted_down, halted_in}
+use Rattle.service_core.proofs.halts.CallsHalted.{halted_base, halted_came, halted_does, halted_down, halted_in}
 use Rattle.service_core.proofs.CallsRan.{ran_base, ran_came, ran_does, ran_history, ran_up}
 use Rattle.service_core.proofs.Standing.{goes_from, seen_with}
 use Rattle.service_core.proofs.Went.{made_id, made_notes, made_session}

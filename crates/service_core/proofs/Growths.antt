@@ -24,7 +24,7 @@ use Rattle.service_core.specs.Shipping.{Broke, CountsOne, GrewBy}
 use Rattle.service_core.specs.Sound.{IsSound, IsSoundWithin, IsUp}
 use Rattle.service_core.specs.Through.{HasHaltedFrom, HasRunFrom, Item, Through, Still, Then as Next}
 use Rattle.service_core.specs.Within.{Within}
-use Rattle.service_core.proofs.Halted.{IsHalted}
+use Rattle.service_core.proofs.halts.Halted.{IsHalted}
 use Rattle.service_core.proofs.Opened.{IsOpening}
 use Rattle.service_core.proofs.Reaching.{grows_now}
 

@@ -1,30 +1,21 @@
 mod Answered
-mod AskFronts
-mod AskHalts
 mod Asks
 mod Beginning
 mod Beside
 mod Blocking
-mod CallsHalted
 mod CallsOutside
 mod CallsRan
 mod Ending
 mod Falling
 mod Faulty
-mod Fronting
 mod Gained
 mod GoingOn
 mod Growths
-mod Halted
 mod Indexing
 mod Limits
-mod LostFrames
-mod LostFronts
 mod Made
 pub mod Offered
 mod Opened
-mod OpeningHalts
-mod OutsideHalts
 mod Reaching
 mod Read
 mod Reopening
@@ -34,10 +25,8 @@ mod Served
 mod Serves
 mod Splits
 mod Standing
-mod StoppedOne
-mod Stopping
 mod Taken
 mod Throughout
 mod Told
-mod Unanswering
 mod Went
+pub mod halts

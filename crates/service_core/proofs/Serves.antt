@@ -23,7 +23,7 @@ use Rattle.service_core.specs.Within.{Within}
 use Rattle.service_core.proofs.Limits.{told_made}
 use Rattle.service_core.proofs.Served.{served_base, served_came, served_does, served_made, served_up}
 use Rattle.service_core.proofs.Standing.{goes_from, seen_with}
-use Rattle.service_core.proofs.StoppedOne.{one_base, one_came, one_does, one_down}
+use Rattle.service_core.proofs.halts.StoppedOne.{one_base, one_came, one_does, one_down}
 
 told_same : (told : Option Down) → told_of told ≡ telling_of told
 told_same None = refl

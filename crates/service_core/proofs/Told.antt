@@ -37,7 +37,7 @@ use Rattle.service_core.proofs.Faulty.{never_falls, none_before, rises, still_co
 use Rattle.service_core.proofs.Gained.{added_grew, asked_between, book_stored, grew_base}
 use Rattle.service_core.proofs.Standing.{later_call, seen_with}
 use Rattle.service_core.proofs.Taken.{has_plain}
-use Rattle.service_core.proofs.AskFronts.{ask_adds, ask_base, ask_came, ask_reads}
+use Rattle.service_core.proofs.halts.AskFronts.{ask_adds, ask_base, ask_came, ask_reads}
 
 module _ (grants : Grants) (disk end : DiskState) (core : Core) (held : Held) (notes : Notes) (x : Ltxid) (up : IsUp grants disk core held notes) where
   stored_before : (plain : Plain) → IsPlain plain core disk → IsStored plain up.fits.journal

@@ -29,7 +29,7 @@ use Rattle.world_core.specs.declared.traffic.Traffic.{Traffic}
 use Rattle.world_core.specs.Underway.{IsUnderway}
 use Rattle.world_core.specs.Making.{Makes, IsSomewhere}
 use Rattle.world_core.specs.Stopping.{ServedLast, LeadsLast}
-use Rattle.world_core.proofs.Living.{none_lived}
+use Rattle.world_core.proofs.frames.Living.{none_lived}
 use Rattle.world_core.proofs.Coupling.{begun, one_alone, made, made_alone}
 use Rattle.world_core.proofs.Opening.{any_server}
 use Rattle.world_core.proofs.Readiness.{up_not_opened}

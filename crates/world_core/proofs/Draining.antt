@@ -22,7 +22,7 @@ use Rattle.world_core.specs.Underway.{AreClosable, all_closed, IsUnderway, Leads
 use Rattle.world_core.specs.Making.{Makes, IsSomewhere}
 use Rattle.world_core.proofs.Underway.{changed_kept}
 use Rattle.world_core.proofs.Coupling.{views, begun, one_alone, made_alone}
-use Rattle.world_core.proofs.Unseen.{sent_views}
+use Rattle.world_core.proofs.steps.Unseen.{sent_views}
 
 first_false : (a b : Bool) → (a || b) ≡ false → (a ≡ false) × (b ≡ false)
 first_false true b e = absurd (let nothing : ⊥ = cc in nothing)

@@ -19,7 +19,7 @@ use Rattle.world_core.specs.declared.traffic.Traffic.{Traffic}
 use Rattle.world_core.specs.Underway.{IsUnderway}
 use Rattle.world_core.specs.Making.{Makes, MakesBelow}
 use Rattle.world_core.proofs.Readiness.{opened_ready}
-use Rattle.world_core.proofs.Living.{same_lived}
+use Rattle.world_core.proofs.frames.Living.{same_lived}
 use Rattle.world_core.proofs.Coupling.{moved, begun, one_alone, one_call, made, made_alone, none_came, none_asked}
 
 -- what is underway knows nothing of the server

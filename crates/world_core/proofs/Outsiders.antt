@@ -38,12 +38,12 @@ use Rattle.world_core.specs.declared.traffic.Traffic.{Traffic}
 use Rattle.world_core.specs.Underway.{IsUnderway}
 use Rattle.world_core.specs.Making.{Makes}
 use Rattle.world_core.proofs.Readiness.{stays_ready, up_not_down}
-use Rattle.world_core.proofs.Blocking.{AsksNone, none_blocked, known_blocks, known_same}
-use Rattle.world_core.proofs.Living.{all_apart, life_apart, still_lived}
+use Rattle.world_core.proofs.frames.Blocking.{AsksNone, none_blocked, known_blocks, known_same}
+use Rattle.world_core.proofs.frames.Living.{all_apart, life_apart, still_lived}
 use Rattle.world_core.proofs.Coupling.{begun, one_alone, one_call, made, made_alone}
 use Rattle.world_core.proofs.Opening.{any_server}
-use Rattle.world_core.proofs.Stops.{AreFrom, stops_behind}
-use Rattle.world_core.proofs.Storing.{others_counted, came_of, next_apart}
+use Rattle.world_core.proofs.frames.Stops.{AreFrom, stops_behind}
+use Rattle.world_core.proofs.frames.Storing.{others_counted, came_of, next_apart}
 
 -- the server is down
 pub outsides_none : OrderlyIsKept → (sees : Seen → Type 0) (before after : Traffic) (calls : List Call) → ((seen : Seen) → sees seen → seen.state.is_up ≡ false) → ((m : Machine) → IsUnderway before m → IsUnderway after (begun m))

@@ -30,12 +30,12 @@ use Rattle.world_core.specs.Answering.{result_of}
 use Rattle.world_core.specs.Underway.{IsUnderway}
 use Rattle.world_core.specs.Making.{Makes}
 use Rattle.world_core.proofs.Readiness.{stays_ready, up_not_down}
-use Rattle.world_core.proofs.Added.{same_frame}
-use Rattle.world_core.proofs.Blocking.{known_blocks, known_asked}
-use Rattle.world_core.proofs.Living.{life_asked, still_lived}
+use Rattle.world_core.proofs.frames.Added.{same_frame}
+use Rattle.world_core.proofs.frames.Blocking.{known_blocks, known_asked}
+use Rattle.world_core.proofs.frames.Living.{life_asked, still_lived}
 use Rattle.world_core.proofs.Coupling.{begun, one_alone, one_call, made, made_alone, none_came, none_asked}
 use Rattle.world_core.proofs.Opening.{any_server}
-use Rattle.world_core.proofs.Stops.{stops_behind}
+use Rattle.world_core.proofs.frames.Stops.{stops_behind}
 
 -- the server is down
 pub asks_none : OrderlyIsKept → (sees : Seen → Type 0) (before after : Traffic) (x : Ltxid) → AreExact → ((seen : Seen) → sees seen → seen.state.is_up ≡ false) → ((m : Machine) → IsUnderway before m → IsUnderway after (begun m))

@@ -25,7 +25,7 @@ use Rattle.world_core.specs.Making.{Makes}
 use Rattle.world_core.specs.Stopping.{AreKnown}
 use Rattle.world_core.proofs.Places.{slice_same, slice_other}
 use Rattle.world_core.proofs.Readiness.{store_ready}
-use Rattle.world_core.proofs.Living.{same_lived}
+use Rattle.world_core.proofs.frames.Living.{same_lived}
 use Rattle.world_core.proofs.Coupling.{moved, begun, one_alone, one_call, made, made_alone, none_came, none_asked}
 
 -- ONE OF MANY -------------------------------------------------------------------------------------

@@ -19,7 +19,7 @@ use Rattle.world_core.specs.declared.connection.Connection.{Connection}
 use Rattle.world_core.specs.declared.connections.Connections.{Connections}
 use Rattle.world_core.specs.Linked.{up_frames, IsLink, HaveFallen, HasLiving, AreLinks, Stand, connection_at, MaySend, GivesFront, GivesFrontAt, GivesReply, GivesReplyAt, CutsAt}
 use Rattle.world_core.proofs.Ages.{Ages, ages_same, ages_front, ages_takes, ages_cut, ages_reaped, same_link, falls_once, with_fallen, before_fallen, more_fallen, living_kept, living_without, living_more}
-use Rattle.world_core.proofs.Fronts.{front_link}
+use Rattle.world_core.proofs.frames.Fronts.{front_link}
 use Rattle.world_core.proofs.Linking.{none_sent}
 
 -- one more

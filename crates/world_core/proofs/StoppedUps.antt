@@ -22,12 +22,12 @@ use Rattle.world_core.specs.declared.traffic.Traffic.{Traffic}
 use Rattle.world_core.specs.Underway.{IsUnderway}
 use Rattle.world_core.specs.Making.{Makes, MakesBelow}
 use Rattle.world_core.specs.Stopping.{BegunOpening}
-use Rattle.world_core.proofs.Living.{same_lived}
-use Rattle.world_core.proofs.Blocking.{known_blocks, known_same}
+use Rattle.world_core.proofs.frames.Living.{same_lived}
+use Rattle.world_core.proofs.frames.Blocking.{known_blocks, known_same}
 use Rattle.world_core.proofs.Coupling.{begun, one_alone, made, made_alone, none_came, none_asked}
 use Rattle.world_core.proofs.Opening.{any_server}
 use Rattle.world_core.proofs.Readiness.{up_not_opened}
-use Rattle.world_core.proofs.Storing.{both, all_at}
+use Rattle.world_core.proofs.frames.Storing.{both, all_at}
 
 -- the server is up
 pub crashes_no_opening : OrderlyIsKept → (sees : Seen → Type 0) (before after : Traffic) (calls pick : ℕ) → ((seen : Seen) → sees seen → seen.state.is_up ≡ true) → ((m : Machine) → IsUnderway before m → IsUnderway after (begun m))

@@ -1,4 +1,4 @@
-use Rattle.world_core.proofs.EachClient.{stay_each}
+use Rattle.world_core.proofs.steps.EachClient.{stay_each}
 use Rattle.world_core.proofs.clients.clients_stay.Goals as goal
 
 pub returns : goal.returns

@@ -1,7 +1,7 @@
 use Rattle.std.proofs.Common.{◌≡◌, ℕ, ◌+◌, List, length, sym, subst, arith}
 use Rattle.driver_core.specs.Driving.{terms_of}
 use Rattle.world_core.specs.Coursing.{Held}
-use Rattle.world_core.proofs.EachClient.{FirstFew, one_first, first_read, begin_each}
+use Rattle.world_core.proofs.steps.EachClient.{FirstFew, one_first, first_read, begin_each}
 use Rattle.world_core.proofs.clients.first_clients.Goals as goal
 
 pub loop-script-preserved : goal.loop-script-preserved

@@ -1,5 +1,5 @@
 use Rattle.driver_core.specs.Driving.{terms_of}
-use Rattle.world_core.proofs.EachClient.{FirstFew}
+use Rattle.world_core.proofs.steps.EachClient.{FirstFew}
 use Rattle.world_core.proofs.clients.first_clients.Given as goal
 
 abbrev pub invariant-loop-script : goal.invariant-loop-script

@@ -11,9 +11,9 @@ use Rattle.service_core.specs.Unanswered.{HaltedOpening, IsHaltedAs, StandsBetwe
 use Rattle.service_core.specs.Within.{Within}
 use Rattle.service_core.proofs.Growths.{opened_grew, opening_broke}
 use Rattle.service_core.proofs.Opened.{down_of, is_opening, opened_from, opens_soundly, opens}
-use Rattle.service_core.proofs.Halted.{is_halted, halted_from, halts_soundly, halts_on_base, halts}
+use Rattle.service_core.proofs.halts.Halted.{is_halted, halted_from, halts_soundly, halts_on_base, halts}
 use Rattle.service_core.proofs.Faulty.{none_counted}
-use Rattle.service_core.proofs.OpeningHalts.{opened_halts, stopped_opening_halts}
+use Rattle.service_core.proofs.halts.OpeningHalts.{opened_halts, stopped_opening_halts}
 use Rattle.service_core.proofs.one.OneService.reopen.Goals as goal
 use Rattle.service_core.proofs.Indexing.{still_fit}
 

@@ -13,7 +13,7 @@ use Rattle.service_core.specs.Shipping.{Broke, GrewBy}
 use Rattle.service_core.specs.Unanswered.{HaltedCalls, IsHaltedAs, StandsBetween}
 use Rattle.service_core.specs.Within.{Within}
 use Rattle.service_core.proofs.Growths.{calls_broke, calls_grew}
-use Rattle.service_core.proofs.OutsideHalts.{outside_halts, ran_halts}
+use Rattle.service_core.proofs.halts.OutsideHalts.{outside_halts, ran_halts}
 use Rattle.service_core.proofs.CallsOutside.{halts, halts_on_base, halts_soundly, runs_on_base, runs_so, runs_soundly, with_halted, with_ran}
 use Rattle.service_core.proofs.Went.{made_session}
 use Rattle.service_core.proofs.one.OneService.run_outside.Goals as goal

@@ -15,7 +15,7 @@ use Rattle.service_core.specs.Within.{Within}
 use Rattle.service_core.proofs.Growths.{frame_broke, frame_grew}
 use Rattle.service_core.proofs.Serves.{serves, serves_made, serves_on_base, serves_soundly, stops, stops_on_base, stops_soundly, with_served, with_stopped}
 use Rattle.service_core.proofs.Taken.{lives_on, taken_held}
-use Rattle.service_core.proofs.Unanswering.{served_halts, stopped_halts}
+use Rattle.service_core.proofs.halts.Unanswering.{served_halts, stopped_halts}
 use Rattle.service_core.proofs.one.OneService.serve_frame.Goals as goal
 use Rattle.service_core.proofs.Indexing.{still_fit}
 

@@ -9,7 +9,7 @@ use Rattle.service_core.specs.Shipping.{Broke, GrewBy, count_in}
 use Rattle.service_core.specs.Unanswered.{HaltedAsk, IsHaltedAs, StandsBetween}
 use Rattle.service_core.specs.Within.{Within}
 use Rattle.service_core.proofs.Growths.{ask_broke, ask_grew}
-use Rattle.service_core.proofs.AskHalts.{stopped_telling_halts, told_halts}
+use Rattle.service_core.proofs.halts.AskHalts.{stopped_telling_halts, told_halts}
 use Rattle.service_core.proofs.Asks.{asks, asks_on_base, asks_soundly, halts, halts_on_base, halts_soundly, with_asked, with_halted}
 use Rattle.service_core.proofs.one.OneService.tell.Goals as goal
 use Rattle.service_core.proofs.Indexing.{still_fit, told_as}

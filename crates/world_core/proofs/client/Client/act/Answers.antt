@@ -1,6 +1,6 @@
 use Rattle.std.proofs.Common.{ℕ, sym, ◌∙◌, subst}
 use Rattle.world_core.specs.Coursing.{IsClient, Hears}
-use Rattle.world_core.proofs.Stepped.{if_ok_with, same_connection, acts_so}
+use Rattle.world_core.proofs.steps.Stepped.{if_ok_with, same_connection, acts_so}
 use Rattle.world_core.proofs.client.Client.act.Goals as goal
 
 pub returns : goal.returns

@@ -1,4 +1,4 @@
-use Rattle.world_core.proofs.PoolAsks.{some_asked, goes_waiting, some_offered, goes_lent, some_opening, goes_opening}
+use Rattle.world_core.proofs.steps.PoolAsks.{some_asked, goes_waiting, some_offered, goes_lent, some_opening, goes_opening}
 use Rattle.client_model.specs.declared.input.Wants.TheVariants as wants
 use Rattle.world_core.proofs.Standing.{if_ok}
 use Rattle.world_core.proofs.client.Client.ask_pool.Goals as goal

@@ -4,7 +4,7 @@ use Rattle.transcript_core.specs.declared.next_request.NextRequest.{NextRequest}
 use Rattle.transcript_core.specs.Following.{IsNext}
 use Rattle.world_core.specs.declared.client.Course.{Course}
 use Rattle.world_core.specs.Coursing.{IsFit}
-use Rattle.world_core.proofs.Beginning.{one_of, first_doing, submitted, begins_so}
+use Rattle.world_core.proofs.steps.Beginning.{one_of, first_doing, submitted, begins_so}
 use Rattle.world_core.proofs.client.Client.begin.Goals as goal
 
 pub submit-requires-clause-fit : goal.submit-requires-clause-fit

@@ -5,9 +5,9 @@ use Rattle.world_model.specs.meaning.Acting.{steps}
 use Rattle.world_core.specs.Coursing.{terms_in}
 use Rattle.world_core.specs.Linked.{connection_at}
 use Rattle.world_core.specs.Stepping.{connection_in}
-use Rattle.world_core.proofs.Placing.{may_hear, ticks_past, goes_by_step}
-use Rattle.world_core.proofs.Silence.{tried_release, tried_may, tried_going}
-use Rattle.world_core.proofs.Steps.{failed_wanted}
+use Rattle.world_core.proofs.steps.Placing.{may_hear, ticks_past, goes_by_step}
+use Rattle.world_core.proofs.steps.Silence.{tried_release, tried_may, tried_going}
+use Rattle.world_core.proofs.steps.Steps.{failed_wanted}
 use Rattle.world_core.proofs.client.Client.fail_try.Goals as goal
 
 pub act-requires-clause-wanted : goal.act-requires-clause-wanted

@@ -2,8 +2,8 @@ use Rattle.std.proofs.Common.{false, Some, ◌∙◌}
 use Rattle.outage_schedule.specs.declared.note.GoNote.TheVariants as go
 use Rattle.world_model.specs.meaning.Going.{finds_none}
 use Rattle.world_model.specs.meaning.Acting.{loses}
-use Rattle.world_core.proofs.Placing.{goes_as}
-use Rattle.world_core.proofs.Steps.{found_open, found_lost, stays_there}
+use Rattle.world_core.proofs.steps.Placing.{goes_as}
+use Rattle.world_core.proofs.steps.Steps.{found_open, found_lost, stays_there}
 use Rattle.world_core.proofs.client.Client.find_none.Goals as goal
 
 pub lose-requires : goal.lose-requires

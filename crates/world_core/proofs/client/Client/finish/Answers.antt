@@ -1,5 +1,5 @@
 use Rattle.std.proofs.lemmas.Result.{on_ok_weaker}
-use Rattle.world_core.proofs.Coursing.{finished}
+use Rattle.world_core.proofs.steps.Coursing.{finished}
 use Rattle.world_core.proofs.client.Client.finish.Goals as goal
 
 pub returns : goal.returns

@@ -3,7 +3,7 @@ use Rattle.client_model.specs.declared.input.Wants.TheVariants as wants
 use Rattle.world_model.specs.meaning.Going.{goes_by}
 use Rattle.world_core.specs.Stepping.{at_next}
 use Rattle.world_core.proofs.Standing.{if_ok}
-use Rattle.world_core.proofs.Wanting.{rests, goes_idle, turns, past_at, turn_as, some_turn, goes_so, never_none, some_trying, goes_try, goes_early}
+use Rattle.world_core.proofs.steps.Wanting.{rests, goes_idle, turns, past_at, turn_as, some_turn, goes_so, never_none, some_trying, goes_try, goes_early}
 use Rattle.world_core.proofs.client.Client.go.Goals as goal
 
 pub begin-requires-clause-rests : goal.begin-requires-clause-rests

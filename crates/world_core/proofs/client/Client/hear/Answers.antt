@@ -3,7 +3,7 @@ use Rattle.svc_values.specs.declared.frame.Up.{Up}
 use Rattle.client_model.specs.declared.act.Act.{Act}
 use Rattle.transcript_core.specs.Drafts.{IsDraft, done_so}
 use Rattle.world_core.specs.Coursing.{Held, done_of, IsCourse, IsBeside, IsSettled, Hears}
-use Rattle.world_core.proofs.Coursing.{turns_so}
+use Rattle.world_core.proofs.steps.Coursing.{turns_so}
 use Rattle.world_core.proofs.client.Client.hear.Goals as goal
 
 pub returns-clause-heard : goal.returns-clause-heard

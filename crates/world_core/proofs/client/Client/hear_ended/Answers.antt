@@ -10,9 +10,9 @@ use Rattle.world_model.specs.meaning.Machines.{Machine}
 use Rattle.world_core.specs.Coursing.{step_of}
 use Rattle.world_core.specs.Linked.{connection_at}
 use Rattle.world_core.specs.Stepping.{connection_in}
-use Rattle.world_core.proofs.Placing.{may_hear, ticks_past, his_release}
-use Rattle.world_core.proofs.Steps.{took_noted, dead_may}
-use Rattle.world_core.proofs.Turns.{placed_then, busy_then, over_then, goes_over, goes_lost}
+use Rattle.world_core.proofs.steps.Placing.{may_hear, ticks_past, his_release}
+use Rattle.world_core.proofs.steps.Steps.{took_noted, dead_may}
+use Rattle.world_core.proofs.steps.Turns.{placed_then, busy_then, over_then, goes_over, goes_lost}
 use Rattle.world_core.proofs.client.Client.hear_ended.Goals as goal
 
 pub act-requires-clause-wanted : goal.act-requires-clause-wanted

@@ -7,9 +7,9 @@ use Rattle.world_model.specs.meaning.Acting.{closing, act_at, frames_of, steps}
 use Rattle.world_model.specs.meaning.Going.{noted}
 use Rattle.world_core.specs.Coursing.{step_of}
 use Rattle.world_core.specs.Stepping.{connection_in}
-use Rattle.world_core.proofs.Placing.{may_hear, ticks_past, his_release, his_may, opens_as, goes_by_step}
-use Rattle.world_core.proofs.Silence.{took_going}
-use Rattle.world_core.proofs.Steps.{took_noted}
+use Rattle.world_core.proofs.steps.Placing.{may_hear, ticks_past, his_release, his_may, opens_as, goes_by_step}
+use Rattle.world_core.proofs.steps.Silence.{took_going}
+use Rattle.world_core.proofs.steps.Steps.{took_noted}
 use Rattle.world_core.proofs.client.Client.hear_open.Goals as goal
 
 pub act-requires-clause-wanted : goal.act-requires-clause-wanted

@@ -1,6 +1,6 @@
 use Rattle.std.proofs.Common.{true, false, Some, None, refl}
 use Rattle.world_core.specs.Stepping.{at_next}
-use Rattle.world_core.proofs.Looking.{none_awaits, none_goes, some_awaits, some_ltxids, some_goes}
+use Rattle.world_core.proofs.steps.Looking.{none_awaits, none_goes, some_awaits, some_ltxids, some_goes}
 use Rattle.world_core.proofs.Standing.{if_ok}
 use Rattle.world_core.proofs.client.Client.look.Goals as goal
 

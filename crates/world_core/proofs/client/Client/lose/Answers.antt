@@ -5,8 +5,8 @@ use Rattle.world_model.specs.meaning.Acting.{loses}
 use Rattle.world_model.specs.meaning.Clients.{Doing}
 use Rattle.world_core.specs.Linked.{connection_at}
 use Rattle.world_core.specs.Stepping.{connection_in}
-use Rattle.world_core.proofs.Placing.{may_hear, ticks_past, may_nothing, joined, goes_by_step}
-use Rattle.world_core.proofs.Silence.{gone_going}
+use Rattle.world_core.proofs.steps.Placing.{may_hear, ticks_past, may_nothing, joined, goes_by_step}
+use Rattle.world_core.proofs.steps.Silence.{gone_going}
 use Rattle.world_core.proofs.client.Client.lose.Goals as goal
 
 pub act-requires-clause-wanted : goal.act-requires-clause-wanted

@@ -5,8 +5,8 @@ use Rattle.world_model.specs.meaning.Clients.{Doing}
 use Rattle.world_model.specs.meaning.Going.{tries_while}
 use Rattle.world_model.specs.meaning.Machines.{Machine}
 use Rattle.outage_schedule.specs.declared.note.GoNote.TheVariants as go
-use Rattle.world_core.proofs.Placing.{may_hear, ticks_past, opened_may, moved, joined, goes_by_step}
-use Rattle.world_core.proofs.Steps.{opened_wanted, opened_few, opening, tried_open}
+use Rattle.world_core.proofs.steps.Placing.{may_hear, ticks_past, opened_may, moved, joined, goes_by_step}
+use Rattle.world_core.proofs.steps.Steps.{opened_wanted, opened_few, opening, tried_open}
 use Rattle.world_core.proofs.client.Client.open_connection.Goals as goal
 
 pub open-requires : goal.open-requires

@@ -1,7 +1,7 @@
 use Rattle.std.proofs.Common.{ap}
 use Rattle.std.proofs.lemmas.Result.{on_ok_weaker}
-use Rattle.world_core.proofs.Coursing.{over_with, kept_with}
-use Rattle.world_core.proofs.Resting.{is_kept}
+use Rattle.world_core.proofs.steps.Coursing.{over_with, kept_with}
+use Rattle.world_core.proofs.steps.Resting.{is_kept}
 use Rattle.world_core.proofs.client.Client.settle.Goals as goal
 
 pub returns-in-GiveBack : goal.returns-in-GiveBack

@@ -8,9 +8,9 @@ use Rattle.world_model.specs.meaning.Clients.{Doing}
 use Rattle.world_model.specs.meaning.Going.{lends}
 use Rattle.world_core.specs.Coursing.{step_of}
 use Rattle.world_core.specs.Stepping.{connection_in}
-use Rattle.world_core.proofs.Placing.{may_hear, ticks_past, his_release, his_may, joined, goes_by_step}
-use Rattle.world_core.proofs.Silence.{lent_going}
-use Rattle.world_core.proofs.Steps.{none_held, lent_so}
+use Rattle.world_core.proofs.steps.Placing.{may_hear, ticks_past, his_release, his_may, joined, goes_by_step}
+use Rattle.world_core.proofs.steps.Silence.{lent_going}
+use Rattle.world_core.proofs.steps.Steps.{none_held, lent_so}
 use Rattle.world_core.proofs.client.Client.take_lent.Goals as goal
 
 pub unreachable-requires : goal.unreachable-requires

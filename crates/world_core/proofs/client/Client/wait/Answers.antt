@@ -6,8 +6,8 @@ use Rattle.world_model.specs.meaning.Acting.{steps}
 use Rattle.world_core.specs.Coursing.{terms_in}
 use Rattle.world_core.specs.Linked.{connection_at}
 use Rattle.world_core.specs.Stepping.{connection_in}
-use Rattle.world_core.proofs.Placing.{may_hear, ticks_past, goes_by_step}
-use Rattle.world_core.proofs.Silence.{waits_release, waits_may, waits_going}
+use Rattle.world_core.proofs.steps.Placing.{may_hear, ticks_past, goes_by_step}
+use Rattle.world_core.proofs.steps.Silence.{waits_release, waits_may, waits_going}
 use Rattle.world_core.proofs.client.Client.wait.Goals as goal
 
 pub act-requires-clause-wanted : goal.act-requires-clause-wanted

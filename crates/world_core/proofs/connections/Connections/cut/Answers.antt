@@ -1,7 +1,7 @@
 use Rattle.std.proofs.Common.{refl, sym, ap, ◌∙◌}
 use Rattle.std.specs.Prelude.{is_some}
 use Rattle.world_core.specs.declared.connection.Connection.{Connection}
-use Rattle.world_core.proofs.FirstBytes.{cut_at, none_cut, ended_cut}
+use Rattle.world_core.proofs.frames.FirstBytes.{cut_at, none_cut, ended_cut}
 use Rattle.world_core.proofs.Standing.{cut_at_given, closed_at, not_some, no_link, same_there}
 use Rattle.world_core.proofs.connections.Connections.cut.Goals as goal
 

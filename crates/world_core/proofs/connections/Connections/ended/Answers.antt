@@ -1,7 +1,7 @@
 use Rattle.std.proofs.Common.{◌≡◌, ◌∙◌, sym, ap}
 use Rattle.world_model.specs.meaning.Links.{Link}
 use Rattle.world_core.proofs.Standing.{found_at, no_link, none_there}
-use Rattle.world_core.proofs.Serving.{some_link}
+use Rattle.world_core.proofs.frames.Serving.{some_link}
 use Rattle.world_core.proofs.connections.Connections.ended.Goals as goal
 
 pub returns-in_err-at : goal.returns-in_err-at

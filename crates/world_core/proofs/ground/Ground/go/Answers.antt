@@ -1,6 +1,6 @@
 use Rattle.std.proofs.Common.{◌≡◌, None, sym, ap, ◌∙◌, subst}
 use Rattle.server_model.specs.Seen.{ServiceState}
-use Rattle.world_core.proofs.ClientEvents.{some_standing, some_place, makes_alone, may_connect, makes_opening}
+use Rattle.world_core.proofs.steps.ClientEvents.{some_standing, some_place, makes_alone, may_connect, makes_opening}
 use Rattle.world_core.proofs.Readiness.{may_call, one_more}
 use Rattle.world_core.proofs.Bases.{one_base_kept}
 use Rattle.world_core.proofs.ground.Ground.go.Goals as goal

@@ -1,4 +1,4 @@
-use Rattle.world_core.proofs.EachClient.{beside_number, makes_number}
+use Rattle.world_core.proofs.steps.EachClient.{beside_number, makes_number}
 use Rattle.world_core.proofs.Standing.{if_ok}
 use Rattle.world_core.proofs.ground.Ground.go_one.Goals as goal
 

@@ -4,7 +4,7 @@ use Rattle.outage_schedule.specs.declared.event.Event.{Event}
 use Rattle.outage_schedule.specs.declared.event.Event.TheVariants as event
 use Rattle.world_core.specs.Making.{MakesBelow}
 use Rattle.world_core.specs.CutBytes.{CutsFirst}
-use Rattle.world_core.proofs.FirstBytes.{is_cut, others_cut, never_cuts}
+use Rattle.world_core.proofs.frames.FirstBytes.{is_cut, others_cut, never_cuts}
 use Rattle.world_core.proofs.Standing.{if_ok}
 use Rattle.world_core.proofs.ground.Ground.make.Goals as goal
 

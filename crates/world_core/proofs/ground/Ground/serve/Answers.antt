@@ -2,7 +2,7 @@ use Rattle.std.proofs.Common.{subst, Err}
 use Rattle.world_model.specs.meaning.Serving.{front_at}
 use Rattle.world_core.specs.Underway.{FrontOf}
 use Rattle.world_core.proofs.Coupling.{begun}
-use Rattle.world_core.proofs.ServedFrames.{serves_none, serves_some, lives_there, frame_made}
+use Rattle.world_core.proofs.frames.ServedFrames.{serves_none, serves_some, lives_there, frame_made}
 use Rattle.world_core.proofs.Readiness.{frame_never_stops}
 use Rattle.server_model.specs.declared.fault.ServeFault.{ServeFault}
 use Rattle.server_model.specs.ServiceCalls.{ServedOne}

@@ -7,8 +7,8 @@ use Rattle.service_calls.specs.Kept.{Goes}
 use Rattle.world_model.specs.meaning.Serving.{front_at}
 use Rattle.world_core.specs.Underway.{FrontOf}
 use Rattle.world_core.proofs.Coupling.{begun}
-use Rattle.world_core.proofs.ServedFrames.{lives_there, frame_made}
-use Rattle.world_core.proofs.Lasting.{leads_none, leads_answered, leads_stopped, set_coupled}
+use Rattle.world_core.proofs.frames.ServedFrames.{lives_there, frame_made}
+use Rattle.world_core.proofs.frames.Lasting.{leads_none, leads_answered, leads_stopped, set_coupled}
 use Rattle.world_core.proofs.Bases.{one_base_on, one_base_stopped}
 use Rattle.world_core.proofs.ground.Ground.serve_last.Goals as goal
 

@@ -2,7 +2,7 @@ use Rattle.std.proofs.Common.{sym, ap, ◌∙◌, refl}
 use Rattle.outage_schedule.specs.declared.item.Served.{Served}
 use Rattle.world_model.specs.meaning.Links.{Link}
 use Rattle.world_core.specs.Answering.{session_served}
-use Rattle.world_core.proofs.ServedFrames.{writes_blocked, writes_open}
+use Rattle.world_core.proofs.frames.ServedFrames.{writes_blocked, writes_open}
 use Rattle.world_core.proofs.traffic.Traffic.answer.Goals as goal
 
 pub returns-then-not-is_blocked : goal.returns-then-not-is_blocked
