@@ -8,8 +8,8 @@ use Rattle.once_laws.specs.Redrawn.{RepeatsRedraw}
 use Rattle.invariant_laws.specs.Same.{granted_by}
 use Rattle.invariant_laws.specs.SameLaws.{FollowsInvariant, HoldsInRuns, PartsMakeEntries, RunsEntriesDraw, RunsEntriesGoOn, RunsEntriesStart, RunsFollowScripts, RunsKnowAnswers, RunsKnowEntries, RunsRanLast, RunsVerify, WholeRunsEntriesDraw, WholeRunsEntriesStart, WholeRunsKnowEntries}
 use Rattle.once_laws.specs.Showing.{show_replies}
-use Rattle.same_laws.proofs.EntryDraws.{all_answered, all_drew}
-use Rattle.same_laws.proofs.EntryStarts.{all_start}
+use Rattle.same_laws.proofs.entries.EntryDraws.{all_answered, all_drew}
+use Rattle.same_laws.proofs.entries.EntryStarts.{all_start}
 use Rattle.world_model.proofs.Offered.{finishing_reached}
 
 pub runs_draw : RunsKeepInvariant → RunsVerify → RunsKnowAnswers → RepeatsRedraw → HoldsInRuns show_replies → HoldsInRuns end_fittingly → HoldsInRuns store_alone → RunsRanLast → RunsEntriesDraw

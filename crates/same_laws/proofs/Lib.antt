@@ -1,16 +1,9 @@
 pub mod AnswersKnown
 pub mod BeginsAt
-pub mod CommitsFit
 pub mod CommittedStay
 pub mod CopiesFound
 pub mod DrawRuns
-pub mod EntriesJoin
-pub mod EntryDraws
-pub mod EntryScripts
-pub mod EntryStarts
-pub mod EntryTold
 pub mod KeptVerified
-pub mod LoneStored
 pub mod NoClashEnd
 pub mod NoClashReports
 pub mod RanBegins
@@ -18,7 +11,6 @@ pub mod Redrawn
 pub mod RunsBegin
 pub mod RunsStarts
 pub mod SameEnd
-pub mod SameEntries
 pub mod SameOver
 pub mod Scripts
 pub mod ScriptsExact
@@ -32,8 +24,8 @@ pub mod SessionsTold
 pub mod SettingsOn
 pub mod ShownTxns
 pub mod SpokenFrames
-pub mod StoredScripts
 pub mod TalkVerified
 pub mod ToldSettings
 pub mod VerifiedRuns
 pub mod VerifiedSteps
+pub mod entries

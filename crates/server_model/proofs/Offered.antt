@@ -5,7 +5,7 @@ pub use Rattle.server_model.proofs.Marked.{marked_stores_none}
 -- a service's store goes on by serial entries that are numbered in order, and each identifier that it blocked is its session's next one
 pub use Rattle.server_model.proofs.Services.{service_stores, service_stands}
 -- and each frame is told as it has to be
-pub use Rattle.server_model.proofs.WalkRuns.{runs_told}
+pub use Rattle.server_model.proofs.walks.WalkRuns.{runs_told}
 -- a frame's entry is of its session, and an entry comes from a call; what was answered Committed or told uncommitted stands
 pub use Rattle.server_model.proofs.Growth.{serve_grows}
 pub use Rattle.server_model.proofs.Stays.{serve_stays}
@@ -30,8 +30,8 @@ pub use Rattle.server_model.proofs.NumberRuns.{runs_number}
 pub use Rattle.server_model.proofs.Numbers.{AllMine, mine-at}
 pub use Rattle.server_model.proofs.Stays.{outcomes_stay}
 -- a frame adds no block, or one that it asks for, which is its session's next identifier
-pub use Rattle.server_model.proofs.BlocksTold.{BlocksAtMost, AddsNone, AddsOne, frame_blocks}
+pub use Rattle.server_model.proofs.walks.BlocksTold.{BlocksAtMost, AddsNone, AddsOne, frame_blocks}
 pub use Rattle.server_model.proofs.Steps.{blocks-IsNext}
 pub use Rattle.server_model.proofs.ToldBlocked.{already-blocked}
 -- a call that is served again with the draws of its first time draws the granted ones of these
-pub use Rattle.server_model.proofs.Redraws.{legal_redraws}
+pub use Rattle.server_model.proofs.draws.Redraws.{legal_redraws}

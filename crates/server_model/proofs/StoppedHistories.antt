@@ -8,7 +8,7 @@ use Rattle.svc_values.specs.declared.entry.SessionId.{SessionId}
 use Rattle.server_model.specs.meaning.Outcomes.{Telling, Silent, Says, Stopped}
 use Rattle.server_model.specs.Runs.{Happened, Served, Asked}
 use Rattle.server_model.specs.Laws.{stops_last, is_behind}
-use Rattle.server_model.proofs.FollowedStops.{AllLater}
+use Rattle.server_model.proofs.walks.FollowedStops.{AllLater}
 
 -- ---- stops in a history
 

@@ -14,7 +14,7 @@ use Rattle.server_model.specs.Serve.{Serve}
 use Rattle.server_model.specs.Runs.{Happened, Served, is_answered}
 use Rattle.server_model.specs.Laws.{CommitsAs}
 use Rattle.server_model.specs.ServiceCalls.{AsksFor}
-use Rattle.server_model.proofs.BlocksTold.{BlocksAtMost, AddsNone, AddsOne, frame_blocks}
+use Rattle.server_model.proofs.walks.BlocksTold.{BlocksAtMost, AddsNone, AddsOne, frame_blocks}
 use Rattle.server_model.proofs.FromItems.{From, NoEntry, NewEntry, serve_from}
 use Rattle.server_model.proofs.Fronts.{Adds, serve_adds}
 

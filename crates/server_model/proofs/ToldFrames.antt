@@ -29,7 +29,7 @@ use Rattle.server_model.specs.Serve.{Commits, InReplay, Blocks, Conflicts, Store
 use Rattle.server_model.specs.Runs.{is_answered}
 use Rattle.server_model.specs.meaning.Walk.{Walk, next_of}
 use Rattle.server_model.specs.ToldRight.{life_after, told_holds, same_outcome, outcome_on, tells_outcome, ask_holds, is_refused}
-use Rattle.server_model.proofs.Following.{ltxid-self}
+use Rattle.server_model.proofs.walks.Following.{ltxid-self}
 
 -- ---- outcomes
 

@@ -1,4 +1,4 @@
-use Rattle.same_laws.proofs.CommitsFit.{runs_commit, whole_runs_commit}
+use Rattle.same_laws.proofs.entries.CommitsFit.{runs_commit, whole_runs_commit}
 use Rattle.same_laws.proofs.laws.commits_are_answered.Goals as goal
 
 pub returns : goal.returns

@@ -1,4 +1,4 @@
-use Rattle.same_laws.proofs.StoredScripts.{runs_store, whole_runs_store}
+use Rattle.same_laws.proofs.entries.StoredScripts.{runs_store, whole_runs_store}
 use Rattle.same_laws.proofs.laws.committed_sendings_store_scripts.Goals as goal
 
 pub returns : goal.returns

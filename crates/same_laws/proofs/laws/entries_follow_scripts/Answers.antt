@@ -1,4 +1,4 @@
-use Rattle.same_laws.proofs.EntryScripts.{runs_follow, whole_runs_follow}
+use Rattle.same_laws.proofs.entries.EntryScripts.{runs_follow, whole_runs_follow}
 use Rattle.same_laws.proofs.laws.entries_follow_scripts.Goals as goal
 
 pub returns : goal.returns

@@ -1,4 +1,4 @@
-use Rattle.same_laws.proofs.SameEntries.{entries_reported, same_over}
+use Rattle.same_laws.proofs.entries.SameEntries.{entries_reported, same_over}
 use Rattle.same_laws.proofs.laws.entries_make_same.Goals as goal
 
 pub returns : goal.returns

@@ -1,4 +1,4 @@
-use Rattle.same_laws.proofs.LoneStored.{runs_store_alone, whole_runs_store_alone}
+use Rattle.same_laws.proofs.entries.LoneStored.{runs_store_alone, whole_runs_store_alone}
 use Rattle.same_laws.proofs.laws.lone_commits_are_stored.Goals as goal
 
 pub returns : goal.returns

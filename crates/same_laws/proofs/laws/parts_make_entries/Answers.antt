@@ -1,4 +1,4 @@
-use Rattle.same_laws.proofs.EntriesJoin.{entries_joined}
+use Rattle.same_laws.proofs.entries.EntriesJoin.{entries_joined}
 use Rattle.same_laws.proofs.laws.parts_make_entries.Goals as goal
 
 pub returns : goal.returns

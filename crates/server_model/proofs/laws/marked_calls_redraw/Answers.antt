@@ -1,4 +1,4 @@
-use Rattle.server_model.proofs.Redraws.{legal_redraws, runs_redraw}
+use Rattle.server_model.proofs.draws.Redraws.{legal_redraws, runs_redraw}
 use Rattle.server_model.proofs.laws.marked_calls_redraw.Goals as goal
 
 pub returns-clause-legal : goal.returns-clause-legal

@@ -1,4 +1,4 @@
-use Rattle.server_model.proofs.FreshRuns.{runs_fresh_new}
+use Rattle.server_model.proofs.draws.FreshRuns.{runs_fresh_new}
 use Rattle.server_model.proofs.laws.runs_fresh_new.Goals as goal
 
 pub returns : goal.returns

@@ -1,4 +1,4 @@
-use Rattle.server_model.proofs.LegalWhole.{runs_legal}
+use Rattle.server_model.proofs.walks.LegalWhole.{runs_legal}
 use Rattle.server_model.proofs.laws.runs_legal.Goals as goal
 
 pub returns : goal.returns

@@ -1,4 +1,4 @@
-use Rattle.server_model.proofs.BelowEnds.{runs_set_aside}
+use Rattle.server_model.proofs.draws.BelowEnds.{runs_set_aside}
 use Rattle.server_model.proofs.laws.runs_set_aside.Goals as goal
 
 pub returns : goal.returns

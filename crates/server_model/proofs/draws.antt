@@ -1,0 +1,22 @@
+-- What a call draws: kept values, and new ones of the opening's source, beside what a walk counts.
+pub mod BelowEnds
+pub mod CountedBlocks
+pub mod DrawnFrames
+pub mod DrawnRuns
+pub mod DrawnStops
+pub mod FreshRuns
+pub mod KeptAgain
+pub mod KeptDraws
+pub mod MeetsCommit
+pub mod NewAbove
+pub mod NewLater
+pub mod NewOnce
+pub mod Raising
+pub mod Redraws
+pub mod RoomKept
+pub mod RoomRuns
+pub mod SameNames
+pub mod SameNamesRuns
+pub mod Spending
+pub mod Takings
+pub mod Tracking
