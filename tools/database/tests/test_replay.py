@@ -170,7 +170,7 @@ class Differences(unittest.TestCase):
 class OfAnImage(unittest.TestCase):
     def test_the_tables_of_a_printed_image_are_those_of_its_report(self):
         seen = 0
-        for path in sorted(EXAMPLES.glob("*.report.json")):
+        for path in sorted(EXAMPLES.rglob("*.report.json")):
             told = json.loads(path.read_text(encoding="utf-8"))
             if "image" in told:
                 tables, _ = image.contents(bytes.fromhex(told["image"]))

@@ -35,8 +35,8 @@ ODD_REPORT = {"entries": [{"completed": True, "ltxid": [1, 1, 0], "settings": []
 def cases():
     """The names, documents and reports of all examples, and the odd one."""
     yield "odd", ODD, ODD_REPORT
-    for path in sorted(EXAMPLES.glob("*.report.json")):
-        name = path.name.removesuffix(".report.json")
+    for path in sorted(EXAMPLES.rglob("*.report.json")):
+        name = path.relative_to(EXAMPLES).as_posix().removesuffix(".report.json")
         document = (EXAMPLES / f"{name}.json").read_text(encoding="utf-8")
         yield name, json.loads(document), json.loads(path.read_text(encoding="utf-8"))
 

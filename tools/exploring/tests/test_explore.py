@@ -49,7 +49,7 @@ def explored(*words):
 
 class Schedules(unittest.TestCase):
     def test_the_events_of_a_run_give_its_notes_again(self):
-        document, report = example("cut_after_the_commit")
+        document, report = example("cuts/cut_after_the_commit")
         events = schedules.events_of(document, report)
         self.assertEqual(len(events), len(report["notes"]))
         self.assertEqual(events[: len(document["schedule"])], document["schedule"])
@@ -65,7 +65,7 @@ class Schedules(unittest.TestCase):
         self.assertEqual([schedules.numbers(most) for most in (0, 1, 9)], [[0], [0, 1], [0, 8, 9]])
 
     def test_an_own_schedule_goes_on_after_the_outage(self):
-        document, report = example("cut_after_the_commit")
+        document, report = example("cuts/cut_after_the_commit")
         each = schedules.Each(document, report)
         own = document["schedule"]
         self.assertEqual(each.changed(1, ["tick"])["schedule"], [own[0], ["tick"], *own[1:]])
@@ -88,18 +88,18 @@ class Schedules(unittest.TestCase):
 
 class Reports(unittest.TestCase):
     def test_no_example_is_at_fault(self):
-        for path in sorted(EXAMPLES.glob("*.report.json")):
+        for path in sorted(EXAMPLES.rglob("*.report.json")):
             with self.subTest(path.name):
-                self.assertEqual(list(shown.faults_of(*example(path.name.removesuffix(".report.json")))), [])
+                self.assertEqual(list(shown.faults_of(*example(path.relative_to(EXAMPLES).as_posix().removesuffix(".report.json")))), [])
 
     def test_what_was_shown_is_told(self):
         lines = [(1, 1, "3 of 3 calls, committed", "none", "once")]
         self.assertEqual(list(shown.lines_of(*example("first"))), lines)
         lines = [(1, 1, "0 of 2 calls", "disabled off", "nothing was tried")]
-        self.assertEqual(list(shown.lines_of(*example("submitted_again_without_failover"))), lines)
+        self.assertEqual(list(shown.lines_of(*example("resubmitted/submitted_again_without_failover"))), lines)
 
     def test_what_cannot_be_is_told(self):
-        document, report = example("cut_after_the_commit")
+        document, report = example("cuts/cut_after_the_commit")
         for word, change in [
             ("twice among the entries", lambda it: it["entries"].append(it["entries"][0])),
             ("is stored twice", lambda it: (it["clients"][0][0]["tried"][0].append([9, 9, 9]),
