@@ -15,24 +15,26 @@ use commit_log::{
 use disk_model::Disk;
 use ltxid_book::Book;
 use std::alloc::Global;
-use std::test::Fail;
+use std::process::Abort;
 use svc_values::{Entry, Ltxid, Name, NoMemory};
 
 // A base of no table and one sequence `s`, which begins at 1.
 #[tactic(auto, unfolding(commit_log::specs::meaning::Bases::is_base))]
-pub fn one_sequence(alloc: Global) -> Result<Base, Fail>
-    ensures { IfOk result IsBase }
+pub fn one_sequence(rt: &impl Abort, alloc: Global) -> Base
+    ensures { IsBase result }
 {
     let mut sequences = BaseSequences::new(alloc);
-    sequences.push(BaseSequence {
-        name: Name::new(alloc, "s")?,
-        start: 1,
-        keep: false,
-    })?;
-    Ok(Base {
+    sequences
+        .push(BaseSequence {
+            name: Name::new(alloc, "s").expect(rt, "memory"),
+            start: 1,
+            keep: false,
+        })
+        .expect(rt, "memory");
+    Base {
         tables: BaseTables::new(alloc),
         sequences,
-    })
+    }
 }
 
 // What the journal says of each session.

@@ -4,7 +4,6 @@ use crate::opening::{no_tables, open_with};
 use commit_log::{Log, LogFault};
 use disk_model::MemDisk;
 use std::alloc::{AllocError, Global};
-use std::test::Fail;
 
 // A store over a base without tables and sequences, opened once.
 const OPENED: [u8; 71] = [
@@ -48,43 +47,52 @@ fn said(alloc: Global, bytes: &[u8]) -> Result<String, AllocError> {
 }
 
 #[test]
-fn the_bytes_of_a_store_that_was_made_and_opened(rt: HostRuntime) -> Result<(), Fail> {
+fn the_bytes_of_a_store_that_was_made_and_opened(rt: HostRuntime) {
     let alloc = rt.alloc();
     let mut disk = MemDisk::new(alloc);
-    Log::create(alloc, &mut disk, &no_tables(alloc))?;
-    assert_eq!(rt; said(alloc, disk.bytes())?.as_str(), "opened 0, entries 0");
-    let (log, journal) = Log::open(alloc, &mut disk, 0)?;
+    Log::create(alloc, &mut disk, &no_tables(alloc)).expect(&rt, "a store");
+    assert_eq!(rt;
+        said(alloc, disk.bytes()).expect(&rt, "memory").as_str(),
+        "opened 0, entries 0"
+    );
+    let (log, journal) = Log::open(alloc, &mut disk, 0).expect(&rt, "a store");
     assert!(rt; log.is_live());
     assert_eq!(rt; log.count(), 3);
     assert_eq!(rt; journal.incarnation, 1);
     assert_eq!(rt; disk.bytes(), OPENED.as_slice());
-    Ok(())
 }
 
 #[test]
-fn an_opening_gives_a_store_of_format_1_a_horizon(rt: HostRuntime) -> Result<(), Fail> {
+fn an_opening_gives_a_store_of_format_1_a_horizon(rt: HostRuntime) {
     let alloc = rt.alloc();
-    let mut disk = MemDisk::of(alloc, &OPENED_IN_FORMAT_1)?;
-    let opened = open_with(alloc, &mut disk, 0)?;
+    let mut disk = MemDisk::of(alloc, &OPENED_IN_FORMAT_1).expect(&rt, "memory");
+    let opened = open_with(alloc, &mut disk, 0).expect(&rt, "a store");
     assert!(rt; opened.is_some_and(|(log, journal)| log.count() == 4 && journal.horizon == 0));
-    let mut bytes = OPENED_IN_FORMAT_1[..52].to_vec(alloc)?;
-    bytes.extend_from_slice(&[1, 0, 0, 0, 0, 0, 0, 0, 9])?;
-    bytes.extend_from_slice(&[7, 0, 0, 0, 0, 0, 0, 0, 0])?;
-    bytes.extend_from_slice(&[1, 0, 0, 0, 0, 0, 0, 0, 9])?;
-    bytes.extend_from_slice(&[2, 0, 0, 0, 0, 0, 0, 0, 2])?;
-    bytes.push(0)?;
+    let mut bytes = OPENED_IN_FORMAT_1[..52].to_vec(alloc).expect(&rt, "memory");
+    bytes
+        .extend_from_slice(&[1, 0, 0, 0, 0, 0, 0, 0, 9])
+        .expect(&rt, "memory");
+    bytes
+        .extend_from_slice(&[7, 0, 0, 0, 0, 0, 0, 0, 0])
+        .expect(&rt, "memory");
+    bytes
+        .extend_from_slice(&[1, 0, 0, 0, 0, 0, 0, 0, 9])
+        .expect(&rt, "memory");
+    bytes
+        .extend_from_slice(&[2, 0, 0, 0, 0, 0, 0, 0, 2])
+        .expect(&rt, "memory");
+    bytes.push(0).expect(&rt, "memory");
     assert_eq!(rt; bytes.len(), 89);
     assert_eq!(rt; disk.bytes(), bytes.as_slice());
-    Ok(())
 }
 
 #[test]
-fn each_part_of_a_store_is_damaged_at_the_gate_that_lost_its_record(
-    rt: HostRuntime,
-) -> Result<(), Fail> {
+fn each_part_of_a_store_is_damaged_at_the_gate_that_lost_its_record(rt: HostRuntime) {
     let alloc = rt.alloc();
     assert_eq!(rt;
-        said(alloc, &OPENED_IN_FORMAT_1)?.as_str(),
+        said(alloc, &OPENED_IN_FORMAT_1)
+            .expect(&rt, "memory")
+            .as_str(),
         "opened 1, entries 0"
     );
     for (count, _) in OPENED_IN_FORMAT_1.iter().enumerate() {
@@ -94,12 +102,11 @@ fn each_part_of_a_store_is_damaged_at_the_gate_that_lost_its_record(
             _ => 34,
         };
         assert_eq!(rt;
-            said(alloc, &OPENED_IN_FORMAT_1[..count])?,
-            format!(in alloc; "damaged at {place}")?,
+            said(alloc, &OPENED_IN_FORMAT_1[..count]).expect(&rt, "memory"),
+            format!(in alloc; "damaged at {place}").expect(&rt, "memory"),
             "{count} bytes"
         );
     }
-    Ok(())
 }
 
 // What a reading says where the byte at this place is one more.
@@ -128,18 +135,17 @@ fn expected(place: usize) -> &'static str {
 }
 
 #[test]
-fn each_byte_of_a_store_changed(rt: HostRuntime) -> Result<(), Fail> {
+fn each_byte_of_a_store_changed(rt: HostRuntime) {
     let alloc = rt.alloc();
     for (place, byte) in OPENED_IN_FORMAT_1.iter().enumerate() {
         let mut bytes = OPENED_IN_FORMAT_1;
         bytes[place] = byte.wrapping_add(1);
         assert_eq!(rt;
-            said(alloc, &bytes)?.as_str(),
+            said(alloc, &bytes).expect(&rt, "memory").as_str(),
             expected(place),
             "at {place}"
         );
     }
-    Ok(())
 }
 
 fn push_number(out: &mut Vec<u8>, number: u8) -> Result<(), AllocError> {
@@ -284,15 +290,18 @@ const STORES: &str = "\
 ";
 
 #[test]
-fn records_and_what_a_reading_says_of_them(rt: HostRuntime) -> Result<(), Fail> {
+fn records_and_what_a_reading_says_of_them(rt: HostRuntime) {
     let alloc = rt.alloc();
     for line in STORES.lines() {
         if let Some((records, expected)) = line.split_once(" => ") {
-            let bytes = store_of(alloc, records, 0)?;
-            assert_eq!(rt; said(alloc, &bytes)?.as_str(), expected, "{line}");
+            let bytes = store_of(alloc, records, 0).expect(&rt, "memory");
+            assert_eq!(rt;
+                said(alloc, &bytes).expect(&rt, "memory").as_str(),
+                expected,
+                "{line}"
+            );
         }
     }
-    Ok(())
 }
 
 // What a reading says of a store with a line of so many bytes.
@@ -309,20 +318,35 @@ fn said_of_line(alloc: Global, length: u8) -> Result<String, AllocError> {
 }
 
 #[test]
-fn the_first_damage_is_told(rt: HostRuntime) -> Result<(), Fail> {
+fn the_first_damage_is_told(rt: HostRuntime) {
     let alloc = rt.alloc();
     // An open gate with nothing behind it, behind records that may come next and behind one that may not.
-    let whole = store_of(alloc, "1.0.0 2.1", 1)?;
-    assert_eq!(rt; said(alloc, &whole)?.as_str(), "damaged at 52");
-    let misplaced = store_of(alloc, "1.0.0 4", 1)?;
-    assert_eq!(rt; said(alloc, &misplaced)?.as_str(), "damaged at 34");
+    let whole = store_of(alloc, "1.0.0 2.1", 1).expect(&rt, "memory");
+    assert_eq!(rt;
+        said(alloc, &whole).expect(&rt, "memory").as_str(),
+        "damaged at 52"
+    );
+    let misplaced = store_of(alloc, "1.0.0 4", 1).expect(&rt, "memory");
+    assert_eq!(rt;
+        said(alloc, &misplaced).expect(&rt, "memory").as_str(),
+        "damaged at 34"
+    );
     // A line of 64 bytes, and one of 65.
-    assert_eq!(rt; said_of_line(alloc, 64)?.as_str(), "opened 0, entries 0");
-    assert_eq!(rt; said_of_line(alloc, 65)?.as_str(), "damaged at 34");
+    assert_eq!(rt;
+        said_of_line(alloc, 64).expect(&rt, "memory").as_str(),
+        "opened 0, entries 0"
+    );
+    assert_eq!(rt;
+        said_of_line(alloc, 65).expect(&rt, "memory").as_str(),
+        "damaged at 34"
+    );
     // A length of eight bytes ff.
-    let mut long = store_of(alloc, "1.0.0", 1)?;
-    long.extend_from_slice(&[0xff; 8])?;
-    long.extend_from_slice(&[2, 0, 0, 0, 0, 0, 0, 0, 1, 0])?;
-    assert_eq!(rt; said(alloc, &long)?.as_str(), "damaged at 34");
-    Ok(())
+    let mut long = store_of(alloc, "1.0.0", 1).expect(&rt, "memory");
+    long.extend_from_slice(&[0xff; 8]).expect(&rt, "memory");
+    long.extend_from_slice(&[2, 0, 0, 0, 0, 0, 0, 0, 1, 0])
+        .expect(&rt, "memory");
+    assert_eq!(rt;
+        said(alloc, &long).expect(&rt, "memory").as_str(),
+        "damaged at 34"
+    );
 }

@@ -9,7 +9,7 @@ use crate::adding::{block_next, commit_next, one_sequence, reserve_next};
 use commit_log::{Journal, Log, LogFault, Reservation};
 use disk_model::{Disk, MemDisk, StopDisk};
 use std::alloc::Global;
-use std::test::Fail;
+use std::process::Abort;
 use svc_values::{Entry, Ltxid, Name, Pieces, Settings, Text, Writes};
 
 // A record that is to be added: a commit or a block, each by the parts of its identifier, a reservation, or a line.
@@ -144,64 +144,66 @@ fn only(place: usize, count: usize) -> [usize; 4]
 }
 
 // What the payload stands in: an open gate, its length, and behind it a closed gate.
-fn framed(alloc: Global, payload: &[u8]) -> Result<Vec<u8>, Fail> {
-    let mut bytes = vec![in alloc; 1]?;
-    bytes.extend_from_slice(&(payload.len() as u64).to_be_bytes())?;
-    bytes.extend_from_slice(payload)?;
-    bytes.push(0)?;
-    Ok(bytes)
+fn framed(rt: &impl Abort, alloc: Global, payload: &[u8]) -> Vec<u8> {
+    let mut bytes = vec![in alloc; 1].expect(rt, "memory");
+    bytes
+        .extend_from_slice(&(payload.len() as u64).to_be_bytes())
+        .expect(rt, "memory");
+    bytes.extend_from_slice(payload).expect(rt, "memory");
+    bytes.push(0).expect(rt, "memory");
+    bytes
 }
 
 // The bytes that the call of the kind at this place adds, with the closed gate in front of which they came.
-fn added_by(alloc: Global, place: usize) -> Result<Vec<u8>, Fail>
+fn added_by(rt: &impl Abort, alloc: Global, place: usize) -> Vec<u8>
     requires { place < 4 }
 {
     let mut disk = MemDisk::new(alloc);
-    Log::create(alloc, &mut disk, &one_sequence(alloc)?)?;
-    let (mut log, journal) = Log::open(alloc, &mut disk, 0)?;
+    Log::create(alloc, &mut disk, &one_sequence(rt, alloc)).expect(rt, "a store");
+    let (mut log, journal) = Log::open(alloc, &mut disk, 0).expect(rt, "a store");
     let before = disk.bytes().len();
-    add(alloc, &mut log, &mut disk, &journal, KINDS[place])?;
+    add(alloc, &mut log, &mut disk, &journal, KINDS[place]).expect(rt, "an answer");
     let behind = disk.bytes().get(before - 1..).unwrap_or_default();
-    Ok(behind.to_vec(alloc)?)
+    behind.to_vec(alloc).expect(rt, "memory")
 }
 
 #[test]
-fn each_call_adds_the_bytes_of_its_record(rt: HostRuntime) -> Result<(), Fail> {
+fn each_call_adds_the_bytes_of_its_record(rt: HostRuntime) {
     let alloc = rt.alloc();
     for (place, payload) in PAYLOADS.into_iter().enumerate() {
         assert_eq!(rt;
-            added_by(alloc, place)?,
-            framed(alloc, payload)?,
+            added_by(&rt, alloc, place),
+            framed(&rt, alloc, payload),
             "{:?}",
             KINDS[place]
         );
     }
-    Ok(())
 }
 
 // What the journal has after a call that is stopped after so many writes and syncs, and a crash; and whether the log was
 // live behind the call, and how many records it counted.
 fn left_by(
+    rt: &impl Abort,
     alloc: Global,
     place: usize,
     stop: u64,
     pick: u8,
-) -> Result<([usize; 4], bool, u64), Fail>
+) -> ([usize; 4], bool, u64)
     requires place { place < 4 }
     requires pick { pick < 4 }
 {
     let mut disk = MemDisk::new(alloc);
-    Log::create(alloc, &mut disk, &one_sequence(alloc)?)?;
-    let (mut log, journal) = Log::open(alloc, &mut disk, 0)?;
+    Log::create(alloc, &mut disk, &one_sequence(rt, alloc)).expect(rt, "a store");
+    let (mut log, journal) = Log::open(alloc, &mut disk, 0).expect(rt, "a store");
     disk.stop_after(Some(stop));
     let _ = add(alloc, &mut log, &mut disk, &journal, KINDS[place]);
     disk.crash(pick);
-    let left = Log::read(alloc, &mut disk)?;
-    Ok((counts(&left), log.is_live(), log.count()))
+    let left = Log::read(alloc, &mut disk).expect(rt, "a journal");
+    (counts(&left), log.is_live(), log.count())
 }
 
 #[test]
-fn a_stop_in_each_device_call_of_each_kind(rt: HostRuntime) -> Result<(), Fail> {
+fn a_stop_in_each_device_call_of_each_kind(rt: HostRuntime) {
     let alloc = rt.alloc();
     for (stop, left) in [
         (0, [0, 0, 0, 0]),
@@ -212,7 +214,7 @@ fn a_stop_in_each_device_call_of_each_kind(rt: HostRuntime) -> Result<(), Fail> 
     ] {
         for (place, kind) in KINDS.into_iter().enumerate() {
             for pick in 0..4 {
-                let (found, live, count) = left_by(alloc, place, stop, pick)?;
+                let (found, live, count) = left_by(&rt, alloc, place, stop, pick);
                 let expected = only(place, left[pick as usize]);
                 assert_eq!(rt; found, expected, "{kind:?}, stop {stop}, pick {pick}");
                 assert_eq!(rt; live, stop == 4, "{kind:?}, stop {stop}");
@@ -224,7 +226,6 @@ fn a_stop_in_each_device_call_of_each_kind(rt: HostRuntime) -> Result<(), Fail> 
             }
         }
     }
-    Ok(())
 }
 
 // Records in the order in which they are tried on one store, and whether each may come next.
@@ -254,22 +255,21 @@ const TRIED: [(Next, bool); 18] = [
 ];
 
 #[test]
-fn records_that_may_come_next_and_others(rt: HostRuntime) -> Result<(), Fail> {
+fn records_that_may_come_next_and_others(rt: HostRuntime) {
     let alloc = rt.alloc();
     let mut disk = MemDisk::new(alloc);
-    Log::create(alloc, &mut disk, &one_sequence(alloc)?)?;
-    let (mut log, _) = Log::open(alloc, &mut disk, 0)?;
+    Log::create(alloc, &mut disk, &one_sequence(&rt, alloc)).expect(&rt, "a store");
+    let (mut log, _) = Log::open(alloc, &mut disk, 0).expect(&rt, "a store");
     'tried: for (next, may) in TRIED {
-        let journal = Log::read(alloc, &mut disk)?;
+        let journal = Log::read(alloc, &mut disk).expect(&rt, "a journal");
         assert_eq!(rt;
-            add(alloc, &mut log, &mut disk, &journal, next)?,
+            add(alloc, &mut log, &mut disk, &journal, next).expect(&rt, "an answer"),
             may,
             "{next:?}"
         );
     }
-    let journal = Log::read(alloc, &mut disk)?;
+    let journal = Log::read(alloc, &mut disk).expect(&rt, "a journal");
     assert_eq!(rt; counts(&journal), [2, 2, 2, 2]);
     assert!(rt; journal.blocked.as_slice() == [ltxid(1, 1, 1), ltxid(7, 3, 0)].as_slice());
     assert_eq!(rt; log.count(), 11);
-    Ok(())
 }

@@ -5,7 +5,6 @@ use crate::opening::{no_tables, open_with};
 use commit_log::{Log, LogFault};
 use disk_model::{MemDisk, StopDisk};
 use std::alloc::Global;
-use std::test::Fail;
 
 // The last opening and the horizon of a store after its second opening, with the horizon 2, which is stopped after so many
 // writes and syncs and then crashed.
@@ -24,7 +23,7 @@ fn opened_by(alloc: Global, stop: u64, pick: u8) -> Result<(u64, u64), LogFault>
 }
 
 #[test]
-fn a_stop_in_each_call_of_an_opening(rt: HostRuntime) -> Result<(), Fail> {
+fn a_stop_in_each_call_of_an_opening(rt: HostRuntime) {
     let alloc = rt.alloc();
     let (none, first, both) = ((1, 0), (1, 2), (2, 2));
     for (stop, left) in [
@@ -40,11 +39,10 @@ fn a_stop_in_each_call_of_an_opening(rt: HostRuntime) -> Result<(), Fail> {
     ] {
         for pick in 0..4 {
             assert_eq!(rt;
-                opened_by(alloc, stop, pick)?,
+                opened_by(alloc, stop, pick).expect(&rt, "a store"),
                 left[pick as usize],
                 "stop {stop}, pick {pick}"
             );
         }
     }
-    Ok(())
 }

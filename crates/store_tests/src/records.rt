@@ -4,7 +4,6 @@ ghost use Rattle.std.specs.Prelude.{◌<◌};
 use disk_model::{MemDisk, StopDisk};
 use redo_store::{Redo, RedoFault, Walk};
 use std::alloc::{AllocError, Global};
-use std::test::Fail;
 
 // The payloads of the records after an append of the byte aa that is stopped after so many writes and syncs and then
 // crashed, each in hexadecimal digits and followed by a comma.
@@ -33,7 +32,7 @@ fn spelled(alloc: Global, records: &[Vec<u8>]) -> Result<String, AllocError> {
 }
 
 #[test]
-fn a_stop_in_each_call_of_an_append(rt: HostRuntime) -> Result<(), Fail> {
+fn a_stop_in_each_call_of_an_append(rt: HostRuntime) {
     let alloc = rt.alloc();
     for (stop, left) in [
         (0, ["", "", "", ""]),
@@ -44,13 +43,12 @@ fn a_stop_in_each_call_of_an_append(rt: HostRuntime) -> Result<(), Fail> {
     ] {
         for pick in 0..4 {
             assert_eq!(rt;
-                left_by(alloc, stop, pick)?.as_str(),
+                left_by(alloc, stop, pick).expect(&rt, "a store").as_str(),
                 left[pick as usize],
                 "stop {stop}, pick {pick}"
             );
         }
     }
-    Ok(())
 }
 
 // A store with the records aa and bbcc, by hand.
@@ -72,11 +70,12 @@ fn opened(alloc: Global, bytes: &[u8]) -> Result<String, AllocError> {
 }
 
 #[test]
-fn a_store_cut_short_is_damaged_at_the_gate_that_lost_its_record(
-    rt: HostRuntime,
-) -> Result<(), Fail> {
+fn a_store_cut_short_is_damaged_at_the_gate_that_lost_its_record(rt: HostRuntime) {
     let alloc = rt.alloc();
-    assert_eq!(rt; opened(alloc, &TWO)?.as_str(), "aa,bbcc,");
+    assert_eq!(rt;
+        opened(alloc, &TWO).expect(&rt, "memory").as_str(),
+        "aa,bbcc,"
+    );
     for (count, _) in TWO.iter().enumerate() {
         let place = if count < 8 {
             0
@@ -86,16 +85,15 @@ fn a_store_cut_short_is_damaged_at_the_gate_that_lost_its_record(
             18
         };
         assert_eq!(rt;
-            opened(alloc, &TWO[..count])?,
-            format!(in alloc; "damaged at {place}")?,
+            opened(alloc, &TWO[..count]).expect(&rt, "memory"),
+            format!(in alloc; "damaged at {place}").expect(&rt, "memory"),
             "{count} bytes"
         );
     }
-    Ok(())
 }
 
 #[test]
-fn bytes_and_what_an_opening_says_of_them(rt: HostRuntime) -> Result<(), Fail> {
+fn bytes_and_what_an_opening_says_of_them(rt: HostRuntime) {
     let alloc = rt.alloc();
     let cases: [(&[u8], &str); 10] = [
         // Another front.
@@ -124,31 +122,30 @@ fn bytes_and_what_an_opening_says_of_them(rt: HostRuntime) -> Result<(), Fail> {
         ),
     ];
     for (bytes, said) in cases {
-        assert_eq!(rt; opened(alloc, bytes)?.as_str(), said);
+        assert_eq!(rt; opened(alloc, bytes).expect(&rt, "memory").as_str(), said);
     }
-    Ok(())
 }
 
 #[test]
-fn the_bytes_and_the_number_of_records_that_were_added(rt: HostRuntime) -> Result<(), Fail> {
+fn the_bytes_and_the_number_of_records_that_were_added(rt: HostRuntime) {
     let alloc = rt.alloc();
     let mut disk = MemDisk::new(alloc);
-    Redo::create(&mut disk)?;
+    Redo::create(&mut disk).expect(&rt, "a store");
     assert_eq!(rt; disk.bytes(), b"TGSTORE1\0".as_slice());
-    let (mut redo, _) = Redo::open(alloc, &mut disk)?;
+    let (mut redo, _) = Redo::open(alloc, &mut disk).expect(&rt, "a store");
     assert_eq!(rt; redo.count(), 0);
-    redo.append(&mut disk, &[0xaa])?;
-    redo.append(&mut disk, &[0xbb, 0xcc])?;
+    redo.append(&mut disk, &[0xaa]).expect(&rt, "a record");
+    redo.append(&mut disk, &[0xbb, 0xcc])
+        .expect(&rt, "a record");
     assert!(rt; redo.is_live());
     assert_eq!(rt; redo.count(), 2);
     assert_eq!(rt; disk.bytes(), TWO.as_slice());
-    let (again, _) = Redo::open(alloc, &mut disk)?;
+    let (again, _) = Redo::open(alloc, &mut disk).expect(&rt, "a store");
     assert_eq!(rt; again.count(), 2);
-    Ok(())
 }
 
 #[test]
-fn the_records_gate_by_gate(rt: HostRuntime) -> Result<(), Fail> {
+fn the_records_gate_by_gate(rt: HostRuntime) {
     let alloc = rt.alloc();
     let mut disk = MemDisk::of(alloc, &TWO).expect(&rt, "memory");
     for (gate, payload, next) in [(8, [0xaa].as_slice(), 18), (18, &[0xbb, 0xcc], 29)] {
@@ -159,11 +156,10 @@ fn the_records_gate_by_gate(rt: HostRuntime) -> Result<(), Fail> {
     }
     let closed = Redo::record_at(alloc, &mut disk, 29).expect(&rt, "a read");
     assert!(rt; closed.is_none());
-    Ok(())
 }
 
 #[test]
-fn the_records_behind_the_tail_of_an_earlier_store(rt: HostRuntime) -> Result<(), Fail> {
+fn the_records_behind_the_tail_of_an_earlier_store(rt: HostRuntime) {
     let alloc = rt.alloc();
     let mut earlier = MemDisk::of(alloc, b"TGSTORE1\x01\0\0\0\0\0\0\0\x01\xaa\0").expect(
         &rt, "memory",
@@ -179,11 +175,10 @@ fn the_records_behind_the_tail_of_an_earlier_store(rt: HostRuntime) -> Result<()
         "bbcc,"
     );
     assert_eq!(rt; walk.place(), 29);
-    Ok(())
 }
 
 #[test]
-fn a_payload_of_more_bytes_than_one_call_reads(rt: HostRuntime) -> Result<(), Fail> {
+fn a_payload_of_more_bytes_than_one_call_reads(rt: HostRuntime) {
     let alloc = rt.alloc();
     let mut payload = Vec::new(alloc);
     for number in 0..10_000u32 {
@@ -196,5 +191,4 @@ fn a_payload_of_more_bytes_than_one_call_reads(rt: HostRuntime) -> Result<(), Fa
     let (_, records) = Redo::open(alloc, &mut disk).expect(&rt, "a store");
     assert_eq!(rt; records.len(), 1);
     assert!(rt; records[0] == payload);
-    Ok(())
 }

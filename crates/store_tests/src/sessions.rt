@@ -5,7 +5,7 @@ ghost use Rattle.svc_values.specs.Identifiers.{IsLtxid};
 use ltxid_book::{Book, State};
 use outcome_call::{Verdict, decide};
 use std::alloc::Global;
-use std::test::Fail;
+use std::process::Abort;
 use svc_values::{Entry, Ltxid, NoMemory, Pieces, Settings, Writes};
 
 // The commits of a journal, each with whether its call had no statements: two of the first session of opening 1, and one
@@ -53,18 +53,20 @@ fn told_one_by_one(alloc: Global) -> Result<Book, NoMemory> {
 }
 
 // The same from a journal with this horizon.
-fn told_at_once(alloc: Global, horizon: u64) -> Result<Book, Fail> {
+fn told_at_once(rt: &impl Abort, alloc: Global, horizon: u64) -> Book {
     let mut entries = Vec::new(alloc);
     for (incarnation, session, number, completed) in COMMITS {
-        entries.push(Entry {
-            ltxid: ltxid(incarnation, session, number),
-            completed,
-            settings: Settings::new(alloc),
-            pieces: Pieces::new(alloc),
-            writes: Writes::new(alloc),
-        })?;
+        entries
+            .push(Entry {
+                ltxid: ltxid(incarnation, session, number),
+                completed,
+                settings: Settings::new(alloc),
+                pieces: Pieces::new(alloc),
+                writes: Writes::new(alloc),
+            })
+            .expect(rt, "memory");
     }
-    Ok(Book::of_journal(alloc, horizon, &entries, &[ltxid(1, 1, 2)])?)
+    Book::of_journal(alloc, horizon, &entries, &[ltxid(1, 1, 2)]).expect(rt, "memory")
 }
 
 // The state of each of three sessions.
@@ -91,45 +93,42 @@ const COMMITTED_ONCE: State = State {
 };
 
 #[test]
-fn counts_commits_until_the_block(rt: HostRuntime) -> Result<(), Fail> {
-    let mut book = told_one_by_one(rt.alloc())?;
+fn counts_commits_until_the_block(rt: HostRuntime) {
+    let mut book = told_one_by_one(rt.alloc()).expect(&rt, "memory");
     assert_eq!(rt; states(&book), [BLOCKED, UNTOUCHED, COMMITTED_ONCE]);
     assert!(rt; !book.can_commit(&ltxid(1, 1, 2)));
-    assert!(rt; !commit_next(&mut book, &ltxid(1, 1, 2), true)?);
-    assert!(rt; !block_next(&mut book, &ltxid(1, 1, 2))?);
-    Ok(())
+    assert!(rt; !commit_next(&mut book, &ltxid(1, 1, 2), true).expect(&rt, "memory"));
+    assert!(rt; !block_next(&mut book, &ltxid(1, 1, 2)).expect(&rt, "memory"));
 }
 
 #[test]
-fn forgets_what_is_below_the_greater_horizon(rt: HostRuntime) -> Result<(), Fail> {
-    let mut book = told_one_by_one(rt.alloc())?;
+fn forgets_what_is_below_the_greater_horizon(rt: HostRuntime) {
+    let mut book = told_one_by_one(rt.alloc()).expect(&rt, "memory");
     assert_eq!(rt; book.horizon(), 0);
     for below in [2, 1] {
         book.forget(below);
         assert_eq!(rt; book.horizon(), 2);
         assert_eq!(rt; states(&book), [UNTOUCHED, UNTOUCHED, COMMITTED_ONCE]);
     }
-    assert!(rt; !commit_next(&mut book, &ltxid(1, 1, 0), true)?);
-    assert!(rt; !block_next(&mut book, &ltxid(1, 1, 0))?);
-    Ok(())
+    assert!(rt; !commit_next(&mut book, &ltxid(1, 1, 0), true).expect(&rt, "memory"));
+    assert!(rt; !block_next(&mut book, &ltxid(1, 1, 0)).expect(&rt, "memory"));
 }
 
 #[test]
-fn is_made_from_a_journal(rt: HostRuntime) -> Result<(), Fail> {
+fn is_made_from_a_journal(rt: HostRuntime) {
     let alloc = rt.alloc();
     assert_eq!(rt;
-        states(&told_at_once(alloc, 0)?),
+        states(&told_at_once(&rt, alloc, 0)),
         [BLOCKED, UNTOUCHED, COMMITTED_ONCE]
     );
     assert_eq!(rt;
-        states(&told_at_once(alloc, 2)?),
+        states(&told_at_once(&rt, alloc, 2)),
         [UNTOUCHED, UNTOUCHED, COMMITTED_ONCE]
     );
     assert_eq!(rt;
-        states(&told_at_once(alloc, 3)?),
+        states(&told_at_once(&rt, alloc, 3)),
         [UNTOUCHED, UNTOUCHED, UNTOUCHED]
     );
-    Ok(())
 }
 
 // Identifiers, with their outcome before and after opening 1 is forgotten.
@@ -160,10 +159,10 @@ const OUTCOMES: [((u8, u8, u8), Verdict, Verdict); 9] = [
 const FORGOTTEN: Verdict = Verdict::Forgotten { horizon: 2 };
 
 #[test]
-fn tells_each_line_of_the_outcome_table(rt: HostRuntime) -> Result<(), Fail> {
+fn tells_each_line_of_the_outcome_table(rt: HostRuntime) {
     let alloc = rt.alloc();
-    let kept = told_one_by_one(alloc)?;
-    let mut forgetful = told_one_by_one(alloc)?;
+    let kept = told_one_by_one(alloc).expect(&rt, "memory");
+    let mut forgetful = told_one_by_one(alloc).expect(&rt, "memory");
     forgetful.forget(2);
     for ((incarnation, session, number), before, after) in OUTCOMES {
         let x = ltxid(incarnation.into(), session.into(), number.into());
@@ -178,5 +177,4 @@ fn tells_each_line_of_the_outcome_table(rt: HostRuntime) -> Result<(), Fail> {
             "at {incarnation}, {session}, {number}"
         );
     }
-    Ok(())
 }
