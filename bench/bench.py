@@ -357,7 +357,7 @@ CASES = {
         [(2_000, 80_000, False), (2_000, 80_000, True)], 5
     ),
     "stopped": lambda: document_case("openings that stop", stopped_openings_document, [(1_000, 64), (4_000, 64)]),
-    "alternations": lambda: document_case("crashes and openings of a small store", openings_document, [(2_000, 64), (8_000, 64)]),
+    "alternations": lambda: document_case("crashes and openings of a small store", openings_document, [(2_000, 64), (20_000, 64)]),
     "limits": lambda: document_case("all limits at once", limits_document, [(10_000, 1_000_000), (100_000, 8_300_000)]),
     "answers": lambda: program_case("wire_bench", [["answers", "100000"], ["answers", "1000000"]], "answer"),
     "stream": lambda: program_case("wire_bench", [["stream", "1000000"], ["stream", "4000000"]], "byte"),

@@ -19,6 +19,7 @@ mod Opened
 mod Reaching
 mod Read
 mod Reopening
+mod Renewing
 mod Replied
 mod Second
 mod Served

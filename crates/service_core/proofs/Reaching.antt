@@ -42,7 +42,7 @@ few_first below (Ok Empty) = omega arith
 few_first below (Ok (Begun journal is_opened has_horizon)) = few_rise below journal (rises journal has_horizon below)
 
 -- behind its first records comes the incarnation
-then_opens : (below : ℕ) (so_far : Result SoFar ℕ) (journal : Journal) → journal_in so_far ≡ Ok journal → opening_of below so_far ≡ first_of_opening below so_far ++ kept.Opened (journal.incarnation + 1) ∷ []
+pub then_opens : (below : ℕ) (so_far : Result SoFar ℕ) (journal : Journal) → journal_in so_far ≡ Ok journal → opening_of below so_far ≡ first_of_opening below so_far ++ kept.Opened (journal.incarnation + 1) ∷ []
 then_opens below (Err place) journal is = absurd (cc)
 then_opens below (Ok Empty) journal is = absurd (cc)
 then_opens below (Ok (Begun begun is_opened has_horizon)) journal is =
@@ -61,7 +61,7 @@ fronts (one ∷ []) last (suc (suc zero)) few within = inr (inr refl)
 fronts (one ∷ []) last (suc (suc (suc count))) few within = absurd (omega (arith, within))
 fronts (one ∷ two ∷ more) last count few within = absurd (omega (arith, few))
 
-one_last : (journal : Journal) (first : List Record) (last : Record) → fold with_record journal (first ++ last ∷ []) ≡ with_record (fold with_record journal first) last
+pub one_last : (journal : Journal) (first : List Record) (last : Record) → fold with_record journal (first ++ last ∷ []) ≡ with_record (fold with_record journal first) last
 one_last journal [] last = refl
 one_last journal (one ∷ first) last = one_last (with_record journal one) first last
 

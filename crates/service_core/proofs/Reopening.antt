@@ -4,16 +4,17 @@ use Rattle.std.specs.Prelude.{◌⊎◌, max, Result, Ok, IfOk}
 use Rattle.disk_model.specs.Disk.{DiskState}
 use Rattle.mutable_values.specs.declared.grants.Grants.{Grants}
 use Rattle.mutable_values.specs.declared.source.SeqState.{SeqState}
+use Rattle.mutable_values.specs.Sources.{Opening}
 use Rattle.commit_log.specs.declared.base.BaseSequence.{BaseSequence}
 use Rattle.commit_log.specs.declared.journal.Journal.{Journal}
 use Rattle.commit_log.specs.Growth.{with_opening}
 use Rattle.commit_log.specs.meaning.Journals.{journal_of}
 use Rattle.server_model.specs.meaning.Base.{Sequence}
 use Rattle.server_model.specs.meaning.Core.{sequence_at}
-use Rattle.server_model.specs.Core.{Core as Plain, reopened}
+use Rattle.server_model.specs.Core.{Core as Plain, opening_after, reopened}
 use Rattle.server_model.specs.Runs.{reopened_core, forgetting}
 use Rattle.server_session.specs.declared.shared.Core.{Core}
-use Rattle.server_session.specs.Fits.{sequence_in, sequence_of}
+use Rattle.server_session.specs.Fits.{IsSourceOf, sequence_in, sequence_of}
 use Rattle.server_session.specs.Plain.{IsStored, IsPlain}
 use Rattle.service_core.specs.Opening.{HasOpened, source_of}
 use Rattle.service_core.proofs.Reaching.{forgetting_journal, opened_journal, IsPartOf}
@@ -71,12 +72,16 @@ follows plain journal below reached stored (inr (inl same)) =
 follows plain journal below reached stored (inr (inr same)) =
     record { core = opened_plain plain below; part = inr (inr refl); base = refl; stored = subst (IsStored (opened_plain plain below)) (sym same) (stored_again plain journal below stored) }
 
-source_again : (plain : Plain) (journal : Journal) (below : ℕ) → IsStored plain journal → (opened_plain plain below).opening ≡ source_of (opened_journal journal below)
-source_again plain journal below stored =
-    let sequences : map reopened plain.opening.sequences ≡ (source_of journal).sequences =
-    goes_on_behind plain.opening.sequences ∙ ap (λ (all : List Sequence). map sequence_at all) stored.source.sequences ∙ in_two_steps journal journal.base.sequences in
-    ap (λ (n : ℕ). record { incarnation = n + 1; identifiers = 0; sequences = map reopened plain.opening.sequences }) stored.source.incarnation
+-- the source of a new opening goes on behind the reservations of the journal that the last one had
+pub source_on : (opening : Opening) (journal : Journal) (below : ℕ) → IsSourceOf opening journal → opening_after opening (opening.incarnation + 1) ≡ source_of (opened_journal journal below)
+source_on opening journal below source =
+    let sequences : map reopened opening.sequences ≡ (source_of journal).sequences =
+    goes_on_behind opening.sequences ∙ ap (λ (all : List Sequence). map sequence_at all) source.sequences ∙ in_two_steps journal journal.base.sequences in
+    ap (λ (n : ℕ). record { incarnation = n + 1; identifiers = 0; sequences = map reopened opening.sequences }) source.incarnation
     ∙ ap (λ (all : List SeqState). record { incarnation = journal.incarnation + 1; identifiers = 0; sequences = all }) sequences
+
+source_again : (plain : Plain) (journal : Journal) (below : ℕ) → IsStored plain journal → (opened_plain plain below).opening ≡ source_of (opened_journal journal below)
+source_again plain journal below stored = source_on plain.opening journal below stored.source
 
 -- the journal that was opened
 pub opened_is : (journal : Journal) (below : ℕ) (grants : Grants) (old new : DiskState) (core : Core) → journal_of old.now.seen ≡ Ok journal → (opened : HasOpened below grants old core new) → opened.fits.journal ≡ opened_journal journal below

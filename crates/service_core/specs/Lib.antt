@@ -3,6 +3,7 @@ pub mod Indexed
 pub mod InnerHonest
 pub mod InnerOpening
 pub mod Opening
+pub mod Resting
 pub mod Seeing
 pub mod Shipping
 pub mod Sound

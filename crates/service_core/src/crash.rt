@@ -10,7 +10,8 @@ use disk_model::StopDisk;
 
 impl<D: StopDisk> OneService<D> {
     /// Ends it as a crash does: all connections end, and of what a stopped call stored the disk
-    /// leaves what the pick's remainder by 4 says.
+    /// leaves what the pick's remainder by 4 says. What its sessions shared is kept for the next
+    /// opening where nothing was in flight.
     pub fn fall(&mut self, pick: u8)
         requires live { self.old.notes.is_spent ≡ false }
         requires few { self.old.notes.calls < 2 ^ 48 }
@@ -20,7 +21,7 @@ impl<D: StopDisk> OneService<D> {
         ensures fell { Fell self.old self.new }
     {
         self.disk.crash(pick % 4);
-        self.core = None;
+        self.resting = self.core.take();
         self.held.clear();
         self.notes.is_settled = true;
         self.notes.is_opened = false;

@@ -1,6 +1,7 @@
 //! One service on one store: its sessions, its connections and its disk.
 #![tactic(auto)]
 
+mod again;
 mod asking;
 mod connections;
 mod crash;

@@ -26,10 +26,12 @@ impl<D: StopDisk + Drop> OneService<D> {
         let OneService {
             mut disk,
             core,
+            resting,
             held,
             ..
         } = self;
         drop(core);
+        drop(resting);
         drop(held);
         match Log::read(alloc, &mut disk) {
             Ok(journal) => (Ok(journal), disk),
@@ -56,6 +58,7 @@ impl<D: StopDisk> OneService<D> {
             Ok(journal) => Ok(journal),
             Err(LogFault::Stopped) => {
                 self.core = None;
+                self.resting = None;
                 self.held.clear();
                 Err(ServeFault::Stopped)
             }
@@ -83,6 +86,7 @@ impl<D: StopDisk> OneService<D> {
             Ok(image) => Ok(image),
             Err(ServeFault::Stopped) => {
                 self.core = None;
+                self.resting = None;
                 self.held.clear();
                 Err(ServeFault::Stopped)
             }

@@ -43,6 +43,7 @@ impl<D: StopDisk> OneService<D> {
             disk,
             grants,
             core: None,
+            resting: None,
             held: Connections::new(alloc),
             notes: Notes {
                 is_settled: true,

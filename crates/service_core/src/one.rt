@@ -22,6 +22,8 @@ pub struct OneService<D: StopDisk> {
     pub(crate) disk: D,
     pub(crate) grants: Grants,
     pub(crate) core: Option<Core>,
+    /// While it is down: what its sessions shared, if it fell with nothing in flight.
+    pub(crate) resting: Option<Core>,
     pub(crate) held: Connections,
     pub(crate) notes: Notes,
     /// The columns by which the tables of each opening are indexed.
@@ -33,13 +35,13 @@ pub struct OneService<D: StopDisk> {
 
 impl<D: StopDisk> Model for OneService<D> {
     ghost use Rattle.service_core.specs.Within.{Within};
-    ghost use Rattle.service_core.specs.Sound.{IsKept};
+    ghost use Rattle.service_core.specs.Resting.{IsKeptWith};
 
     ghost Value = { Within };
 
     ghost view = { λ s. record { grants = s.grants; disk = D.state s.disk; core = s.core; held = s.held; notes = s.notes } };
 
-    ghost invariant = { λ s. IsKept (record { grants = s.grants; disk = D.state s.disk; core = s.core; held = s.held; notes = s.notes }) };
+    ghost invariant = { λ s. IsKeptWith (record { grants = s.grants; disk = D.state s.disk; core = s.core; held = s.held; notes = s.notes }) s.resting };
 }
 
 impl<D: StopDisk> OneService<D> {

@@ -1,5 +1,5 @@
-//! A new opening of a store: the tables, the book and the source of values that its journal says.
-ghost use Rattle.std.specs.Prelude.{◌≡◌, IfOk, IsErrOf, IsTrue, map};
+//! A new opening of a store.
+ghost use Rattle.std.specs.Prelude.{◌≡◌, IfOk, IfSome, IsErrOf, IsTrue, map};
 ghost use Rattle.std.specs.List.{list_all};
 ghost use Rattle.disk_model.specs.Disk.{Meanwhile, IsSettled, LoweredByLess, Caused};
 ghost use Rattle.table_store.specs.Given.{is_index_of};
@@ -9,7 +9,9 @@ ghost use Rattle.commit_log.specs.Growth.{IsGrown, opening_of};
 ghost use Rattle.service_core.specs.Indexed.{FitBase};
 ghost use Rattle.service_core.specs.Opening.{CanOpen, HasOpened, source_of as source_def, stop_of};
 ghost use Rattle.service_core.specs.InnerOpening.{CanGoOn, IsCoreOf, ends_low, state_of};
+ghost use Rattle.service_core.specs.Resting.{Rests};
 
+use crate::again::open_again;
 use commit_log::laws::keeps_journal;
 use commit_log::{BaseSequence, Journal, Log, LogFault};
 use disk_model::Disk;
@@ -25,16 +27,19 @@ use table_store::IndexOf;
 /// Opens the store of a disk for the next incarnation, with the outcomes of all incarnations below
 /// `horizon` forgotten: what its sessions share.
 ///
-/// It reads the whole store, n log n for n rows and entries, and keeps no entry. Each sequence goes on
-/// behind its last reservation.
+/// What a crash left at rest goes on, at the cost of `open_again`. With nothing at rest it reads the
+/// whole store, n log n for n rows and entries, and keeps no entry: the tables, the book and the source
+/// of values are those that the journal says. Each sequence goes on behind its last reservation.
 pub(crate) fn open<D: Disk>(
     alloc: Global,
     disk: &mut D,
+    resting: Option<Core>,
     horizon: u64,
     grants: Grants,
     indexes: &[IndexOf],
 ) -> Result<Core, ServeFault>
     requires settled { IsSettled (D.state disk.old) }
+    requires resting { IfSome resting (Rests grants (D.state disk.old)) }
     requires journal { CanOpen horizon (D.state disk.old).now.seen }
     requires indexes { FitBase indexes.now (D.state disk.old).now.seen }
     ensures opened { IfOk result (λ core. HasOpened horizon grants (D.state disk.old) core (D.state disk.new)) }
@@ -47,6 +52,9 @@ pub(crate) fn open<D: Disk>(
     ensures stop { IsErrOf result ServeFault.Stopped → LoweredByLess (stop_of horizon (D.state disk.old).now.seen) (D.state disk.old).stop (D.state disk.new).stop }
     ensures cause { Caused (IsErrOf result ServeFault.Stopped) (D.state disk.old) (D.state disk.new) }
 {
+    if let Some(core) = resting {
+        return open_again(disk, core, horizon);
+    }
     keeps_journal();
     match Log::open(alloc, disk, horizon) {
         Ok((log, journal)) => Ok(core_of(alloc, log, journal, grants, indexes)?),

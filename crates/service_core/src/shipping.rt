@@ -82,6 +82,7 @@ impl<D: StopDisk> OneService<D> {
         ensures { self.new ≡ halted self.old }
     {
         self.core = None;
+        self.resting = None;
         self.held.clear();
         self.notes.is_settled = false;
     }

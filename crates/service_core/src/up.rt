@@ -33,7 +33,15 @@ impl<D: StopDisk> OneService<D> {
         raises_horizon();
         self.notes.kept = self.disk.left();
         self.notes.calls += 1;
-        match open(alloc, &mut self.disk, horizon, self.grants, &self.indexes) {
+        let resting = self.resting.take();
+        match open(
+            alloc,
+            &mut self.disk,
+            resting,
+            horizon,
+            self.grants,
+            &self.indexes,
+        ) {
             Ok(core) => {
                 self.core = Some(core);
                 self.notes.is_opened = true;

@@ -1,5 +1,20 @@
+use Rattle.std.proofs.Common.{Option, subst}
+use Rattle.std.specs.Prelude.{IfOk, IfSome}
+use Rattle.mutable_values.specs.declared.grants.Grants.{Grants}
+use Rattle.server_session.specs.declared.shared.Core.{Core}
+use Rattle.service_core.specs.Opening.{HasOpened}
+use Rattle.service_core.specs.Resting.{Rests}
 use Rattle.service_core.proofs.GoingOn.{goes_on, has_opened, indexes_go_on}
 use Rattle.service_core.proofs.opening.open.Goals as goal
+
+pub open_again-requires-clause-fits : goal.open_again-requires-clause-fits
+open_again-requires-clause-fits g c =
+    let rests = subst (λ (o : Option Core). IfSome o (Rests c.args.grants (g.D.Disk.state c.args.disk.now))) c.in-Some.is c.requires.resting in rests.fits
+
+pub returns-in-Some-clause-opened : goal.returns-in-Some-clause-opened
+returns-in-Some-clause-opened g c =
+    let rests = subst (λ (o : Option Core). IfSome o (Rests c.args.grants (g.D.Disk.state c.args.disk.now))) c.in-Some.is c.requires.resting in
+    subst (λ (grants : Grants). IfOk c.open_again.result (λ again. HasOpened c.args.horizon grants (g.D.Disk.state c.args.disk.now) again (g.D.Disk.state c.open_again.new.disk))) rests.granted c.open_again.ensures.opened
 
 pub core_of-requires-clause-journal : goal.core_of-requires-clause-journal
 core_of-requires-clause-journal g c = goes_on (g.D.Disk.state c.open.new.disk).now.seen c.in-Ok.journal c.keeps_journal.ensures.keeps c.in-Ok.ensures.journal (g.met.D.Disk.bounded c.open.new.disk)

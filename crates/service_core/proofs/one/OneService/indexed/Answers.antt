@@ -10,9 +10,12 @@ use Rattle.service_core.proofs.Made.{made_soundly, made_seen, made_new}
 use Rattle.service_core.proofs.one.OneService.indexed.Goals as goal
 
 pub invariant_of-result-2 : goal.invariant_of-result-2
-invariant_of-result-2 g c live =
-    let disk = g.D.Disk.state c.args.disk in
-    subst (λ (h : Held). IsDown disk h first_notes) (sym c.new.ensures) (made_soundly disk c.args.grants c.requires.begins (g.met.D.Disk.reads_now c.args.disk))
+invariant_of-result-2 g c = record {
+  kept = λ live.
+      let disk = g.D.Disk.state c.args.disk in
+      subst (λ (h : Held). IsDown disk h first_notes) (sym c.new.ensures) (made_soundly disk c.args.grants c.requires.begins (g.met.D.Disk.reads_now c.args.disk));
+  at_rest = λ live settled down. tt;
+}
 
 pub returns-clause-seen : goal.returns-clause-seen
 returns-clause-seen g c journal reads =

@@ -1,4 +1,4 @@
-use Rattle.std.proofs.Common.{◌∙◌, ◌<◌, ◌+◌, false, sym, ap, subst, arith}
+use Rattle.std.proofs.Common.{◌≡◌, ◌∙◌, ◌<◌, ◌+◌, Bool, true, false, sym, ap, subst, arith}
 use Rattle.std.specs.Prelude.{Ok, Err}
 use Rattle.disk_model.specs.Disk.{DiskState}
 use Rattle.redo_store.proofs.Offered.{few_behind}
@@ -9,6 +9,7 @@ use Rattle.service_core.specs.Sound.{IsDown, IsSoundWithin}
 use Rattle.service_core.specs.Within.{Within}
 use Rattle.service_core.proofs.Read.{answered_same}
 use Rattle.service_core.proofs.Second.{failed_soundly, read_soundly, reads_whole}
+use Rattle.service_core.proofs.Falling.{still_rests}
 use Rattle.service_core.proofs.one.OneService.records_from.Goals as goal
 
 pub behind-requires : goal.behind-requires
@@ -17,19 +18,25 @@ behind-requires g c =
     omega (arith, stands.counted, few_behind c.args.place stands.records _ stands.stands)
 
 pub invariant_of-self : goal.invariant_of-self
-invariant_of-self g c live =
-    let old : Within = record { grants = c.self.inside.grants; disk = g.D.Disk.state c.self.inside.disk; core = c.self.inside.core; held = c.self.inside.held; notes = c.self.inside.notes } in
-    let end = g.D.Disk.state c.rest.new.disk in
-    let once = subst (λ (w : Within). w.notes.reads < w.notes.calls) (sym c.self.view_is) c.requires.once in
-    subst (λ (d : DiskState). IsSoundWithin (record (read_once old) { disk = d })) (sym (answered_same c.in-Ok.payloads _ old.disk end c.in-Ok.ensures.only_reads)) (read_soundly old once (c.self.invariant live))
+invariant_of-self g c = record {
+  kept = λ live.
+      let old : Within = record { grants = c.self.inside.grants; disk = g.D.Disk.state c.self.inside.disk; core = c.self.inside.core; held = c.self.inside.held; notes = c.self.inside.notes } in
+      let end = g.D.Disk.state c.rest.new.disk in
+      let once = subst (λ (w : Within). w.notes.reads < w.notes.calls) (sym c.self.view_is) c.requires.once in
+      subst (λ (d : DiskState). IsSoundWithin (record (read_once old) { disk = d })) (sym (answered_same c.in-Ok.payloads _ old.disk end c.in-Ok.ensures.only_reads)) (read_soundly old once (c.self.invariant.kept live));
+  at_rest = λ live settled down. still_rests c.self.inside.grants (g.D.Disk.state c.self.inside.disk) (g.D.Disk.state c.rest.new.disk) c.self.inside.resting (c.in-Ok.ensures.only_reads.same.now) (c.self.invariant.at_rest live settled down);
+}
 
 pub invariant_of-self-in-Err-Stopped : goal.invariant_of-self-in-Err-Stopped
-invariant_of-self-in-Err-Stopped g c live =
-    let old : Within = record { grants = c.self.inside.grants; disk = g.D.Disk.state c.self.inside.disk; core = c.self.inside.core; held = c.self.inside.held; notes = c.self.inside.notes } in
-    let end = g.D.Disk.state c.rest.new.disk in
-    let once = subst (λ (w : Within). w.notes.reads < w.notes.calls) (sym c.self.view_is) c.requires.once in
-    subst (λ (h : Held). IsDown end h (record old.notes { is_settled = false; reads = old.notes.reads + 1 })) (sym c.clear.ensures)
-    (failed_soundly old end once (c.self.invariant live) _ (ap Err c.in-Err-Stopped.field-0-is) c.in-Err-Stopped.ensures.only_reads (g.met.D.Disk.reads_now c.rest.new.disk))
+invariant_of-self-in-Err-Stopped g c = record {
+  kept = λ live.
+      let old : Within = record { grants = c.self.inside.grants; disk = g.D.Disk.state c.self.inside.disk; core = c.self.inside.core; held = c.self.inside.held; notes = c.self.inside.notes } in
+      let end = g.D.Disk.state c.rest.new.disk in
+      let once = subst (λ (w : Within). w.notes.reads < w.notes.calls) (sym c.self.view_is) c.requires.once in
+      subst (λ (h : Held). IsDown end h (record old.notes { is_settled = false; reads = old.notes.reads + 1 })) (sym c.clear.ensures)
+      (failed_soundly old end once (c.self.invariant.kept live) _ (ap Err c.in-Err-Stopped.field-0-is) c.in-Err-Stopped.ensures.only_reads (g.met.D.Disk.reads_now c.rest.new.disk));
+  at_rest = λ live settled down. absurd (let clash : ◌≡◌ {A = Bool} false true = settled in cc);
+}
 
 pub unreachable-requires : goal.unreachable-requires
 unreachable-requires g c =
@@ -37,4 +44,4 @@ unreachable-requires g c =
     let live = ap (λ (w : Within). w.notes.is_spent) c.self.view_is ∙ c.requires.live in
     let stands = subst (λ (w : Within). StandsAt c.args.from c.args.place (bytes_in w)) (sym c.self.view_is) c.requires.stands in
     let read = c.behind.ensures.read old.disk.now.seen stands.records stands.stands stands.counted in
-    reads_whole old (c.self.invariant live) (g.met.D.Disk.reads_now c.self.inside.disk) c.in-Err-Damaged.field-0-0 (c.in-Err-Damaged.ensures.damaged c.in-Err-Damaged.field-0-0 (ap Err c.in-Err-Damaged.field-0-is) stands.records read)
+    reads_whole old (c.self.invariant.kept live) (g.met.D.Disk.reads_now c.self.inside.disk) c.in-Err-Damaged.field-0-0 (c.in-Err-Damaged.ensures.damaged c.in-Err-Damaged.field-0-0 (ap Err c.in-Err-Damaged.field-0-is) stands.records read)

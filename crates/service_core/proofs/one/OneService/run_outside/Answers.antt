@@ -20,12 +20,15 @@ use Rattle.service_core.proofs.one.OneService.run_outside.Goals as goal
 use Rattle.service_core.proofs.Indexing.{still_fit}
 
 pub invariant_of-self : goal.invariant_of-self
-invariant_of-self g c live =
-    let old : Within = record { grants = c.self.inside.grants; disk = g.D.Disk.state c.self.inside.disk; core = c.self.inside.core; held = c.self.inside.held; notes = c.self.inside.notes } in
-    let end = g.D.Disk.state c.begin_and_run.new.disk in
-    let is_up : old.core ≡ Some c.in-Some.core = sym c.in-Some.ensures.value in
-    let session_is : c.new-session.result ≡ made_session c.in-Some.core old.notes = c.new-session.ensures.seen ∙ ap begins c.next_ltxid-ltxid.ensures.next in
-    runs_soundly old c.in-Some.core is_up (c.self.invariant live) c.args.now c.new-session.result session_is c.next_ltxid-ltxid.new.made c.next_ltxid-ltxid.ensures.counted end c.args.calls.now c.in-Ok.runs c.begin_and_run.new.core c.begin_and_run.new.session c.in-Ok.ensures
+invariant_of-self g c = record {
+  kept = λ live.
+      let old : Within = record { grants = c.self.inside.grants; disk = g.D.Disk.state c.self.inside.disk; core = c.self.inside.core; held = c.self.inside.held; notes = c.self.inside.notes } in
+      let end = g.D.Disk.state c.begin_and_run.new.disk in
+      let is_up : old.core ≡ Some c.in-Some.core = sym c.in-Some.ensures.value in
+      let session_is : c.new-session.result ≡ made_session c.in-Some.core old.notes = c.new-session.ensures.seen ∙ ap begins c.next_ltxid-ltxid.ensures.next in
+      runs_soundly old c.in-Some.core is_up (c.self.invariant.kept live) c.args.now c.new-session.result session_is c.next_ltxid-ltxid.new.made c.next_ltxid-ltxid.ensures.counted end c.args.calls.now c.in-Ok.runs c.begin_and_run.new.core c.begin_and_run.new.session c.in-Ok.ensures;
+  at_rest = λ live settled down. absurd (let clash : ◌≡◌ {A = Bool} true false = down in cc);
+}
 
 pub returns-in-Ok-clause-ran : goal.returns-in-Ok-clause-ran
 returns-in-Ok-clause-ran g c =
@@ -34,9 +37,9 @@ returns-in-Ok-clause-ran g c =
     let is_up : old.core ≡ Some c.in-Some.core = sym c.in-Some.ensures.value in
     let session_is : c.new-session.result ≡ made_session c.in-Some.core old.notes = c.new-session.ensures.seen ∙ ap begins c.next_ltxid-ltxid.ensures.next in
     let live = ap (λ (w : Within). w.notes.is_spent) c.self.view_is ∙ c.requires.live in
-    let new = with_ran old c.in-Some.core is_up (c.self.invariant live) c.args.now c.new-session.result session_is c.next_ltxid-ltxid.new.made c.next_ltxid-ltxid.ensures.counted end c.args.calls.now c.in-Ok.runs c.begin_and_run.new.core c.begin_and_run.new.session c.in-Ok.ensures c.next_ltxid-ltxid.new.made in
+    let new = with_ran old c.in-Some.core is_up (c.self.invariant.kept live) c.args.now c.new-session.result session_is c.next_ltxid-ltxid.new.made c.next_ltxid-ltxid.ensures.counted end c.args.calls.now c.in-Ok.runs c.begin_and_run.new.core c.begin_and_run.new.session c.in-Ok.ensures c.next_ltxid-ltxid.new.made in
     subst (λ (w : Within). Goes (SeesIn w) (SeesIn new) (λ before behind. RanOutside before c.args.calls.now c.args.now c.next_ltxid-ltxid.result (map run_of c.in-Ok.runs) behind)) {x = old} c.self.view_is
-    (runs_so old c.in-Some.core is_up (c.self.invariant live) c.args.now c.new-session.result session_is c.next_ltxid-ltxid.new.made c.next_ltxid-ltxid.ensures.counted end c.args.calls.now c.in-Ok.runs c.begin_and_run.new.core c.begin_and_run.new.session c.in-Ok.ensures c.next_ltxid-ltxid.result c.next_ltxid-ltxid.ensures.next live)
+    (runs_so old c.in-Some.core is_up (c.self.invariant.kept live) c.args.now c.new-session.result session_is c.next_ltxid-ltxid.new.made c.next_ltxid-ltxid.ensures.counted end c.args.calls.now c.in-Ok.runs c.begin_and_run.new.core c.begin_and_run.new.session c.in-Ok.ensures c.next_ltxid-ltxid.result c.next_ltxid-ltxid.ensures.next live)
 
 pub returns-in-Ok-clause-base : goal.returns-in-Ok-clause-base
 returns-in-Ok-clause-base g c =
@@ -45,16 +48,19 @@ returns-in-Ok-clause-base g c =
     let is_up : old.core ≡ Some c.in-Some.core = sym c.in-Some.ensures.value in
     let session_is : c.new-session.result ≡ made_session c.in-Some.core old.notes = c.new-session.ensures.seen ∙ ap begins c.next_ltxid-ltxid.ensures.next in
     let live = ap (λ (w : Within). w.notes.is_spent) c.self.view_is ∙ c.requires.live in
-    subst (λ (w : Within). HaveOneBase (bytes_in w) end.now.seen) {x = old} c.self.view_is (runs_on_base old c.in-Some.core is_up (c.self.invariant live) c.args.now c.new-session.result session_is c.next_ltxid-ltxid.new.made c.next_ltxid-ltxid.ensures.counted end c.args.calls.now c.in-Ok.runs c.begin_and_run.new.core c.begin_and_run.new.session c.in-Ok.ensures)
+    subst (λ (w : Within). HaveOneBase (bytes_in w) end.now.seen) {x = old} c.self.view_is (runs_on_base old c.in-Some.core is_up (c.self.invariant.kept live) c.args.now c.new-session.result session_is c.next_ltxid-ltxid.new.made c.next_ltxid-ltxid.ensures.counted end c.args.calls.now c.in-Ok.runs c.begin_and_run.new.core c.begin_and_run.new.session c.in-Ok.ensures)
 
 pub invariant_of-self-in-Err-Stopped : goal.invariant_of-self-in-Err-Stopped
-invariant_of-self-in-Err-Stopped g c live =
-    let old : Within = record { grants = c.self.inside.grants; disk = g.D.Disk.state c.self.inside.disk; core = c.self.inside.core; held = c.self.inside.held; notes = c.self.inside.notes } in
-    let end = g.D.Disk.state c.begin_and_run.new.disk in
-    let is_up : old.core ≡ Some c.in-Some.core = sym c.in-Some.ensures.value in
-    let session_is : c.new-session.result ≡ made_session c.in-Some.core old.notes = c.new-session.ensures.seen ∙ ap begins c.next_ltxid-ltxid.ensures.next in
-    let halted = subst (λ (f : ServeFault). RunsFrom c.args.now c.args.calls.now (Err f) c.new-session.result c.in-Some.core old.disk c.begin_and_run.new.session c.begin_and_run.new.core end) c.in-Err-Stopped.field-0-is c.in-Err-Stopped.ensures in
-    halts_soundly old c.in-Some.core is_up (c.self.invariant live) c.args.now c.new-session.result session_is c.next_ltxid-ltxid.new.made c.next_ltxid-ltxid.ensures.counted end halted (g.met.D.Disk.reads_now c.begin_and_run.new.disk) c.take.new.self c.take.ensures.after c.clear.new.self c.clear.ensures
+invariant_of-self-in-Err-Stopped g c = record {
+  kept = λ live.
+      let old : Within = record { grants = c.self.inside.grants; disk = g.D.Disk.state c.self.inside.disk; core = c.self.inside.core; held = c.self.inside.held; notes = c.self.inside.notes } in
+      let end = g.D.Disk.state c.begin_and_run.new.disk in
+      let is_up : old.core ≡ Some c.in-Some.core = sym c.in-Some.ensures.value in
+      let session_is : c.new-session.result ≡ made_session c.in-Some.core old.notes = c.new-session.ensures.seen ∙ ap begins c.next_ltxid-ltxid.ensures.next in
+      let halted = subst (λ (f : ServeFault). RunsFrom c.args.now c.args.calls.now (Err f) c.new-session.result c.in-Some.core old.disk c.begin_and_run.new.session c.begin_and_run.new.core end) c.in-Err-Stopped.field-0-is c.in-Err-Stopped.ensures in
+      halts_soundly old c.in-Some.core is_up (c.self.invariant.kept live) c.args.now c.new-session.result session_is c.next_ltxid-ltxid.new.made c.next_ltxid-ltxid.ensures.counted end halted (g.met.D.Disk.reads_now c.begin_and_run.new.disk) c.take.new.self c.take.ensures.after c.clear.new.self c.clear.ensures;
+  at_rest = λ live settled down. absurd (let clash : ◌≡◌ {A = Bool} false true = settled in cc);
+}
 
 pub returns-in-Err-Stopped-clause-ran : goal.returns-in-Err-Stopped-clause-ran
 returns-in-Err-Stopped-clause-ran g c =
@@ -65,9 +71,9 @@ returns-in-Err-Stopped-clause-ran g c =
     let halted = subst (λ (f : ServeFault). RunsFrom c.args.now c.args.calls.now (Err f) c.new-session.result c.in-Some.core old.disk c.begin_and_run.new.session c.begin_and_run.new.core end) c.in-Err-Stopped.field-0-is c.in-Err-Stopped.ensures in
     let live = ap (λ (w : Within). w.notes.is_spent) c.self.view_is ∙ c.requires.live in
     let few = subst (λ n. n < 2 ^ 48) (sym (ap (λ (w : Within). w.notes.calls) c.self.view_is)) c.requires.few in
-    let new = with_halted old c.in-Some.core is_up (c.self.invariant live) c.args.now c.new-session.result session_is c.next_ltxid-ltxid.new.made c.next_ltxid-ltxid.ensures.counted end halted (g.met.D.Disk.reads_now c.begin_and_run.new.disk) c.take.new.self c.take.ensures.after c.clear.new.self c.clear.ensures c.take.new.self c.clear.new.self c.next_ltxid-ltxid.new.made in
+    let new = with_halted old c.in-Some.core is_up (c.self.invariant.kept live) c.args.now c.new-session.result session_is c.next_ltxid-ltxid.new.made c.next_ltxid-ltxid.ensures.counted end halted (g.met.D.Disk.reads_now c.begin_and_run.new.disk) c.take.new.self c.take.ensures.after c.clear.new.self c.clear.ensures c.take.new.self c.clear.new.self c.next_ltxid-ltxid.new.made in
     subst (λ (w : Within). Goes (SeesIn w) (SeesIn new) (λ before behind. StoppedOutside before (LeavesIn new) behind)) {x = old} c.self.view_is
-    (halts old c.in-Some.core is_up (c.self.invariant live) c.args.now c.new-session.result session_is c.next_ltxid-ltxid.new.made c.next_ltxid-ltxid.ensures.counted end halted (g.met.D.Disk.reads_now c.begin_and_run.new.disk) c.take.new.self c.take.ensures.after c.clear.new.self c.clear.ensures live few)
+    (halts old c.in-Some.core is_up (c.self.invariant.kept live) c.args.now c.new-session.result session_is c.next_ltxid-ltxid.new.made c.next_ltxid-ltxid.ensures.counted end halted (g.met.D.Disk.reads_now c.begin_and_run.new.disk) c.take.new.self c.take.ensures.after c.clear.new.self c.clear.ensures live few)
 
 pub returns-in-Err-Stopped-clause-base : goal.returns-in-Err-Stopped-clause-base
 returns-in-Err-Stopped-clause-base g c =
@@ -77,7 +83,7 @@ returns-in-Err-Stopped-clause-base g c =
     let session_is : c.new-session.result ≡ made_session c.in-Some.core old.notes = c.new-session.ensures.seen ∙ ap begins c.next_ltxid-ltxid.ensures.next in
     let halted = subst (λ (f : ServeFault). RunsFrom c.args.now c.args.calls.now (Err f) c.new-session.result c.in-Some.core old.disk c.begin_and_run.new.session c.begin_and_run.new.core end) c.in-Err-Stopped.field-0-is c.in-Err-Stopped.ensures in
     let live = ap (λ (w : Within). w.notes.is_spent) c.self.view_is ∙ c.requires.live in
-    subst (λ (w : Within). HaveOneBase (bytes_in w) end.now.seen) {x = old} c.self.view_is (halts_on_base old c.in-Some.core is_up (c.self.invariant live) c.args.now c.new-session.result session_is c.next_ltxid-ltxid.new.made c.next_ltxid-ltxid.ensures.counted end halted (g.met.D.Disk.reads_now c.begin_and_run.new.disk) c.take.new.self c.take.ensures.after c.clear.new.self c.clear.ensures)
+    subst (λ (w : Within). HaveOneBase (bytes_in w) end.now.seen) {x = old} c.self.view_is (halts_on_base old c.in-Some.core is_up (c.self.invariant.kept live) c.args.now c.new-session.result session_is c.next_ltxid-ltxid.new.made c.next_ltxid-ltxid.ensures.counted end halted (g.met.D.Disk.reads_now c.begin_and_run.new.disk) c.take.new.self c.take.ensures.after c.clear.new.self c.clear.ensures)
 
 pub returns-in-Ok-clause-grew : goal.returns-in-Ok-clause-grew
 returns-in-Ok-clause-grew g c =
@@ -86,11 +92,11 @@ returns-in-Ok-clause-grew g c =
     let is_up : old.core ≡ Some c.in-Some.core = sym c.in-Some.ensures.value in
     let session_is : c.new-session.result ≡ made_session c.in-Some.core old.notes = c.new-session.ensures.seen ∙ ap begins c.next_ltxid-ltxid.ensures.next in
     let live = ap (λ (w : Within). w.notes.is_spent) c.self.view_is ∙ c.requires.live in
-    let new = with_ran old c.in-Some.core is_up (c.self.invariant live) c.args.now c.new-session.result session_is c.next_ltxid-ltxid.new.made c.next_ltxid-ltxid.ensures.counted end c.args.calls.now c.in-Ok.runs c.begin_and_run.new.core c.begin_and_run.new.session c.in-Ok.ensures c.next_ltxid-ltxid.new.made in
+    let new = with_ran old c.in-Some.core is_up (c.self.invariant.kept live) c.args.now c.new-session.result session_is c.next_ltxid-ltxid.new.made c.next_ltxid-ltxid.ensures.counted end c.args.calls.now c.in-Ok.runs c.begin_and_run.new.core c.begin_and_run.new.session c.in-Ok.ensures c.next_ltxid-ltxid.new.made in
     let made = made_session c.in-Some.core old.notes in
     let ran = subst (λ (s : Session). HasRunFrom c.args.now c.args.calls.now c.in-Ok.runs s c.in-Some.core old.disk c.begin_and_run.new.session c.begin_and_run.new.core end) session_is c.in-Ok.ensures in
     subst (λ (w : Within). GrewBy w new) {x = old} c.self.view_is
-    (calls_grew old new c.in-Some.core is_up (c.self.invariant live) (record { calls = refl; reads = refl; live = live; grants = refl }) c.args.now made c.args.calls.now c.in-Ok.runs c.begin_and_run.new.session c.begin_and_run.new.core ran refl refl)
+    (calls_grew old new c.in-Some.core is_up (c.self.invariant.kept live) (record { calls = refl; reads = refl; live = live; grants = refl }) c.args.now made c.args.calls.now c.in-Ok.runs c.begin_and_run.new.session c.begin_and_run.new.core ran refl refl)
 
 pub returns-in-Err-Stopped-clause-broke : goal.returns-in-Err-Stopped-clause-broke
 returns-in-Err-Stopped-clause-broke g c none =
@@ -101,11 +107,11 @@ returns-in-Err-Stopped-clause-broke g c none =
     let halted = subst (λ (f : ServeFault). RunsFrom c.args.now c.args.calls.now (Err f) c.new-session.result c.in-Some.core old.disk c.begin_and_run.new.session c.begin_and_run.new.core end) c.in-Err-Stopped.field-0-is c.in-Err-Stopped.ensures in
     let live = ap (λ (w : Within). w.notes.is_spent) c.self.view_is ∙ c.requires.live in
     let few = subst (λ n. n < 2 ^ 48) (sym (ap (λ (w : Within). w.notes.calls) c.self.view_is)) c.requires.few in
-    let new = with_halted old c.in-Some.core is_up (c.self.invariant live) c.args.now c.new-session.result session_is c.next_ltxid-ltxid.new.made c.next_ltxid-ltxid.ensures.counted end halted (g.met.D.Disk.reads_now c.begin_and_run.new.disk) c.take.new.self c.take.ensures.after c.clear.new.self c.clear.ensures c.take.new.self c.clear.new.self c.next_ltxid-ltxid.new.made in
+    let new = with_halted old c.in-Some.core is_up (c.self.invariant.kept live) c.args.now c.new-session.result session_is c.next_ltxid-ltxid.new.made c.next_ltxid-ltxid.ensures.counted end halted (g.met.D.Disk.reads_now c.begin_and_run.new.disk) c.take.new.self c.take.ensures.after c.clear.new.self c.clear.ensures c.take.new.self c.clear.new.self c.next_ltxid-ltxid.new.made in
     let made = made_session c.in-Some.core old.notes in
     let stopped = subst (λ (s : Session). HasHaltedFrom c.args.now s c.in-Some.core old.disk end) session_is halted in
     subst (λ (w : Within). Broke w new) {x = old} c.self.view_is
-    (calls_broke old new c.in-Some.core is_up (c.self.invariant live) (record { calls = refl; reads = refl; live = live; grants = refl }) c.args.now made stopped (ap is_some c.take.ensures.after) refl)
+    (calls_broke old new c.in-Some.core is_up (c.self.invariant.kept live) (record { calls = refl; reads = refl; live = live; grants = refl }) c.args.now made stopped (ap is_some c.take.ensures.after) refl)
 
 pub returns-in-Ok-clause-halted : goal.returns-in-Ok-clause-halted
 returns-in-Ok-clause-halted g c grown =
@@ -114,11 +120,11 @@ returns-in-Ok-clause-halted g c grown =
     let is_up : old.core ≡ Some c.in-Some.core = sym c.in-Some.ensures.value in
     let session_is : c.new-session.result ≡ made_session c.in-Some.core old.notes = c.new-session.ensures.seen ∙ ap begins c.next_ltxid-ltxid.ensures.next in
     let live = ap (λ (w : Within). w.notes.is_spent) c.self.view_is ∙ c.requires.live in
-    let new = with_ran old c.in-Some.core is_up (c.self.invariant live) c.args.now c.new-session.result session_is c.next_ltxid-ltxid.new.made c.next_ltxid-ltxid.ensures.counted end c.args.calls.now c.in-Ok.runs c.begin_and_run.new.core c.begin_and_run.new.session c.in-Ok.ensures c.next_ltxid-ltxid.new.made in
+    let new = with_ran old c.in-Some.core is_up (c.self.invariant.kept live) c.args.now c.new-session.result session_is c.next_ltxid-ltxid.new.made c.next_ltxid-ltxid.ensures.counted end c.args.calls.now c.in-Ok.runs c.begin_and_run.new.core c.begin_and_run.new.session c.in-Ok.ensures c.next_ltxid-ltxid.new.made in
     let made = made_session c.in-Some.core old.notes in
     let ran = subst (λ (s : Session). HasRunFrom c.args.now c.args.calls.now c.in-Ok.runs s c.in-Some.core old.disk c.begin_and_run.new.session c.begin_and_run.new.core end) session_is c.in-Ok.ensures in
     subst (λ (w : Within). Goes (SeesIn w) (IsHaltedAs w new) (λ before behind. HaltedCalls before (StandsBetween w new) behind)) {x = old} c.self.view_is
-    (ran_halts old c.in-Some.core is_up (c.self.invariant live) c.args.now new live refl c.args.calls.now c.in-Ok.runs c.begin_and_run.new.session c.begin_and_run.new.core ran)
+    (ran_halts old c.in-Some.core is_up (c.self.invariant.kept live) c.args.now new live refl c.args.calls.now c.in-Ok.runs c.begin_and_run.new.session c.begin_and_run.new.core ran)
 
 pub returns-in-Err-Stopped-clause-halted : goal.returns-in-Err-Stopped-clause-halted
 returns-in-Err-Stopped-clause-halted g c none =
@@ -129,11 +135,11 @@ returns-in-Err-Stopped-clause-halted g c none =
     let halted = subst (λ (f : ServeFault). RunsFrom c.args.now c.args.calls.now (Err f) c.new-session.result c.in-Some.core old.disk c.begin_and_run.new.session c.begin_and_run.new.core end) c.in-Err-Stopped.field-0-is c.in-Err-Stopped.ensures in
     let live = ap (λ (w : Within). w.notes.is_spent) c.self.view_is ∙ c.requires.live in
     let few = subst (λ n. n < 2 ^ 48) (sym (ap (λ (w : Within). w.notes.calls) c.self.view_is)) c.requires.few in
-    let new = with_halted old c.in-Some.core is_up (c.self.invariant live) c.args.now c.new-session.result session_is c.next_ltxid-ltxid.new.made c.next_ltxid-ltxid.ensures.counted end halted (g.met.D.Disk.reads_now c.begin_and_run.new.disk) c.take.new.self c.take.ensures.after c.clear.new.self c.clear.ensures c.take.new.self c.clear.new.self c.next_ltxid-ltxid.new.made in
+    let new = with_halted old c.in-Some.core is_up (c.self.invariant.kept live) c.args.now c.new-session.result session_is c.next_ltxid-ltxid.new.made c.next_ltxid-ltxid.ensures.counted end halted (g.met.D.Disk.reads_now c.begin_and_run.new.disk) c.take.new.self c.take.ensures.after c.clear.new.self c.clear.ensures c.take.new.self c.clear.new.self c.next_ltxid-ltxid.new.made in
     let made = made_session c.in-Some.core old.notes in
     let stopped = subst (λ (s : Session). HasHaltedFrom c.args.now s c.in-Some.core old.disk end) session_is halted in
     subst (λ (w : Within). Goes (SeesIn w) (IsHaltedAs w new) (λ before behind. HaltedCalls before (StandsBetween w new) behind)) {x = old} c.self.view_is
-    (outside_halts old c.in-Some.core is_up (c.self.invariant live) c.args.now new live refl stopped)
+    (outside_halts old c.in-Some.core is_up (c.self.invariant.kept live) c.args.now new live refl stopped)
 
 pub returns-in-Err-Stopped-clause-uncounted : goal.returns-in-Err-Stopped-clause-uncounted
 returns-in-Err-Stopped-clause-uncounted g c lacked = absurd (let clash : ◌≡◌ {A = Result OutsideNote ServeFault} (Err fault.Stopped) (Err fault.NoMemory) = lacked in cc)
@@ -145,7 +151,7 @@ invariant_of-self-inside g c =
     let is_up : old.core ≡ Some c.in-Some.core = sym c.in-Some.ensures.value in
     let session_is : c.new-session.result ≡ made_session c.in-Some.core old.notes = c.new-session.ensures.seen ∙ ap begins c.next_ltxid-ltxid.ensures.next in
     let unspent = ap (λ (w : Within). w.notes.is_spent) c.self.view_is ∙ c.requires.live in
-    (λ spent. absurd (let clash : ◌≡◌ {A = Bool} true false = sym spent ∙ unspent in cc), (λ live. still_fit old c.self.inside.indexes.items end.now.seen (c.self.invariant live) (runs_on_base old c.in-Some.core is_up (c.self.invariant live) c.args.now c.new-session.result session_is c.next_ltxid-ltxid.new.made c.next_ltxid-ltxid.ensures.counted end c.args.calls.now c.in-Ok.runs c.begin_and_run.new.core c.begin_and_run.new.session c.in-Ok.ensures) (c.self.inside.fitting live), tt))
+    (λ spent. absurd (let clash : ◌≡◌ {A = Bool} true false = sym spent ∙ unspent in cc), (λ live. still_fit old c.self.inside.indexes.items end.now.seen (c.self.invariant.kept live) (runs_on_base old c.in-Some.core is_up (c.self.invariant.kept live) c.args.now c.new-session.result session_is c.next_ltxid-ltxid.new.made c.next_ltxid-ltxid.ensures.counted end c.args.calls.now c.in-Ok.runs c.begin_and_run.new.core c.begin_and_run.new.session c.in-Ok.ensures) (c.self.inside.fitting live), tt))
 
 pub invariant_of-self-inside-in-Err-Stopped : goal.invariant_of-self-inside-in-Err-Stopped
 invariant_of-self-inside-in-Err-Stopped g c =
@@ -154,4 +160,4 @@ invariant_of-self-inside-in-Err-Stopped g c =
     let is_up : old.core ≡ Some c.in-Some.core = sym c.in-Some.ensures.value in
     let session_is : c.new-session.result ≡ made_session c.in-Some.core old.notes = c.new-session.ensures.seen ∙ ap begins c.next_ltxid-ltxid.ensures.next in
     let halted = subst (λ (f : ServeFault). RunsFrom c.args.now c.args.calls.now (Err f) c.new-session.result c.in-Some.core old.disk c.begin_and_run.new.session c.begin_and_run.new.core end) c.in-Err-Stopped.field-0-is c.in-Err-Stopped.ensures in
-    (λ spent. ap is_some c.take.ensures.after, (λ live. still_fit old c.self.inside.indexes.items end.now.seen (c.self.invariant live) (halts_on_base old c.in-Some.core is_up (c.self.invariant live) c.args.now c.new-session.result session_is c.next_ltxid-ltxid.new.made c.next_ltxid-ltxid.ensures.counted end halted (g.met.D.Disk.reads_now c.begin_and_run.new.disk) c.take.new.self c.take.ensures.after c.clear.new.self c.clear.ensures) (c.self.inside.fitting live), tt))
+    (λ spent. ap is_some c.take.ensures.after, (λ live. still_fit old c.self.inside.indexes.items end.now.seen (c.self.invariant.kept live) (halts_on_base old c.in-Some.core is_up (c.self.invariant.kept live) c.args.now c.new-session.result session_is c.next_ltxid-ltxid.new.made c.next_ltxid-ltxid.ensures.counted end halted (g.met.D.Disk.reads_now c.begin_and_run.new.disk) c.take.new.self c.take.ensures.after c.clear.new.self c.clear.ensures) (c.self.inside.fitting live), tt))
