@@ -1,2 +1,3 @@
-pub mod Living
 pub mod Knowing
+pub mod Living
+pub mod Ready

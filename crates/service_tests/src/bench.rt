@@ -9,7 +9,7 @@ ghost use Rattle.server_model.specs.ServiceCalls.{ends_session};
 
 use crate::frames::{Says, frame, ltxid};
 use crate::known::Known;
-use crate::said::{of_down, of_journal, of_outside, of_verdict, words};
+use crate::said::{of_down, of_journal, of_kept, of_outside, of_verdict, words};
 use commit_log::{Journal, Log, LogFault};
 use disk_model::MemDisk;
 use mutable_values::Grants;
@@ -57,7 +57,7 @@ impl<S: Service + Drop> Model for Bench<S> {
 }
 
 /// What a store with these bytes holds; and the place of the damage, if they are no store.
-fn read(rt: &impl Abort, alloc: Global, bytes: &[u8]) -> Result<Journal, u64>
+pub fn read(rt: &impl Abort, alloc: Global, bytes: &[u8]) -> Result<Journal, u64>
     ensures { IfOk result (λ journal. journal_of bytes.now ≡ Ok journal) }
 {
     let mut disk = MemDisk::of(alloc, bytes).expect(rt, "a disk");
@@ -78,11 +78,7 @@ pub fn over(
     let journal = read(rt, alloc, bytes)?;
     assert!(rt; journal.incarnation < 1 << 62);
     let disk = MemDisk::of(alloc, bytes).expect(rt, "a disk");
-    Ok(Bench {
-        alloc,
-        service: OneService::new(alloc, disk, grants),
-        known: Known::new(),
-    })
+    Ok(Bench::new(alloc, OneService::new(alloc, disk, grants)))
 }
 
 /// A service on the store with these bytes, opened with the horizon 0.
@@ -109,12 +105,31 @@ fn goes_on(frame: &Up, told: &Option<Down>) -> bool
 }
 
 impl<S: Service + Drop> Bench<S> {
+    ghost use Rattle.service_tests.specs.Facts.{none_called};
+    ghost use Rattle.service_tests.specs.Knows.{Knows};
+
+    /// A service on which no call was made.
+    pub fn new(alloc: Global, service: S) -> Self
+        requires { Knows none_called (S.state service) (S.sees service) }
+    {
+        Bench {
+            alloc,
+            service,
+            known: Known::new(),
+        }
+    }
+
     pub fn is_up(&self) -> bool {
         self.service.is_up()
     }
 
     pub fn incarnation(&self) -> u64 {
         self.service.incarnation()
+    }
+
+    /// Whether a crash may take a store away.
+    pub fn may_lose_a_store(&self) -> bool {
+        self.known.is_opened()
     }
 
     /// Makes a connection, 1 or 2.
@@ -244,17 +259,29 @@ impl<S: Service + Drop> Bench<S> {
         image
     }
 
-    /// What the store holds: its opening, its horizon, the identifiers of its entries, those that are blocked, the ends of
-    /// its reservations and its lines.
-    pub fn holds(&mut self, rt: &impl Abort) -> String {
+    /// What is read of the store.
+    fn stored(&mut self, rt: &impl Abort) -> Journal {
         assert!(rt; self.known.may_call());
         match self.service.journal(self.alloc) {
             Ok(journal) => {
                 self.known.called();
-                of_journal(rt, self.alloc, &journal)
+                journal
             }
             Err(fault) => panic!(rt; "{fault}"),
         }
+    }
+
+    /// What the store holds: its opening, its horizon, the identifiers of its entries, those that are blocked, the ends of
+    /// its reservations and its lines.
+    pub fn holds(&mut self, rt: &impl Abort) -> String {
+        let journal = self.stored(rt);
+        of_journal(rt, self.alloc, &journal)
+    }
+
+    /// The same without its opening.
+    pub fn keeps(&mut self, rt: &impl Abort) -> String {
+        let journal = self.stored(rt);
+        of_kept(rt, self.alloc, &journal)
     }
 
     /// The same, told by the service at its end.

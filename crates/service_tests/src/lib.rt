@@ -13,6 +13,8 @@ mod crashes;
 #[cfg(test)]
 mod draws;
 #[cfg(test)]
+mod failures;
+#[cfg(test)]
 mod frames;
 #[cfg(test)]
 mod images;
@@ -26,6 +28,10 @@ mod order;
 mod outcomes;
 #[cfg(test)]
 mod outsiders;
+#[cfg(test)]
+mod pairing;
+#[cfg(test)]
+mod pairs;
 #[cfg(test)]
 mod said;
 #[cfg(test)]

@@ -236,17 +236,22 @@ fn add_lines(rt: &impl Abort, text: &mut String, lines: &[Text]) {
     }
 }
 
-/// What a journal holds: its opening, its horizon, the identifiers of its entries, those that are blocked, the ends of
-/// its reservations and its lines.
-pub fn of_journal(rt: &impl Abort, alloc: Global, journal: &Journal) -> String {
-    let incarnation = journal.incarnation;
+/// What a journal holds beside its opening: its horizon, the identifiers of its entries, those that are blocked, the ends
+/// of its reservations and its lines.
+pub fn of_kept(rt: &impl Abort, alloc: Global, journal: &Journal) -> String {
     let horizon = journal.horizon;
-    let mut text = format!(in alloc; "opened {incarnation}, horizon {horizon}").expect(
-        rt, "a text",
-    );
+    let mut text = format!(in alloc; "horizon {horizon}").expect(rt, "a text");
     add_entries(rt, alloc, &mut text, journal.entries.as_slice());
     add_blocks(rt, alloc, &mut text, journal.blocked.as_slice());
     add_reservations(rt, alloc, &mut text, journal.reserved.as_slice());
     add_lines(rt, &mut text, journal.alerts.as_slice());
+    text
+}
+
+/// What a journal holds: its opening, and the rest.
+pub fn of_journal(rt: &impl Abort, alloc: Global, journal: &Journal) -> String {
+    let incarnation = journal.incarnation;
+    let mut text = format!(in alloc; "opened {incarnation}, ").expect(rt, "a text");
+    add(rt, &mut text, &of_kept(rt, alloc, journal));
     text
 }

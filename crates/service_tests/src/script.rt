@@ -25,6 +25,7 @@ pub enum Does {
     Add(i64),
     Count,
     Show(&'static [Asks]),
+    ShowCommit(&'static [Asks]),
     ShowLang,
     Commit,
     SetLang,
@@ -115,7 +116,7 @@ fn statement(rt: &impl Abort, alloc: Global, does: Does) -> Option<Statement> {
 }
 
 fn statements(rt: &impl Abort, alloc: Global, does: Does) -> Statements {
-    if let Does::Show(asked) = does {
+    if let Does::Show(asked) | Does::ShowCommit(asked) = does {
         return show_each(rt, alloc, asked);
     }
     let mut statements = Statements::new(alloc);
@@ -129,7 +130,10 @@ fn statements(rt: &impl Abort, alloc: Global, does: Does) -> Statements {
 fn work(rt: &impl Abort, alloc: Global, does: Does) -> Call
     ensures { IsMade result }
 {
-    let commit = matches!(does, Does::InsertCommit(_) | Does::Commit);
+    let commit = matches!(
+        does,
+        Does::InsertCommit(_) | Does::ShowCommit(_) | Does::Commit
+    );
     Call::work(statements(rt, alloc, does), commit).expect(rt, "a call")
 }
 

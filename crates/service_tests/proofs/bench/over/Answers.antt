@@ -1,17 +1,14 @@
-use Rattle.std.proofs.Common.{◌≡◌, ◌∙◌, sym, ap, subst, rules}
+use Rattle.std.proofs.Common.{◌≡◌, ◌∙◌, ap, rules}
 use Rattle.std.specs.Prelude.{Ok}
 use Rattle.disk_model.specs.Disk.{DiskState, new_disk}
 use Rattle.disk_model.specs.Mem.{mem_state}
 use Rattle.commit_log.specs.meaning.Journals.{journal_of}
-use Rattle.service_core.specs.Seeing.{SeesIn, state_in}
-use Rattle.service_tests.specs.Facts.{Facts}
-use Rattle.service_tests.specs.Knows.{Knows}
 use Rattle.service_tests.proofs.Knowing.{new_knows}
 use Rattle.service_tests.proofs.bench.over.Goals as goal
 
-pub invariant_of-result : goal.invariant_of-result
-invariant_of-result g c =
+pub new-requires-2 : goal.new-requires-2
+new-requires-2 g c =
     let state : mem_state c.expect-disk.result ≡ new_disk c.args.bytes.now = search rules in
     let reads : journal_of (mem_state c.expect-disk.result).now.seen ≡ Ok c.in_ok-journal.journal = ap (λ (s : DiskState). journal_of s.now.seen) state ∙ c.in_ok-journal.ensures in
     let new = c.new.ensures.seen c.in_ok-journal.journal reads in
-    subst (λ (f : Facts). Knows f (state_in c.new.result) (SeesIn c.new.result)) (sym c.new-2.ensures) (new_knows _ new.0 new.1)
+    new_knows _ new.0 new.1

@@ -2,7 +2,7 @@ use Rattle.std.proofs.Common.{sym, subst}
 use Rattle.service_tests.specs.Facts.{Facts, called}
 use Rattle.service_tests.specs.Knows.{Knows}
 use Rattle.service_tests.proofs.Knowing.{looked_tells, went}
-use Rattle.service_tests.proofs.bench.Bench.holds.Goals as goal
+use Rattle.service_tests.proofs.bench.Bench.stored.Goals as goal
 
 pub invariant_of-self : goal.invariant_of-self
 invariant_of-self g c =
