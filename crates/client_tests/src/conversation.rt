@@ -23,17 +23,12 @@ pub const LIMITS: Clocked = Clocked {
 };
 
 /// A step, where the driver takes this input.
-fn step<R: BoundRule + Copy>(
-    rt: &impl Abort,
-    driver: &mut Driver<R>,
-    input: &Input,
-    now: u64,
-) -> Act
+fn step<R: BoundRule + Copy>(rt: &impl Abort, driver: &mut Driver<R>, input: Input, now: u64) -> Act
     requires past { ArePast driver.old.talk now }
-    requires ltxids { HasLtxids input.now }
+    requires ltxids { HasLtxids input }
     ensures { ArePast driver.new.talk now }
 {
-    assert!(rt; driver.may_come(input, now));
+    assert!(rt; driver.may_come(&input, now));
     driver.step(input, now).expect(rt, "a step")
 }
 
@@ -68,7 +63,7 @@ fn goes_on<R: BoundRule + Copy>(
         stays_past();
         now = *tick;
         let input = input(rt, alloc, *comes);
-        let act = step(rt, driver, &input, now);
+        let act = step(rt, driver, input, now);
         if !are_done(rt, alloc, &act, expected, calls) {
             return (false, now);
         }

@@ -1,5 +1,5 @@
 -- What a step of a driver keeps, whatever phase follows.
-use Rattle.std.proofs.Common.{◌≡◌, ℕ, zero, suc, ◌+◌, ◌≤◌, ◌<◌, Bool, true, false, List, [], ◌∷◌, ◌++◌, length, drop, Option, Some, IfSome, subst, arith}
+use Rattle.std.proofs.Common.{◌≡◌, ℕ, zero, suc, ◌+◌, ◌≤◌, ◌<◌, Bool, true, false, List, [], ◌∷◌, ◌++◌, length, drop, Option, Some, IfSome, refl, subst, arith}
 use Rattle.std.specs.Prelude.{slice_get, max}
 use Rattle.std.specs.Option.{option_and_then}
 use Rattle.std.specs.List.{AllByRecursion}
@@ -17,7 +17,12 @@ use Rattle.client_model.specs.declared.act.Failed.{Failed}
 use Rattle.client_model.specs.meaning.Terms.{Terms, Talk, Phase, Idle, Unbegun, Queued, Seeking, Greeting, Asked, Running, Replaying}
 use Rattle.client_model.specs.meaning.Talk.{Step, stands, if_alive, closing, ending, fails, ends}
 use Rattle.client_model.specs.Laws.{track_of}
-use Rattle.driver_core.specs.Driving.{queued_at, ArePast}
+use Rattle.client_model.specs.Conversation.{is_gone_next}
+use Rattle.client_model.specs.declared.act.Hold.{Hold}
+use Rattle.client_model.specs.declared.act.Hold.TheVariants.{Keep, GiveBack, Drop}
+use Rattle.client_model.specs.declared.input.Input.{Input}
+use Rattle.client_model.specs.declared.input.Input.TheVariants.{Start, Waiting, Lent, Opened, TryFailed, Took, Gone}
+use Rattle.driver_core.specs.Driving.{queued_at, ArePast, tells_end, loses_next}
 use Rattle.driver_core.specs.InnerSound.{IsTracked, HoldsLtxids, HasTry, IsSound}
 
 -- LISTS -------------------------------------------------------------------------------------------
@@ -104,3 +109,18 @@ fails_kept terms talk now alive shown failed r = idle_kept terms talk now (closi
 
 pub ends_kept : (terms : Terms) (talk : Talk) (now : ℕ) (alive : Bool) (shown : Option Shown) → Rests talk now → Kept terms now (ends talk alive shown)
 ends_kept terms talk now alive shown r = idle_kept terms talk now (ending alive shown) r (if_alive_made alive (up.End ∷ []) (tt, tt))
+
+-- LOSSES ------------------------------------------------------------------------------------------
+
+-- a loss comes next where a frame told of it and the request goes on
+pub gone_next_so : (input : Input) (hold : Hold) → loses_next (tells_end input) hold ≡ is_gone_next input hold
+gone_next_so Start hold = refl
+gone_next_so Waiting hold = refl
+gone_next_so (Lent connection ltxid) hold = refl
+gone_next_so (Opened connection) hold = refl
+gone_next_so TryFailed hold = refl
+gone_next_so (Took frame true) hold = refl
+gone_next_so (Took frame false) Keep = refl
+gone_next_so (Took frame false) GiveBack = refl
+gone_next_so (Took frame false) Drop = refl
+gone_next_so (Gone event) hold = refl

@@ -1,5 +1,5 @@
 -- What a driver holds, as it is seen.
-use Rattle.std.specs.Prelude.{◌≤◌, ℕ, Bool, [], Option, None}
+use Rattle.std.specs.Prelude.{◌≤◌, ℕ, Bool, true, false, [], Option, None}
 use Rattle.std.specs.Option.{option_and_then}
 use Rattle.sha2.specs.Sha256.{sha256}
 use Rattle.canon_bytes.specs.meaning.AnswerBytes.{spell_answers}
@@ -8,6 +8,8 @@ use Rattle.request_bounds.specs.Limits.{IsPast}
 use Rattle.request_bounds.specs.meaning.Rules.{Rules}
 use Rattle.svc_values.specs.Identifiers.{IsLtxid}
 use Rattle.svc_values.specs.declared.frame.Down.TheVariants as down
+use Rattle.client_model.specs.declared.act.Hold.{Hold}
+use Rattle.client_model.specs.declared.act.Hold.TheVariants.{Keep}
 use Rattle.client_model.specs.declared.input.Input.{Input}
 use Rattle.client_model.specs.declared.input.Input.TheVariants.{Lent, Took}
 use Rattle.client_model.specs.meaning.Terms.{Terms, Talk, Phase, Idle, Queued}
@@ -51,3 +53,13 @@ HasLtxids (Lent connection ltxid) = IsLtxid ltxid
 HasLtxids (Took (down.Hello ltxid) alive) = IsLtxid ltxid
 HasLtxids (Took (down.Reply answers draws ltxid) alive) = IsLtxid ltxid
 HasLtxids _ = Unit {0}
+
+-- a frame from a connection that has ended
+abbrev pub tells_end : Input → Bool
+tells_end (Took frame false) = true
+tells_end _ = false
+
+-- its loss comes next where the request goes on
+abbrev pub loses_next : Bool → Hold → Bool
+loses_next true Keep = true
+loses_next _ _ = false

@@ -6,7 +6,7 @@ ghost use Rattle.client_model.specs.meaning.Terms.{Idle, requested};
 ghost use Rattle.canon_bytes.specs.UpBytes.{IsMadeUp};
 ghost use Rattle.client_model.specs.meaning.Talk.{wants_of, talk_step};
 ghost use Rattle.client_model.specs.Conversation.{may_come as may_come_def, is_gone as is_gone_def, is_gone_next as is_gone_next_def};
-ghost use Rattle.driver_core.specs.Driving.{terms_of, ArePast, StaysPast, HasLtxids, unasked};
+ghost use Rattle.driver_core.specs.Driving.{terms_of, ArePast, StaysPast, HasLtxids, unasked, tells_end as tells_end_def, loses_next as loses_next_def};
 
 use crate::phase::Phase;
 use crate::request::Request;
@@ -115,33 +115,41 @@ impl<R: BoundRule + Copy> Driver<R> {
     /// caller has to do. After want of memory the driver may only be dropped.
     ///
     /// Frames that go out are copies of what is kept, as the wire takes them. Nothing else is copied but
-    /// what is shown, and the draws of a call that is recorded. Linear in what goes out and comes in.
-    pub fn step(&mut self, input: &Input, now: u64) -> Result<Act, NoMemory>
-        requires wanted { IsTrue (may_come_def self.old.gone_next (wants_of (terms_of (R.rules self.old.rule) self.old.limits self.old.recorded) self.old.talk now) input.now) }
+    /// the draws of a call that is recorded: what is shown is moved out of the reply. Linear in what goes
+    /// out and comes in.
+    pub fn step(&mut self, input: Input, now: u64) -> Result<Act, NoMemory>
+        requires wanted { IsTrue (may_come_def self.old.gone_next (wants_of (terms_of (R.rules self.old.rule) self.old.limits self.old.recorded) self.old.talk now) input) }
         requires past { ArePast self.old.talk now }
-        requires ltxids { HasLtxids input.now }
-        ensures act { IfOk result (λ act. act ≡ (talk_step (terms_of (R.rules self.old.rule) self.old.limits self.old.recorded) self.old.talk input.now now).1) }
-        ensures after { IfOk result (λ act. self.new ≡ record self.old { talk = (talk_step (terms_of (R.rules self.old.rule) self.old.limits self.old.recorded) self.old.talk input.now now).0; gone_next = is_gone_next_def input.now act.hold }) }
+        requires ltxids { HasLtxids input }
+        ensures act { IfOk result (λ act. act ≡ (talk_step (terms_of (R.rules self.old.rule) self.old.limits self.old.recorded) self.old.talk input now).1) }
+        ensures after { IfOk result (λ act. self.new ≡ record self.old { talk = (talk_step (terms_of (R.rules self.old.rule) self.old.limits self.old.recorded) self.old.talk input now).0; gone_next = is_gone_next_def input act.hold }) }
         ensures past { OnOk result (ArePast self.new.talk now) }
         ensures made { IfOk result (λ act. AllByRecursion IsMadeUp act.send) }
     {
         let terms = self.terms;
+        let ends = tells_end(&input);
         let mut request = mem::replace(&mut self.request, Request::none(terms.alloc));
         let phase = mem::replace(&mut self.phase, Phase::Idle);
         let Turn { phase, act } = terms.step(&mut request, phase, input, now)?;
         self.request = request;
         self.phase = phase;
-        self.gone_next = is_gone_next(input, act.hold);
+        self.gone_next = loses_next(ends, act.hold);
         Ok(act)
     }
 }
 
-/// Whether an input tells of a connection that it has ended, so that its `Gone` comes next where the
-/// request goes on.
-fn is_gone_next(input: &Input, hold: Hold) -> bool
-    ensures { result ≡ is_gone_next_def input.now hold }
+/// Whether an input is a frame from a connection that has ended.
+fn tells_end(input: &Input) -> bool
+    ensures { result ≡ tells_end_def input.now }
 {
-    matches!(input, Input::Took { alive: false, .. }) && matches!(hold, Hold::Keep)
+    matches!(input, Input::Took { alive: false, .. })
+}
+
+/// Whether the loss of a connection comes next: it has ended, and the request goes on.
+fn loses_next(ends: bool, hold: Hold) -> bool
+    ensures { result ≡ loses_next_def ends hold }
+{
+    ends && matches!(hold, Hold::Keep)
 }
 
 /// Whether an input tells that the connection has ended.

@@ -24,19 +24,19 @@ use result_digest::digest_of;
 use svc_values::{Answers, Draws, Ltxid, NoMemory, TryCopy, Up};
 
 impl<R: BoundRule + Copy> Terms<R> {
-    /// The reply is shown, and what comes next goes out.
+    /// The reply is shown, as it came, and what comes next goes out.
     pub(crate) fn on_reply(
         &self,
         request: &mut Request,
         live: Live,
-        answers: &Answers,
-        draws: &Draws,
+        answers: Answers,
+        draws: Draws,
         ltxid: Ltxid,
         here: Here,
     ) -> Result<Turn, NoMemory>
         requires made { AllByRecursion IsMade request.old.left.items }
         requires room { live.track.call + 1 < 2 ^ 64 }
-        ensures { IfOk result (λ turn. step_in (rest_of request.new) turn ≡ on_reply_def (terms_of (R.rules self.now.rule) self.now.limits self.now.recorded) (rest_of request.old) live answers.now draws.now ltxid here.alive here.now (next_call (rest_of request.old))) }
+        ensures { IfOk result (λ turn. step_in (rest_of request.new) turn ≡ on_reply_def (terms_of (R.rules self.now.rule) self.now.limits self.now.recorded) (rest_of request.old) live answers draws ltxid here.alive here.now (next_call (rest_of request.old))) }
     {
         let Some(call) = request.take() else {
             return Turn::fail(self.alloc, here.alive, None, Failed::BadPeer { tag: REPLY });
@@ -44,12 +44,12 @@ impl<R: BoundRule + Copy> Terms<R> {
         let after = self.rule.on_reply(answers.as_slice());
         request.settle(self.alloc, self.rule.keeps_settings(), &call, after)?;
         let (track, held) = live.part();
-        let track = self.show(track, call, after, answers, draws)?;
+        let track = self.show(track, call, after, &answers, &draws)?;
         let mut live = held.join(track);
         live.moved(ltxid);
         let shown = Shown {
-            answers: answers.copy(self.alloc)?,
-            draws: draws.copy(self.alloc)?,
+            answers,
+            draws,
             ltxid,
         };
         self.go_on(request, live, here, Before::Nothing, Some(shown))

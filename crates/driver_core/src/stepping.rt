@@ -23,7 +23,7 @@ impl<R: BoundRule + Copy> Terms<R> {
         &self,
         request: &mut Request,
         phase: Phase,
-        input: &Input,
+        input: Input,
         now: u64,
     ) -> Result<Turn, NoMemory>
         requires made { AllByRecursion IsMade request.old.left.items }
@@ -32,7 +32,7 @@ impl<R: BoundRule + Copy> Terms<R> {
         requires past { IsPast (option_and_then (λ track. track.first) (track_of (phase_of phase))) now }
         requires waits { waits_from (phase_of phase) now ≤ now }
         requires tries { request.old.tries + 1 < 2 ^ 64 }
-        ensures { IfOk result (λ turn. step_in (rest_of request.new) turn ≡ talk_step (terms_of (R.rules self.now.rule) self.now.limits self.now.recorded) (talk_of request.old (phase_of phase)) input.now now) }
+        ensures { IfOk result (λ turn. step_in (rest_of request.new) turn ≡ talk_step (terms_of (R.rules self.now.rule) self.now.limits self.now.recorded) (talk_of request.old (phase_of phase)) input now) }
     {
         match input {
             Input::Start => Ok(Turn::quiet(self.alloc, Phase::Queued { from: None })),
@@ -40,7 +40,7 @@ impl<R: BoundRule + Copy> Terms<R> {
             Input::Lent { ltxid, .. } => self.on_hello(
                 request,
                 None,
-                *ltxid,
+                ltxid,
                 Here { alive: true, now },
             ),
             Input::Opened { .. } => {
@@ -52,13 +52,8 @@ impl<R: BoundRule + Copy> Terms<R> {
                 )
             }
             Input::TryFailed => self.on_try_failed(request, phase, now),
-            Input::Took { frame, alive } => self.take(
-                request,
-                phase,
-                frame,
-                Here { alive: *alive, now },
-            ),
-            Input::Gone { event } => Ok(Turn::quiet(self.alloc, phase.lose(*event))),
+            Input::Took { frame, alive } => self.take(request, phase, frame, Here { alive, now }),
+            Input::Gone { event } => Ok(Turn::quiet(self.alloc, phase.lose(event))),
         }
     }
 }

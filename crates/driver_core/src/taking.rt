@@ -5,9 +5,10 @@ ghost use Rattle.std.specs.List.{AllByRecursion};
 ghost use Rattle.svc_values.specs.Calls.{IsMade};
 ghost use Rattle.request_bounds.specs.Limits.{IsPast};
 ghost use Rattle.client_model.specs.Laws.{track_of};
+ghost use Rattle.svc_values.specs.declared.frame.Down.{Down as Frame};
 ghost use Rattle.svc_values.specs.declared.frame.Down.TheVariants.{OutcomeRefused};
 ghost use Rattle.client_model.specs.meaning.Terms.{Terms as WhatIsKept, Talk, Asked as AsksFor, unsubmitted as unsubmitted_def};
-ghost use Rattle.client_model.specs.meaning.Talk.{on_hello as on_hello_def, bad_peer as bad_peer_def, takes};
+ghost use Rattle.client_model.specs.meaning.Talk.{on_hello as on_hello_def, tag_of as tag_of_def, bad_peer as bad_peer_def, takes};
 ghost use Rattle.driver_core.specs.Driving.{terms_of};
 ghost use Rattle.driver_core.specs.Talking.{losing_of, phase_of, talk_of, rest_of, step_in};
 
@@ -67,32 +68,25 @@ impl<R: BoundRule + Copy> Terms<R> {
         }
     }
 
-    /// A frame that no server sends here.
-    fn bad_peer(&self, frame: &Down, here: Here) -> Result<Turn, NoMemory>
-        ensures { (talk : Talk) → IfOk result (λ turn. step_in talk turn ≡ bad_peer_def talk here.alive frame.now) }
+    /// A frame with this tag, which no server sends here.
+    fn bad_peer(&self, tag: u8, here: Here) -> Result<Turn, NoMemory>
+        ensures { (talk : Talk) (frame : Frame) → tag ≡ tag_of_def frame → IfOk result (λ turn. step_in talk turn ≡ bad_peer_def talk here.alive frame) }
     {
-        let tag = tag_of(frame);
         Turn::fail(self.alloc, here.alive, None, Failed::BadPeer { tag })
     }
 
-    /// The outcome is refused with this frame: it is forgotten, or the server is not at one with the
+    /// The outcome is refused with a frame of this tag: it is forgotten, or the server is not at one with the
     /// client on what was committed.
-    fn on_refused(
-        &self,
-        asked: Asked,
-        frame: &Down,
-        ahead: Ahead,
-        here: Here,
-    ) -> Result<Turn, NoMemory>
-        ensures { (terms : WhatIsKept) (talk : Talk) (next : ℕ) → frame.now ≡ OutcomeRefused ahead next → IfOk result (λ turn. step_in talk turn ≡ takes terms talk (AsksFor asked) frame.now here.alive here.now) }
+    fn on_refused(&self, asked: Asked, tag: u8, ahead: Ahead, here: Here) -> Result<Turn, NoMemory>
+        ensures { (terms : WhatIsKept) (talk : Talk) (frame : Frame) (next : ℕ) → tag ≡ tag_of_def frame → frame ≡ OutcomeRefused ahead next → IfOk result (λ turn. step_in talk turn ≡ takes terms talk (AsksFor asked) frame here.alive here.now) }
     {
         match ahead {
             Ahead::Forgotten => {
                 let ltxid = *asked.ltxid();
                 Turn::fail(self.alloc, here.alive, None, Failed::Unknown { ltxid })
             }
-            Ahead::Server => self.bad_peer(frame, here),
-            Ahead::Client => self.bad_peer(frame, here),
+            Ahead::Server => self.bad_peer(tag, here),
+            Ahead::Client => self.bad_peer(tag, here),
         }
     }
 
@@ -102,43 +96,44 @@ impl<R: BoundRule + Copy> Terms<R> {
         &self,
         request: &mut Request,
         phase: Phase,
-        frame: &Down,
+        frame: Down,
         here: Here,
     ) -> Result<Turn, NoMemory>
         requires made { AllByRecursion IsMade request.old.left.items }
         requires room { IfSome (track_of (phase_of phase)) (λ track. track.call + 1 < 2 ^ 64) }
         requires before { IfSome (track_of (phase_of phase)) (λ track. length track.recorder.calls ≤ track.call) }
         requires past { IsPast (option_and_then (λ track. track.first) (track_of (phase_of phase))) here.now }
-        ensures { IfOk result (λ turn. step_in (rest_of request.new) turn ≡ takes (terms_of (R.rules self.now.rule) self.now.limits self.now.recorded) (talk_of request.old (phase_of phase)) (phase_of phase) frame.now here.alive here.now) }
+        ensures { IfOk result (λ turn. step_in (rest_of request.new) turn ≡ takes (terms_of (R.rules self.now.rule) self.now.limits self.now.recorded) (talk_of request.old (phase_of phase)) (phase_of phase) frame here.alive here.now) }
     {
+        let tag = tag_of(&frame);
         match frame {
             Down::Blocked => Ok(Turn::quiet(self.alloc, phase)),
             Down::Refused { .. } => Ok(Turn::quiet(self.alloc, phase)),
             Down::Hello { ltxid } => match phase {
-                Phase::Greeting { lost } => self.on_hello(request, lost, *ltxid, here),
-                _ => self.bad_peer(frame, here),
+                Phase::Greeting { lost } => self.on_hello(request, lost, ltxid, here),
+                _ => self.bad_peer(tag, here),
             },
             Down::OutcomeIs {
                 committed,
                 completed,
             } => match phase {
-                Phase::Asked(asked) => self.on_outcome(
-                    request, asked, *committed, *completed, here,
-                ),
-                _ => self.bad_peer(frame, here),
+                Phase::Asked(asked) => {
+                    self.on_outcome(request, asked, committed, completed, here)
+                }
+                _ => self.bad_peer(tag, here),
             },
             Down::OutcomeRefused { ahead, .. } => match phase {
-                Phase::Asked(asked) => self.on_refused(asked, frame, *ahead, here),
-                _ => self.bad_peer(frame, here),
+                Phase::Asked(asked) => self.on_refused(asked, tag, ahead, here),
+                _ => self.bad_peer(tag, here),
             },
             Down::Reply {
                 answers,
                 draws,
                 ltxid,
             } => match phase {
-                Phase::Running(live) => self.on_reply(request, live, answers, draws, *ltxid, here),
-                Phase::Replaying(replaying) => self.on_repeated(request, replaying, answers, here),
-                _ => self.bad_peer(frame, here),
+                Phase::Running(live) => self.on_reply(request, live, answers, draws, ltxid, here),
+                Phase::Replaying(replaying) => self.on_repeated(request, replaying, &answers, here),
+                _ => self.bad_peer(tag, here),
             },
         }
     }

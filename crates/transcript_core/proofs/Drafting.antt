@@ -1,5 +1,5 @@
 -- A draft that is kept is the report of its steps.
-use Rattle.std.proofs.Common.{◌≡◌, ℕ, ◌<◌, ◌≤◌, Bool, true, false, List, [], ◌∷◌, ◌++◌, Option, Some, None, length, map, fold, refl, sym, ap, subst, ◌∙◌, arith}
+use Rattle.std.proofs.Common.{◌≡◌, ℕ, ◌<◌, ◌≤◌, Bool, true, false, List, [], ◌∷◌, ◌++◌, Option, Some, None, length, map, fold, refl, sym, ap, ap₂, subst, ◌∙◌, arith}
 use Rattle.std.specs.Prelude.{slice_get, nat_lt, filter_map, option_and_then, if◌then◌else◌}
 use Rattle.std.specs.List.{last_or}
 use Rattle.std.proofs.lemmas.Bool.{ltb-true, ltb-false}
@@ -27,7 +27,8 @@ use Rattle.client_model.specs.meaning.Tried.{Trying, trying_of, tries_on, sent_u
 use Rattle.run_clauses.specs.meaning.Reports.{shown_call, told_outcome, reached, report_of, failure_of}
 use Rattle.transcript_core.specs.Attempts as attempts
 use Rattle.transcript_core.specs.Attempts.{AreAttempts}
-use Rattle.transcript_core.specs.Drafts.{Draft, one_more, told_of, hears, shows, asked_in, sends, notes, drafted, IsOf, IsDraft}
+use Rattle.transcript_core.specs.Hearing.{heard_of}
+use Rattle.transcript_core.specs.Drafts.{Draft, one_more, told_of, reached as reached_by, hears, shows, asked_in, sends, notes, drafted, IsOf, IsDraft}
 use Rattle.transcript_core.proofs.OnceEach.{Within}
 use Rattle.transcript_core.proofs.Trying.{heard, frame_sent, sent_within, trying_within, tried_all, before_sends as before_frames}
 
@@ -38,16 +39,16 @@ outcomes_more account draft one is = ap (λ (l : List Outcome). l ++ told_outcom
 
 -- an outcome is of the identifier that the last frame asked for
 outcome_heard : (account : Account) (draft : Draft) (committed completed alive : Bool) (last : Option Up) → account.last ≡ last → IsOf account draft
-    → IsOf (telling.hears_outcome account committed completed last) (hears draft (Took (down.OutcomeIs committed completed) alive))
+    → IsOf (telling.hears_outcome account committed completed last) (hears draft (heard_of (Took (down.OutcomeIs committed completed) alive)))
 outcome_heard account draft committed completed alive last same is = by last same (is.asked ∙ ap asked_in same)
   where
     more : Option Ltxid → List Outcome
-    more asked = one_more draft.outcomes (told_of (Took (down.OutcomeIs committed completed) alive) asked)
+    more asked = one_more draft.outcomes (told_of (heard_of (Took (down.OutcomeIs committed completed) alive)) asked)
 
-    other : draft.asked ≡ None → IsOf account (hears draft (Took (down.OutcomeIs committed completed) alive))
+    other : draft.asked ≡ None → IsOf account (hears draft (heard_of (Took (down.OutcomeIs committed completed) alive)))
     other none = record { calls = is.calls; outcomes = ap more none ∙ is.outcomes; asked = is.asked }
 
-    by : (last : Option Up) → account.last ≡ last → draft.asked ≡ asked_in last → IsOf (telling.hears_outcome account committed completed last) (hears draft (Took (down.OutcomeIs committed completed) alive))
+    by : (last : Option Up) → account.last ≡ last → draft.asked ≡ asked_in last → IsOf (telling.hears_outcome account committed completed last) (hears draft (heard_of (Took (down.OutcomeIs committed completed) alive)))
     by None e none = other none
     by (Some up.Connect) e none = other none
     by (Some (up.Begin settings)) e none = other none
@@ -61,7 +62,7 @@ outcome_heard account draft committed completed alive last same is = by last sam
     by (Some up.Close) e none = other none
 
 module _ (terms : Terms) (now : ℕ) where
-  frame_heard : (account : Account) (draft : Draft) (frame : Down) (alive : Bool) (shown : Option Shown) → IsOf account draft → IsOf (telling.hears terms account (Took frame alive) now shown) (hears draft (Took frame alive))
+  frame_heard : (account : Account) (draft : Draft) (frame : Down) (alive : Bool) (shown : Option Shown) → IsOf account draft → IsOf (telling.hears terms account (Took frame alive) now shown) (hears draft (heard_of (Took frame alive)))
   frame_heard account draft (down.Hello ltxid) alive shown is = record { calls = is.calls; outcomes = is.outcomes; asked = is.asked }
   frame_heard account draft (down.Reply answers draws ltxid) alive None is = record { calls = is.calls; outcomes = is.outcomes; asked = is.asked }
   frame_heard account draft (down.Reply answers draws ltxid) alive (Some shown) is = record { calls = is.calls; outcomes = is.outcomes; asked = is.asked }
@@ -70,7 +71,7 @@ module _ (terms : Terms) (now : ℕ) where
   frame_heard account draft down.Blocked alive shown is = record { calls = is.calls; outcomes = is.outcomes; asked = is.asked }
   frame_heard account draft (down.Refused cause) alive shown is = record { calls = is.calls; outcomes = is.outcomes; asked = is.asked }
 
-  input_heard : (account : Account) (draft : Draft) (input : Input) (shown : Option Shown) → IsOf account draft → IsOf (telling.hears terms account input now shown) (hears draft input)
+  input_heard : (account : Account) (draft : Draft) (input : Input) (shown : Option Shown) → IsOf account draft → IsOf (telling.hears terms account input now shown) (hears draft (heard_of input))
   input_heard account draft Start shown is = record { calls = is.calls; outcomes = is.outcomes; asked = is.asked }
   input_heard account draft Waiting shown is = record { calls = is.calls; outcomes = is.outcomes; asked = is.asked }
   input_heard account draft (Lent connection ltxid) shown is = record { calls = is.calls; outcomes = is.outcomes; asked = is.asked }
@@ -157,13 +158,31 @@ one_reached f a list = by (f a) refl
     by None e = rw e (sym (append-nil list))
     by (Some b) e = rw e refl
 
+-- a session is told by the same inputs
+frame_session : (frame : Down) (alive : Bool) → reached_by (heard_of (Took frame alive)) ≡ reached (Took frame alive)
+frame_session (down.Hello ltxid) alive = refl
+frame_session (down.Reply answers draws ltxid) alive = refl
+frame_session (down.OutcomeIs committed completed) alive = refl
+frame_session (down.OutcomeRefused ahead next) alive = refl
+frame_session down.Blocked alive = refl
+frame_session (down.Refused cause) alive = refl
+
+session_heard : (input : Input) → reached_by (heard_of input) ≡ reached input
+session_heard Start = refl
+session_heard Waiting = refl
+session_heard (Lent connection ltxid) = refl
+session_heard (Opened connection) = refl
+session_heard TryFailed = refl
+session_heard (Took frame alive) = frame_session frame alive
+session_heard (Gone event) = refl
+
 pub noted_so : (terms : Terms) (request : Request) (steps : List Done) (draft : Draft) (done : Done) → IsDraft terms request steps draft
-    → IsDraft terms request (steps ++ done ∷ []) (notes draft done.input done.act.send done.act.shown done.act.failed)
+    → IsDraft terms request (steps ++ done ∷ []) (notes draft (heard_of done.input) done.act.send done.act.shown done.act.failed)
 noted_so terms request steps draft done is =
     let so_far : Account = account_of terms request.calls steps in
     let input = done.input in
     let shown = done.act.shown in
-    let heard_draft : Draft = record (hears draft input) { failed = option_and_then failure_of done.act.failed; attempts = attempts.hears draft.attempts input shown } in
+    let heard_draft : Draft = record (hears draft (heard_of input)) { failed = option_and_then failure_of done.act.failed; attempts = attempts.hears draft.attempts (heard_of input) shown } in
     let before : Draft = shows heard_draft shown in
     let rest = shown_rest heard_draft shown in
     let sent = sent_rest before done.act.send in
@@ -175,7 +194,7 @@ noted_so terms request steps draft done is =
       limit = sent.limit ∙ rest.0.limit ∙ is.limit;
       told = subst (λ (a : Account). IsOf a (fold sends before done.act.send)) (sym (fold_push (after_step terms request.calls) telling.unheard steps done)) all.0;
       failed = sent.failed ∙ rest.0.failed ∙ sym (ap (λ (o : Option Done). option_and_then failure_of (option_and_then (λ d. d.act.failed) o)) (last_next steps None done));
-      sessions = sent.sessions ∙ rest.0.sessions ∙ ap (λ l. one_more l (reached input)) is.sessions ∙ one_reached (λ (d : Done). reached d.input) done (filter_map (λ d. reached d.input) steps) ∙ sym (filter_map-append (λ (d : Done). reached d.input) steps (done ∷ []));
+      sessions = sent.sessions ∙ rest.0.sessions ∙ ap₂ one_more is.sessions (session_heard input) ∙ one_reached (λ (d : Done). reached d.input) done (filter_map (λ d. reached d.input) steps) ∙ sym (filter_map-append (λ (d : Done). reached d.input) steps (done ∷ []));
       attempts = subst (λ (t : Trying). AreAttempts t (fold sends before done.act.send).attempts) (sym (fold_push tries_on (record { held = None; over = 0; sendings = [] }) steps done)) all.1;
     }
 

@@ -10,7 +10,7 @@ use Rattle.svc_values.specs.declared.frame.Up.TheVariants as up
 use Rattle.svc_values.specs.declared.frame.Down.{Down}
 use Rattle.svc_values.specs.declared.frame.Down.TheVariants as down
 use Rattle.svc_values.specs.meaning.Calls.{has_commit}
-use Rattle.svc_values.specs.meaning.Endings.{ends_transaction}
+use Rattle.svc_values.specs.meaning.Endings.{ends_committed, ends_transaction}
 use Rattle.client_model.specs.declared.input.Input.{Input}
 use Rattle.client_model.specs.declared.input.Input.TheVariants.{Start, Waiting, Lent, Opened, TryFailed, Took, Gone}
 use Rattle.client_model.specs.declared.act.Shown.{Shown}
@@ -19,6 +19,7 @@ use Rattle.client_model.specs.meaning.Tried.{Sending, Trying, is_try, told_ltxid
 use Rattle.transcript_core.specs.declared.attempts.Attempt.{Attempt}
 use Rattle.transcript_core.specs.Attempts.{Attempts, none_yet, put_once, put_in, settled_with, settled, answered, told_by, next_transaction, ended_by, hears, sends, lists_of, attempt_of, AreAttempts}
 use Rattle.transcript_core.specs.Attempts as kept
+use Rattle.transcript_core.specs.Hearing.{heard_of}
 use Rattle.transcript_core.proofs.OnceEach.{more_in, past_one, no_try, here, length_upto, upto_first, upto_untried, upto_put, upto_beyond, Within, within_more, none_beyond}
 
 -- SETTLING ----------------------------------------------------------------------------------------
@@ -129,7 +130,7 @@ with_answer_drop : (answers : List Answer) (sendings : List Sending) → drop 1 
 with_answer_drop answers [] = refl
 with_answer_drop answers (sending ∷ earlier) = refl
 
-with_answer_last : (answers : List Answer) (sendings : List Sending) → option_map (answered answers) (option_map attempt_of (slice_get sendings 0)) ≡ option_map attempt_of (slice_get (with_answer answers sendings) 0)
+with_answer_last : (answers : List Answer) (sendings : List Sending) → option_map (answered (ends_committed answers)) (option_map attempt_of (slice_get sendings 0)) ≡ option_map attempt_of (slice_get (with_answer answers sendings) 0)
 with_answer_last answers [] = refl
 with_answer_last answers (sending ∷ earlier) = refl
 
@@ -139,7 +140,7 @@ with_answer_within over answers (sending ∷ earlier) w = w
 
 -- what comes in, before a transaction may end
 record AreTold (trying : Trying) (lists : Attempts) (input : Input) (shown : Option Shown) : Type 0 where
-  told : AreAttempts (record { held = option_or (told_ltxid input shown) trying.held; over = trying.over; sendings = replied input shown trying.sendings }) (told_by lists input shown)
+  told : AreAttempts (record { held = option_or (told_ltxid input shown) trying.held; over = trying.over; sendings = replied input shown trying.sendings }) (told_by lists (heard_of input) shown)
   within : Within trying.over (replied input shown trying.sendings)
 
 module _ (trying : Trying) (lists : Attempts) (are : AreAttempts trying lists) (w : Within trying.over trying.sendings) where
@@ -154,7 +155,7 @@ module _ (trying : Trying) (lists : Attempts) (are : AreAttempts trying lists) (
       over = are.over ∙ ap (tried_upto trying.over 0) (sym (with_answer_drop answers trying.sendings));
       now = are.now ∙ ap (tried_in trying.over) (sym (with_answer_drop answers trying.sendings));
       held = refl;
-      last = ap (option_map (answered answers)) are.last ∙ with_answer_last answers trying.sendings;
+      last = ap (option_map (answered (ends_committed answers))) are.last ∙ with_answer_last answers trying.sendings;
     };
     within = with_answer_within trying.over answers trying.sendings w;
   }
@@ -199,10 +200,10 @@ abbrev pub before_sends : Trying → Input → Option Shown → Trying
 before_sends trying input shown = record { held = option_or (told_ltxid input shown) trying.held; over = over_after trying.over shown; sendings = replied input shown trying.sendings }
 
 pub heard : (trying : Trying) (lists : Attempts) (input : Input) (shown : Option Shown) → AreAttempts trying lists → Within trying.over trying.sendings
-    → AreAttempts (before_sends trying input shown) (hears lists input shown) × Within (over_after trying.over shown) (replied input shown trying.sendings)
+    → AreAttempts (before_sends trying input shown) (hears lists (heard_of input) shown) × Within (over_after trying.over shown) (replied input shown trying.sendings)
 heard trying lists input shown are w =
     let told = input_told trying lists are w input shown in
-    ended_so (record { held = option_or (told_ltxid input shown) trying.held; over = trying.over; sendings = replied input shown trying.sendings }) (told_by lists input shown) told.told told.within shown
+    ended_so (record { held = option_or (told_ltxid input shown) trying.held; over = trying.over; sendings = replied input shown trying.sendings }) (told_by lists (heard_of input) shown) told.told told.within shown
 
 -- ALL STEPS ---------------------------------------------------------------------------------------
 

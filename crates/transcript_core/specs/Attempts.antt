@@ -1,21 +1,19 @@
 -- Under which identifiers a request tried to commit, kept from step to step.
-use Rattle.std.specs.Prelude.{◌≡◌, ℕ, false, ◌&&◌, nat_lt, List, [], ◌∷◌, ◌++◌, length, get_or, drop, slice_get, slice_set, Option, Some, None, option_map, if◌then◌else◌}
+use Rattle.std.specs.Prelude.{◌≡◌, ℕ, Bool, false, ◌&&◌, nat_lt, List, [], ◌∷◌, ◌++◌, length, get_or, drop, slice_get, slice_set, Option, Some, None, option_map, if◌then◌else◌}
 use Rattle.std.specs.List.{list_any}
 use Rattle.std.specs.Option.{option_or}
-use Rattle.svc_values.specs.declared.answer.Answer.{Answer}
 use Rattle.svc_values.specs.declared.call.Call.{Call}
 use Rattle.svc_values.specs.declared.entry.Ltxid.{Ltxid}
 use Rattle.svc_values.specs.declared.frame.Up.{Up}
 use Rattle.svc_values.specs.declared.frame.Up.TheVariants as up
-use Rattle.svc_values.specs.declared.frame.Down.TheVariants as down
 use Rattle.svc_values.specs.meaning.Calls.{has_commit}
-use Rattle.svc_values.specs.meaning.Endings.{ends_committed, ends_transaction}
+use Rattle.svc_values.specs.meaning.Endings.{ends_transaction}
 use Rattle.svc_values.specs.meaning.Identifiers.{same_ltxid}
-use Rattle.client_model.specs.declared.input.Input.{Input}
-use Rattle.client_model.specs.declared.input.Input.TheVariants.{Took}
 use Rattle.client_model.specs.declared.act.Shown.{Shown}
-use Rattle.client_model.specs.meaning.Tried.{Sending, Trying, is_try, told_ltxid, tried_in, tried_upto}
+use Rattle.client_model.specs.meaning.Tried.{Sending, Trying, is_try, tried_in, tried_upto}
 use Rattle.transcript_core.specs.declared.attempts.Attempt.{Attempt}
+use Rattle.transcript_core.specs.declared.heard.Heard.{Heard}
+use Rattle.transcript_core.specs.declared.heard.Heard.TheVariants as tells
 
 -- What is kept: for each transaction that is over, and for the one now, the identifiers tried by all calls but the last one that
 -- went out; the identifier held; and that last call, whose reply may still come.
@@ -50,15 +48,21 @@ abbrev pub settled : Attempts → Attempts
 settled kept = settled_with kept kept.last
 
 -- a reply that is shown answers the last call
-abbrev pub answered : List Answer → Attempt → Attempt
-answered answers attempt = record attempt { tried = attempt.commits && ends_committed answers }
+abbrev pub answered : Bool → Attempt → Attempt
+answered committed attempt = record attempt { tried = attempt.commits && committed }
 
-abbrev pub answered_by : Input → Option Shown → Option Attempt → Option Attempt
-answered_by (Took (down.Reply answers draws ltxid) alive) (Some shown) last = option_map (answered answers) last
+abbrev pub answered_by : Heard → Option Shown → Option Attempt → Option Attempt
+answered_by (tells.Reply ltxid committed) (Some shown) last = option_map (answered committed) last
 answered_by _ _ last = last
 
-abbrev pub told_by : Attempts → Input → Option Shown → Attempts
-told_by kept input shown = record kept { held = option_or (told_ltxid input shown) kept.held; last = answered_by input shown kept.last }
+-- the identifier that comes with a session or with a reply that is shown
+abbrev pub told_ltxid : Heard → Option Shown → Option Ltxid
+told_ltxid (tells.Session ltxid) shown = Some ltxid
+told_ltxid (tells.Reply ltxid committed) (Some shown) = Some ltxid
+told_ltxid _ _ = None
+
+abbrev pub told_by : Attempts → Heard → Option Shown → Attempts
+told_by kept heard shown = record kept { held = option_or (told_ltxid heard shown) kept.held; last = answered_by heard shown kept.last }
 
 -- the next transaction begins
 abbrev pub next_transaction : Attempts → Attempts
@@ -69,8 +73,8 @@ abbrev pub ended_by : Attempts → Option Shown → Attempts
 ended_by kept None = kept
 ended_by kept (Some shown) = if ends_transaction shown.answers then next_transaction kept else kept
 
-abbrev pub hears : Attempts → Input → Option Shown → Attempts
-hears kept input shown = ended_by (told_by kept input shown) shown
+abbrev pub hears : Attempts → Heard → Option Shown → Attempts
+hears kept heard shown = ended_by (told_by kept heard shown) shown
 
 -- an unmarked call goes out, which is a try until its reply says otherwise
 abbrev pub submitted : Attempts → Ltxid → Call → Attempts

@@ -4,7 +4,7 @@ use Rattle.svc_values.specs.declared.entry.Ltxid.{Ltxid}
 use Rattle.svc_values.specs.declared.entry.SessionId.{SessionId}
 use Rattle.svc_values.specs.declared.frame.Up.{Up}
 use Rattle.svc_values.specs.declared.frame.Up.TheVariants as up
-use Rattle.svc_values.specs.declared.frame.Down.TheVariants as down
+use Rattle.svc_values.specs.meaning.Identifiers.{session_of}
 use Rattle.outage_schedule.specs.declared.document.Request.{Request}
 use Rattle.outage_schedule.specs.declared.failure.Failure.{Failure}
 use Rattle.outage_schedule.specs.declared.request.Outcome.{Outcome}
@@ -14,12 +14,13 @@ use Rattle.client_model.specs.declared.act.Failed.{Failed}
 use Rattle.client_model.specs.declared.act.Hold.{Hold}
 use Rattle.client_model.specs.declared.act.Shown.{Shown}
 use Rattle.client_model.specs.declared.input.Input.{Input}
-use Rattle.client_model.specs.declared.input.Input.TheVariants.{Took}
 use Rattle.client_model.specs.meaning.Account.{Account, account_of}
 use Rattle.client_model.specs.meaning.Conversation.{Done}
 use Rattle.client_model.specs.meaning.Terms.{Terms}
 use Rattle.client_model.specs.meaning.Tried.{trying_of}
-use Rattle.run_clauses.specs.meaning.Reports.{failure_of, failed_in, shown_call, told_outcome, reached}
+use Rattle.run_clauses.specs.meaning.Reports.{failure_of, failed_in, shown_call, told_outcome, reached as told_session}
+use Rattle.transcript_core.specs.declared.heard.Heard.{Heard}
+use Rattle.transcript_core.specs.declared.heard.Heard.TheVariants as tells
 use Rattle.transcript_core.specs.Attempts.{Attempts, AreAttempts, none_yet, settled, lists_of}
 use Rattle.transcript_core.specs.Attempts as attempts
 
@@ -43,12 +44,17 @@ one_more list None = list
 one_more list (Some item) = list ++ item ∷ []
 
 -- an outcome is that of the identifier that was asked
-abbrev pub told_of : Input → Option Ltxid → Option Outcome
-told_of (Took (down.OutcomeIs committed completed) alive) (Some ltxid) = Some (record { ltxid = ltxid; committed = committed; completed = completed })
+abbrev pub told_of : Heard → Option Ltxid → Option Outcome
+told_of (tells.Outcome committed completed) (Some ltxid) = Some (record { ltxid = ltxid; committed = committed; completed = completed })
 told_of _ _ = None
 
-abbrev pub hears : Draft → Input → Draft
-hears draft input = record draft { outcomes = one_more draft.outcomes (told_of input draft.asked); sessions = one_more draft.sessions (reached input) }
+-- the session that was lent, or whose Hello was taken
+abbrev pub reached : Heard → Option SessionId
+reached (tells.Session ltxid) = Some (session_of ltxid)
+reached _ = None
+
+abbrev pub hears : Draft → Heard → Draft
+hears draft heard = record draft { outcomes = one_more draft.outcomes (told_of heard draft.asked); sessions = one_more draft.sessions (reached heard) }
 
 -- no more calls are shown than the request has
 abbrev pub shows : Draft → Option Shown → Draft
@@ -64,11 +70,11 @@ abbrev pub sends : Draft → Up → Draft
 sends draft frame = record draft { asked = asked_by frame; attempts = attempts.sends draft.attempts frame }
 
 -- before frames go out
-abbrev pub noted : Draft → Input → Option Shown → Option Failed → Draft
-noted draft input shown failed = shows (record (hears draft input) { failed = option_and_then failure_of failed; attempts = attempts.hears draft.attempts input shown }) shown
+abbrev pub noted : Draft → Heard → Option Shown → Option Failed → Draft
+noted draft heard shown failed = shows (record (hears draft heard) { failed = option_and_then failure_of failed; attempts = attempts.hears draft.attempts heard shown }) shown
 
-abbrev pub notes : Draft → Input → List Up → Option Shown → Option Failed → Draft
-notes draft input send shown failed = fold sends (noted draft input shown failed) send
+abbrev pub notes : Draft → Heard → List Up → Option Shown → Option Failed → Draft
+notes draft heard send shown failed = fold sends (noted draft heard shown failed) send
 
 abbrev pub drafted : Draft → RequestReport
 drafted draft = record { calls = draft.calls; failed = draft.failed; outcomes = draft.outcomes; sessions = draft.sessions; tried = lists_of (settled draft.attempts) }
@@ -89,7 +95,7 @@ pub record IsDraft (terms : Terms) (request : Request) (steps : List Done) (draf
   pub limit : draft.limit ≡ length request.calls
   pub told : IsOf (account_of terms request.calls steps) draft
   pub failed : draft.failed ≡ option_and_then failure_of (failed_in steps)
-  pub sessions : draft.sessions ≡ filter_map (λ done. reached done.input) steps
+  pub sessions : draft.sessions ≡ filter_map (λ done. told_session done.input) steps
   pub attempts : AreAttempts (trying_of steps) draft.attempts
 
 -- a step, at any tick and with whatever becomes of the connection

@@ -3,18 +3,18 @@ ghost use Rattle.std.specs.Prelude.{◌≡◌, IfOk, OnOk, option_map, if◌then
 ghost use Rattle.std.specs.List.{list_any};
 ghost use Rattle.svc_values.specs.meaning.Endings.{ends_transaction as ends_transaction_def};
 ghost use Rattle.svc_values.specs.meaning.Identifiers.{same_ltxid};
-ghost use Rattle.client_model.specs.meaning.Tried.{told_ltxid as told_ltxid_def};
-ghost use Rattle.transcript_core.specs.Attempts.{none_yet, put_once as put_once_def, put_in, settled, answered as answered_def, answered_by as answered_by_def, next_transaction, submitted, hears, sends, lists_of};
+ghost use Rattle.transcript_core.specs.Attempts.{none_yet, put_once as put_once_def, put_in, settled, answered as answered_def, answered_by as answered_by_def, told_ltxid as told_ltxid_def, next_transaction, submitted, hears, sends, lists_of};
 
-use client_model::{Input, Shown};
+use crate::heard::Heard;
+use client_model::Shown;
 use outage_schedule::{Ltxids, Tried};
 use std::alloc::Global;
 use std::marker::Model;
 use std::mem;
-use svc_values::{Answer, Call, Down, Ltxid, NoMemory, Up, ends_committed, ends_transaction};
+use svc_values::{Answer, Call, Ltxid, NoMemory, Up, ends_transaction};
 
-/// The last unmarked call that went out: its transaction, from 0; its identifier; whether it has a commit; and whether
-/// it counts as a try, as its reply stands.
+/// The last unmarked call that went out: its transaction, from 0; its identifier; whether it has a
+/// commit; and whether it counts as a try, as its reply stands.
 #[derive(Clone, Copy)]
 pub(crate) struct Attempt {
     pub(crate) transaction: usize,
@@ -45,9 +45,7 @@ impl Model for Attempts {
 fn is_same(one: &Ltxid, other: &Ltxid) -> bool
     ensures { result ≡ same_ltxid one.now other.now }
 {
-    one.incarnation == other.incarnation
-        && one.session == other.session
-        && one.number == other.number
+    one == other
 }
 
 /// Whether the identifier is among these.
@@ -111,79 +109,59 @@ impl Attempts {
 }
 
 /// The identifier that comes with a session or with a reply that is shown.
-fn told_ltxid(input: &Input, shown: &Option<Shown>) -> Option<Ltxid>
-    ensures { result ≡ told_ltxid_def input.now shown.now }
+fn told_ltxid(heard: Heard, shown: &Option<Shown>) -> Option<Ltxid>
+    ensures { result ≡ told_ltxid_def heard shown.now }
 {
-    match input {
-        Input::Lent { ltxid, .. } => Some(*ltxid),
-        Input::Took { frame, .. } => match frame {
-            Down::Hello { ltxid } => Some(*ltxid),
-            Down::Reply { ltxid, .. } => match shown {
-                Some(_) => Some(*ltxid),
-                None => None,
-            },
-            Down::OutcomeIs { .. } => None,
-            Down::OutcomeRefused { .. } => None,
-            Down::Blocked => None,
-            Down::Refused { .. } => None,
+    match heard {
+        Heard::Session { ltxid } => Some(ltxid),
+        Heard::Reply { ltxid, .. } => match shown {
+            Some(_) => Some(ltxid),
+            None => None,
         },
-        Input::Start => None,
-        Input::Waiting => None,
-        Input::Opened { .. } => None,
-        Input::TryFailed => None,
-        Input::Gone { .. } => None,
+        Heard::Outcome { .. } => None,
+        Heard::Nothing => None,
     }
 }
 
-/// The last call with its answers.
-fn answered(last: Option<Attempt>, answers: &[Answer]) -> Option<Attempt>
-    ensures { result ≡ option_map (answered_def answers.now) last }
+/// The last call with its answers, of which the last may say committed.
+fn answered(last: Option<Attempt>, committed: bool) -> Option<Attempt>
+    ensures { result ≡ option_map (answered_def committed) last }
 {
     match last {
         Some(attempt) => Some(Attempt {
             transaction: attempt.transaction,
             ltxid: attempt.ltxid,
             commits: attempt.commits,
-            tried: attempt.commits && ends_committed(answers),
+            tried: attempt.commits && committed,
         }),
         None => None,
     }
 }
 
 /// The last call, which a reply answers that is shown.
-fn answered_by(last: Option<Attempt>, input: &Input, shown: &Option<Shown>) -> Option<Attempt>
-    ensures { result ≡ answered_by_def input.now shown.now last }
+fn answered_by(last: Option<Attempt>, heard: Heard, shown: &Option<Shown>) -> Option<Attempt>
+    ensures { result ≡ answered_by_def heard shown.now last }
 {
-    match input {
-        Input::Took { frame, .. } => match frame {
-            Down::Reply { answers, .. } => match shown {
-                Some(_) => answered(last, answers.as_slice()),
-                None => last,
-            },
-            Down::Hello { .. } => last,
-            Down::OutcomeIs { .. } => last,
-            Down::OutcomeRefused { .. } => last,
-            Down::Blocked => last,
-            Down::Refused { .. } => last,
+    match heard {
+        Heard::Reply { committed, .. } => match shown {
+            Some(_) => answered(last, committed),
+            None => last,
         },
-        Input::Lent { .. } => last,
-        Input::Start => last,
-        Input::Waiting => last,
-        Input::Opened { .. } => last,
-        Input::TryFailed => last,
-        Input::Gone { .. } => last,
+        Heard::Session { .. } => last,
+        Heard::Outcome { .. } => last,
+        Heard::Nothing => last,
     }
 }
 
 /// Hearing and sending.
 impl Attempts {
-    /// What a step tells before frames go out: the identifier that is held from now on, the answers to the last call,
-    /// and whether its transaction is over.
-    pub(crate) fn hear(&mut self, input: &Input, shown: &Option<Shown>) -> Result<(), NoMemory>
-        ensures { OnOk result (self.new ≡ hears self.old input.now shown.now) }
+    /// What a step tells before frames go out: the identifier that is held from now on, the answers
+    /// to the last call, and whether its transaction is over.
+    pub(crate) fn hear(&mut self, heard: Heard, shown: &Option<Shown>) -> Result<(), NoMemory>
+        ensures { OnOk result (self.new ≡ hears self.old heard shown.now) }
     {
-        self.held = told_ltxid(input, shown).or(self.held);
-        self.last = answered_by(self.last, input, shown);
+        self.held = told_ltxid(heard, shown).or(self.held);
+        self.last = answered_by(self.last, heard, shown);
         match shown {
             Some(shown) => self.end(shown.answers.as_slice()),
             None => Ok(()),
@@ -192,7 +170,9 @@ impl Attempts {
 
     /// The answers of a shown call may end its transaction.
     fn end(&mut self, answers: &[Answer]) -> Result<(), NoMemory>
-        ensures { OnOk result (self.new ≡ (if ends_transaction_def answers.now then next_transaction self.old else self.old)) }
+        ensures { OnOk result
+            (self.new
+            ≡ (if ends_transaction_def answers.now then next_transaction self.old else self.old)) }
     {
         if !ends_transaction(answers) {
             return Ok(());

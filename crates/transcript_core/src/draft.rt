@@ -1,21 +1,25 @@
 //! The report of a request in the making.
 ghost use Rattle.std.specs.Prelude.{◌≡◌, ℕ, List, [], ◌∷◌, ◌++◌, length, fold, option_and_then, IfOk, OnOk};
+ghost use Rattle.client_model.specs.declared.input.Input.{Input as Coming};
 ghost use Rattle.client_model.specs.meaning.Conversation.{Done};
 ghost use Rattle.client_model.specs.meaning.Terms.{Terms};
 ghost use Rattle.outage_schedule.specs.declared.document.Request.{Request};
-ghost use Rattle.run_clauses.specs.meaning.Reports.{failure_of as failure_of_def, reached as reached_def, report_of};
-ghost use Rattle.transcript_core.specs.Drafts.{told_of as told_of_def, one_more, hears, shows, asked_by as asked_by_def, sends, noted, drafted, IsDraft, done_so};
+ghost use Rattle.run_clauses.specs.meaning.Reports.{failure_of as failure_of_def, report_of};
+ghost use Rattle.transcript_core.specs.Drafts.{told_of as told_of_def, reached as reached_def, one_more, hears, shows, asked_by as asked_by_def, sends, noted, drafted, IsDraft, done_so};
+ghost use Rattle.transcript_core.specs.Hearing.{heard_of};
 
 use crate::attempts::Attempts;
 use crate::failures::failure_of;
-use client_model::{Failed, Hold, Input, Shown};
+use crate::heard::Heard;
+use client_model::{Failed, Hold, Shown};
 use outage_schedule::{Failure, Outcome, Outcomes, RequestReport, Sessions, ShownCall, ShownCalls};
 use std::alloc::Global;
 use std::marker::Model;
-use svc_values::{Down, Ltxid, NoMemory, SessionId, Up};
+use svc_values::{Ltxid, NoMemory, SessionId, Up};
 
-/// The report of a request in the making. It holds what will be reported and not the steps: the calls that were shown,
-/// the last error, outcomes, sessions, and the identifiers under which the request tried to commit.
+/// The report of a request in the making. It holds what will be reported and not the steps: the
+/// calls that were shown, the last error, outcomes, sessions, and the identifiers under which the
+/// request tried to commit.
 #[derive(Drop)]
 pub struct ReportDraft {
     limit: usize,
@@ -32,60 +36,49 @@ impl Model for ReportDraft {
 
     ghost Value = { Draft };
 
-    ghost view = { λ d. record { limit = d.limit; calls = d.calls.items; failed = d.failed; outcomes = d.outcomes.items; asked = d.asked; sessions = d.sessions.items; attempts = d.attempts } };
+    ghost view = { λ d.
+        record {
+          limit = d.limit;
+          calls = d.calls.items;
+          failed = d.failed;
+          outcomes = d.outcomes.items;
+          asked = d.asked;
+          sessions = d.sessions.items;
+          attempts = d.attempts;
+        } };
 }
 
-/// The outcome that a frame tells of the identifier that was asked.
-fn told_of(input: &Input, asked: Option<Ltxid>) -> Option<Outcome>
-    ensures { result ≡ told_of_def input.now asked }
+/// The outcome that is told of the identifier that was asked.
+fn told_of(heard: Heard, asked: Option<Ltxid>) -> Option<Outcome>
+    ensures { result ≡ told_of_def heard asked }
 {
-    match input {
-        Input::Took { frame, .. } => match frame {
-            Down::OutcomeIs {
+    match heard {
+        Heard::Outcome {
+            committed,
+            completed,
+        } => match asked {
+            Some(ltxid) => Some(Outcome {
+                ltxid,
                 committed,
                 completed,
-            } => match asked {
-                Some(ltxid) => Some(Outcome {
-                    ltxid,
-                    committed: *committed,
-                    completed: *completed,
-                }),
-                None => None,
-            },
-            Down::Hello { .. } => None,
-            Down::Reply { .. } => None,
-            Down::OutcomeRefused { .. } => None,
-            Down::Blocked => None,
-            Down::Refused { .. } => None,
+            }),
+            None => None,
         },
-        Input::Lent { .. } => None,
-        Input::Start => None,
-        Input::Waiting => None,
-        Input::Opened { .. } => None,
-        Input::TryFailed => None,
-        Input::Gone { .. } => None,
+        Heard::Session { .. } => None,
+        Heard::Reply { .. } => None,
+        Heard::Nothing => None,
     }
 }
 
 /// The session that was lent, or whose Hello was taken.
-fn reached(input: &Input) -> Option<SessionId>
-    ensures { result ≡ reached_def input.now }
+fn reached(heard: Heard) -> Option<SessionId>
+    ensures { result ≡ reached_def heard }
 {
-    match input {
-        Input::Lent { ltxid, .. } => Some(ltxid.session_of()),
-        Input::Took { frame, .. } => match frame {
-            Down::Hello { ltxid } => Some(ltxid.session_of()),
-            Down::Reply { .. } => None,
-            Down::OutcomeIs { .. } => None,
-            Down::OutcomeRefused { .. } => None,
-            Down::Blocked => None,
-            Down::Refused { .. } => None,
-        },
-        Input::Start => None,
-        Input::Waiting => None,
-        Input::Opened { .. } => None,
-        Input::TryFailed => None,
-        Input::Gone { .. } => None,
+    match heard {
+        Heard::Session { ltxid } => Some(ltxid.session_of()),
+        Heard::Reply { .. } => None,
+        Heard::Outcome { .. } => None,
+        Heard::Nothing => None,
     }
 }
 
@@ -129,7 +122,8 @@ fn push_some<A: Drop>(list: &mut Vec<A>, item: Option<A>) -> Result<(), NoMemory
 impl ReportDraft {
     /// The draft of a request with so many calls, before its first step. It takes no memory.
     pub fn new(alloc: Global, calls: usize) -> ReportDraft
-        ensures { (terms : Terms) (request : Request) → length request.calls ≡ calls → IsDraft terms request [] result }
+        ensures { (terms : Terms) (request : Request) → length request.calls ≡ calls
+            → IsDraft terms request [] result }
     {
         ReportDraft {
             limit: calls,
@@ -142,27 +136,33 @@ impl ReportDraft {
         }
     }
 
-    /// Notes one step of the request: what came in, the frames that went out, the call that is shown and the error.
-    /// After want of memory the draft may only be dropped.
+    /// Notes one step of the request: what was heard of its input, the frames that went out, the
+    /// call that is shown and the error. After want of memory the draft may only be dropped.
     ///
-    /// The shown answers are moved in. Linear in what the step adds, and a call that goes out looks through the
-    /// identifiers of its transaction.
+    /// The shown answers are moved in. Linear in what the step adds, and a call that goes out looks
+    /// through the identifiers of its transaction.
     pub fn note(
         &mut self,
-        input: &Input,
+        heard: Heard,
         send: &[Up],
         shown: Option<Shown>,
         failed: Option<Failed>,
     ) -> Result<(), NoMemory>
-        ensures { (terms : Terms) (request : Request) (steps : List Done) (now : ℕ) (hold : Hold) → IsDraft terms request steps self.old → OnOk result (IsDraft terms request (steps ++ done_so input.now now send.now shown failed hold ∷ []) self.new) }
+        ensures { (terms : Terms) (request : Request) (steps : List Done) (input : Coming) (now : ℕ)
+            (hold : Hold) → heard ≡ heard_of input → IsDraft terms request steps self.old
+            → OnOk result
+            (IsDraft terms request (steps ++ done_so input now send.now shown failed hold ∷ [])
+            self.new) }
     {
-        self.hear(input, shown, failed)?;
+        self.hear(heard, shown, failed)?;
         self.send(send)
     }
 
     /// The report of the request. Linear in the identifiers tried by its last call's transaction.
     pub fn into_report(self) -> Result<RequestReport, NoMemory>
-        ensures { (terms : Terms) (request : Request) (steps : List Done) → IsDraft terms request steps self → IfOk result (λ report. report ≡ report_of terms request steps) }
+        ensures { (terms : Terms) (request : Request) (steps : List Done)
+            → IsDraft terms request steps self
+            → IfOk result (λ report. report ≡ report_of terms request steps) }
     {
         self.report()
     }
@@ -170,24 +170,24 @@ impl ReportDraft {
     /// What a step tells before its frames go out.
     fn hear(
         &mut self,
-        input: &Input,
+        heard: Heard,
         shown: Option<Shown>,
         failed: Option<Failed>,
     ) -> Result<(), NoMemory>
-        ensures { OnOk result (self.new ≡ noted self.old input.now shown failed) }
+        ensures { OnOk result (self.new ≡ noted self.old heard shown failed) }
     {
-        self.take(input)?;
+        self.take(heard)?;
         self.failed = failure_in(failed);
-        self.attempts.hear(input, &shown)?;
+        self.attempts.hear(heard, &shown)?;
         self.show(shown)
     }
 
     /// An outcome, and a session.
-    fn take(&mut self, input: &Input) -> Result<(), NoMemory>
-        ensures { OnOk result (self.new ≡ hears self.old input.now) }
+    fn take(&mut self, heard: Heard) -> Result<(), NoMemory>
+        ensures { OnOk result (self.new ≡ hears self.old heard) }
     {
-        push_some(&mut self.outcomes, told_of(input, self.asked))?;
-        push_some(&mut self.sessions, reached(input))
+        push_some(&mut self.outcomes, told_of(heard, self.asked))?;
+        push_some(&mut self.sessions, reached(heard))
     }
 
     /// A call is shown: no more than the request has.

@@ -83,15 +83,17 @@ impl NextRequest {
     /// The request that comes next, if one is left. It takes no memory.
     pub fn request<'a>(&self, script: &'a [Request]) -> Option<&'a Request>
         ensures at_place { option_copied result ≡ slice_get script.now self.now.place }
-        ensures next { (reports : List Reported) → IsNext script.now reports self.now → option_copied result ≡ next_of script.now reports }
+        ensures next { (reports : List Reported) → IsNext script.now reports self.now
+            → option_copied result ≡ next_of script.now reports }
     {
         request_at(script, self.place)
     }
 
-    /// Which request follows one that was reported so: a further copy of it, or the one behind it. Constant, and takes
-    /// no memory.
+    /// Which request follows one that was reported so: a further copy of it, or the one behind it.
+    /// Constant, and takes no memory.
     pub fn follow(&mut self, script: &[Request], report: &RequestReport)
-        ensures { (reports : List Reported) → IsNext script.now reports self.old → IsNext script.now (reports ++ report.now ∷ []) self.new }
+        ensures { (reports : List Reported) → IsNext script.now reports self.old
+            → IsNext script.now (reports ++ report.now ∷ []) self.new }
     {
         *self = self.after(script, report);
     }

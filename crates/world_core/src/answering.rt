@@ -1,13 +1,13 @@
 //! What is written down of a frame that was served.
-ghost use Rattle.std.specs.Prelude.{◌≡◌, IfOk};
+ghost use Rattle.std.specs.Prelude.{◌≡◌, Bool};
+ghost use Rattle.svc_values.specs.declared.call.Call.{Call as Called};
 ghost use Rattle.world_model.specs.meaning.Noting.{name_of};
 ghost use Rattle.world_model.specs.meaning.Serving.{is_blocked as is_blocked_def, is_last as is_last_def};
 ghost use Rattle.world_core.specs.Answering.{session_served as session_served_def, session_named as session_named_def, result_told as result_told_def, call_item as call_item_def, ordinary_item as ordinary_item_def, served_item as served_item_def, result_of as result_of_def, crashed_item as crashed_item_def};
 
 use ltxid_book::Verdict;
 use outage_schedule::{AskResult, FrameName, Item};
-use std::alloc::Global;
-use svc_values::{Ahead, Call, Down, NoMemory, SessionId, TryCopy, Up};
+use svc_values::{Ahead, Call, Down, SessionId, Up};
 
 /// The name of a frame.
 pub(crate) fn frame_name(frame: &Up) -> FrameName
@@ -70,49 +70,78 @@ fn result_told(reply: &Option<Down>) -> AskResult
 }
 
 /// What a call is written down as: with its answers and draws, or as blocked.
-fn call_item(
-    alloc: Global,
-    replay: bool,
-    call: Call,
-    reply: &Option<Down>,
-) -> Result<Item, NoMemory>
-    ensures { IfOk result (λ item. item ≡ call_item_def replay call reply.now) }
+fn call_item(replay: bool, call: Call, reply: Option<Down>) -> Item
+    ensures { result ≡ call_item_def replay call reply }
 {
     match reply {
-        Some(Down::Reply { answers, draws, .. }) => Ok(Item::Call {
+        Some(Down::Reply { answers, draws, .. }) => Item::Call {
             replay,
             call,
-            answers: answers.copy(alloc)?,
-            draws: draws.copy(alloc)?,
-        }),
-        _ => Ok(Item::Blocked { call }),
+            answers,
+            draws,
+        },
+        _ => Item::Blocked { call },
     }
 }
 
 /// What a frame that was not refused is written down as.
-fn ordinary_item(alloc: Global, frame: Up, reply: &Option<Down>) -> Result<Item, NoMemory>
-    ensures { IfOk result (λ item. item ≡ ordinary_item_def frame reply.now) }
+fn ordinary_item(frame: Up, reply: Option<Down>) -> Item
+    ensures { result ≡ ordinary_item_def frame reply }
 {
     match frame {
-        Up::Connect => Ok(Item::Connect),
-        Up::Begin { settings } => Ok(Item::Begin { settings }),
-        Up::Call { replay, call, .. } => call_item(alloc, replay, call, reply),
-        Up::Outcome { ltxid } => Ok(Item::Outcome {
+        Up::Connect => Item::Connect,
+        Up::Begin { settings } => Item::Begin { settings },
+        Up::Call { replay, call, .. } => call_item(replay, call, reply),
+        Up::Outcome { ltxid } => Item::Outcome {
             ltxid,
-            result: result_told(reply),
-        }),
-        Up::End => Ok(Item::End),
-        Up::Close => Ok(Item::Close),
+            result: result_told(&reply),
+        },
+        Up::End => Item::End,
+        Up::Close => Item::Close,
     }
 }
 
-/// What a frame is written down as, by its reply. Linear in the answers and draws of the reply.
-pub(crate) fn served_item(alloc: Global, frame: Up, reply: &Option<Down>) -> Result<Item, NoMemory>
-    ensures { IfOk result (λ item. item ≡ served_item_def frame reply.now) }
+/// What a frame is written down as, by its reply, whose answers and draws are moved. It takes no memory.
+pub(crate) fn served_item(frame: Up, reply: Option<Down>) -> Item
+    ensures { result ≡ served_item_def frame reply }
+{
+    match &reply {
+        Some(Down::Refused { cause }) => Item::Refused { cause: *cause },
+        _ => ordinary_item(frame, reply),
+    }
+}
+
+/// Whether a session ends with a call that is answered so.
+fn ends_by_call(reply: &Option<Down>) -> bool
+    ensures { (replay : Bool) (call : Called) → result ≡ is_last_def (call_item_def replay call reply.now) }
 {
     match reply {
-        Some(Down::Refused { cause }) => Ok(Item::Refused { cause: *cause }),
-        _ => ordinary_item(alloc, frame, reply),
+        Some(Down::Reply { .. }) => false,
+        _ => true,
+    }
+}
+
+/// Whether a session ends with a frame that was not refused.
+fn ends_ordinary(frame: &Up, reply: &Option<Down>) -> bool
+    ensures { result ≡ is_last_def (ordinary_item_def frame.now reply.now) }
+{
+    match frame {
+        Up::Connect => false,
+        Up::Begin { .. } => false,
+        Up::Call { .. } => ends_by_call(reply),
+        Up::Outcome { .. } => false,
+        Up::End => false,
+        Up::Close => true,
+    }
+}
+
+/// Whether a session ends with a frame, by its reply.
+pub(crate) fn ends_session(frame: &Up, reply: &Option<Down>) -> bool
+    ensures { result ≡ is_last_def (served_item_def frame.now reply.now) }
+{
+    match reply {
+        Some(Down::Refused { .. }) => false,
+        _ => ends_ordinary(frame, reply),
     }
 }
 

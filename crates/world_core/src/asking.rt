@@ -14,14 +14,17 @@ use svc_values::{Ltxid, NoMemory};
 use world_model::laws::orderly_is_kept;
 
 impl<S: Service + Drop> Ground<S> {
-    /// Asks for the outcome of an identifier from outside, where the server is up. One that may still
-    /// commit is blocked first.
+    /// Asks for the outcome of an identifier from outside, where the server is up. One that may
+    /// still commit is blocked first.
     pub fn ask(&mut self, alloc: Global, ltxid: Ltxid) -> Result<Note, NoMemory>
         requires events { self.old.traffic.event < 2 ^ 45 }
         requires there { IsSomewhere (S.sees self.old.service) self.old.traffic }
         requires identifier { IsLtxid ltxid }
-        ensures made { IfOk result (λ note. Makes (S.sees self.old.service) self.old.traffic (S.sees self.new.service) self.new.traffic (Event.Ask ltxid) note []) }
-        ensures base { OnOk result (HaveOneBase (S.bytes self.old.service) (S.bytes self.new.service)) }
+        ensures made { IfOk result (λ note.
+            Makes (S.sees self.old.service) self.old.traffic (S.sees self.new.service)
+            self.new.traffic (Event.Ask ltxid) note []) }
+        ensures base { OnOk result
+            (HaveOneBase (S.bytes self.old.service) (S.bytes self.new.service)) }
     {
         compares_exactly();
         orderly_is_kept();

@@ -19,7 +19,8 @@ use std::alloc::Global;
 use svc_values::NoMemory;
 
 impl<R: BoundRule + Copy> Client<R> {
-    /// The request in course, which has a slot, tries to open a connection. It fails where the server is down.
+    /// The request in course, which has a slot, tries to open a connection. It fails where the
+    /// server is down.
     fn try_connection(
         &mut self,
         traffic: &mut Traffic,
@@ -28,7 +29,10 @@ impl<R: BoundRule + Copy> Client<R> {
         is_up: bool,
     ) -> Result<GoNote, NoMemory>
         requires { SomeTrying R (λ rule. R.rules rule) script.now number traffic.old self.old }
-        ensures { IfOk result (λ note. (wanted : Want) → Follows R (λ rule. R.rules rule) script.now number wanted false traffic.old self.old (λ setting m doing. tries_while setting m number note doing is_up) traffic.new self.new) }
+        ensures { IfOk result (λ note. (wanted : Want)
+            → Follows R (λ rule. R.rules rule) script.now number wanted false traffic.old self.old
+            (λ setting m doing. tries_while setting m number note doing is_up) traffic.new
+            self.new) }
     {
         if is_up {
             return self.open_connection(traffic, script, number);
@@ -44,8 +48,13 @@ impl<R: BoundRule + Copy> Client<R> {
         number: u64,
         is_up: bool,
     ) -> Result<GoNote, NoMemory>
-        requires { SomeTurn R (λ rule. R.rules rule) script.now number wants.Slot traffic.old self.old }
-        ensures { IfOk result (λ note. (t : Traced) (client : Standing) (doing : Doing) → IsTurn R (λ rule. R.rules rule) script.now number wants.Slot traffic.old self.old t client doing → t.machine.server.is_up ≡ is_up → Goes R (λ rule. R.rules rule) t.setting (at_next t) number (goes_by t.setting (at_next t) number note doing wants.Slot) traffic.new self.new) }
+        requires { SomeTurn R (λ rule. R.rules rule) script.now number wants.Slot traffic.old
+            self.old }
+        ensures { IfOk result (λ note. (t : Traced) (client : Standing) (doing : Doing)
+            → IsTurn R (λ rule. R.rules rule) script.now number wants.Slot traffic.old self.old t
+            client doing → t.machine.server.is_up ≡ is_up
+            → Goes R (λ rule. R.rules rule) t.setting (at_next t) number
+            (goes_by t.setting (at_next t) number note doing wants.Slot) traffic.new self.new) }
     {
         let take = traffic.ask_pool(number)?;
         match take {
@@ -62,8 +71,13 @@ impl<R: BoundRule + Copy> Client<R> {
         script: &[Request],
         number: u64,
     ) -> Result<GoNote, NoMemory>
-        requires { SomeTurn R (λ rule. R.rules rule) script.now number wants.Frame traffic.old self.old }
-        ensures { IfOk result (λ note. (t : Traced) (client : Standing) (doing : Doing) → IsTurn R (λ rule. R.rules rule) script.now number wants.Frame traffic.old self.old t client doing → Goes R (λ rule. R.rules rule) t.setting (at_next t) number (goes_by t.setting (at_next t) number note doing wants.Frame) traffic.new self.new) }
+        requires { SomeTurn R (λ rule. R.rules rule) script.now number wants.Frame traffic.old
+            self.old }
+        ensures { IfOk result (λ note. (t : Traced) (client : Standing) (doing : Doing)
+            → IsTurn R (λ rule. R.rules rule) script.now number wants.Frame traffic.old self.old t
+            client doing
+            → Goes R (λ rule. R.rules rule) t.setting (at_next t) number
+            (goes_by t.setting (at_next t) number note doing wants.Frame) traffic.new self.new) }
     {
         let connection = self.connection();
         let ended = traffic.ended(connection);
@@ -77,8 +91,8 @@ impl<R: BoundRule + Copy> Client<R> {
         }
     }
 
-    /// One step of the client: by what its request wants, which begins now if none is in course. Linear in what goes out and comes in,
-    /// and in the waiters of the pool.
+    /// One step of the client: by what its request wants, which begins now if none is in course.
+    /// Linear in what goes out and comes in, and in the waiters of the pool.
     pub fn go(
         &mut self,
         alloc: Global,
@@ -88,8 +102,13 @@ impl<R: BoundRule + Copy> Client<R> {
         is_up: bool,
     ) -> Result<GoNote, NoMemory>
         requires fit { AllByRecursion IsFit script.now }
-        requires some { SomeStanding R (λ rule. R.rules rule) script.now number traffic.old self.old }
-        ensures { IfOk result (λ note. (t : Traced) (client : Standing) → IsStanding R (λ rule. R.rules rule) script.now number traffic.old self.old t client → t.machine.server.is_up ≡ is_up → Goes R (λ rule. R.rules rule) t.setting (at_next t) number (follow_go t.setting (at_next t) number note) traffic.new self.new) }
+        requires some { SomeStanding R (λ rule. R.rules rule) script.now number traffic.old
+            self.old }
+        ensures { IfOk result (λ note. (t : Traced) (client : Standing)
+            → IsStanding R (λ rule. R.rules rule) script.now number traffic.old self.old t client
+            → t.machine.server.is_up ≡ is_up
+            → Goes R (λ rule. R.rules rule) t.setting (at_next t) number
+            (follow_go t.setting (at_next t) number note) traffic.new self.new) }
     {
         let there = self.begin(alloc, script, traffic.tick)?;
         if !there {

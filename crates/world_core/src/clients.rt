@@ -22,7 +22,9 @@ pub fn first_clients<R: BoundRule + Copy>(
     recorded: u64,
     scripts: &[Script],
 ) -> Result<Vec<Client<R>>, NoMemory>
-    ensures { IfOk result (λ clients. BeginEach R (λ rule. R.rules rule) (terms_of (R.rules rule) limits recorded) scripts.now clients.items) }
+    ensures { IfOk result (λ clients.
+        BeginEach R (λ rule. R.rules rule) (terms_of (R.rules rule) limits recorded) scripts.now
+        clients.items) }
 {
     let mut clients = Vec::new(alloc);
     for script in scripts {
@@ -32,7 +34,8 @@ pub fn first_clients<R: BoundRule + Copy>(
     Ok(clients)
 }
 
-/// A law, with nothing to run: what stands for all clients does so still behind an event that is no step of one.
+/// A law, with nothing to run: what stands for all clients does so still behind an event that is no
+/// step of one.
 pub fn clients_stay<R: BoundRule + Copy>()
     ensures { StayEach R (λ rule. R.rules rule) }
 {
@@ -49,11 +52,16 @@ impl<S: Service + Drop> Ground<S> {
         number: u64,
     ) -> Result<Note, NoMemory>
         requires events { self.old.traffic.event < 2 ^ 45 }
-        requires there { SomeAmong R (λ rule. R.rules rule) (S.sees self.old.service) scripts.now self.old.traffic clients.old.items }
+        requires there { SomeAmong R (λ rule. R.rules rule) (S.sees self.old.service) scripts.now
+            self.old.traffic clients.old.items }
         requires fit { AllByRecursion IsFitScript scripts.now }
         requires numbered { (0 < number) × (number ≤ length scripts.now) }
-        ensures made { IfOk result (λ note. MakesAmong R (λ rule. R.rules rule) (S.sees self.old.service) self.old.traffic (S.sees self.new.service) self.new.traffic scripts.now number clients.old.items clients.new.items note) }
-        ensures base { OnOk result (HaveOneBase (S.bytes self.old.service) (S.bytes self.new.service)) }
+        ensures made { IfOk result (λ note.
+            MakesAmong R (λ rule. R.rules rule) (S.sees self.old.service) self.old.traffic
+            (S.sees self.new.service) self.new.traffic scripts.now number clients.old.items
+            clients.new.items note) }
+        ensures base { OnOk result
+            (HaveOneBase (S.bytes self.old.service) (S.bytes self.new.service)) }
     {
         let at = (number - 1) as usize;
         let script = &scripts[at];

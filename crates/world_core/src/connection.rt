@@ -69,7 +69,8 @@ fn told_by(reply: &Option<Down>) -> Option<Ltxid>
 /// Puts the bytes of these frames behind those that wait.
 fn push_up(alloc: Global, feed: &mut UpFeed, frames: &[Up]) -> Result<(), NoMemory>
     requires { AllByRecursion IsMadeUp frames.now }
-    ensures bytes { OnOk result (feed.new ≡ with_bytes feed.old (stream spell_up FitsUp frames.now)) }
+    ensures bytes { OnOk result
+        (feed.new ≡ with_bytes feed.old (stream spell_up FitsUp frames.now)) }
     ensures fitting { OnOk result (AreFrames spell_up FitsUp frames.now) }
 {
     for frame in frames {
@@ -96,7 +97,8 @@ impl Connection {
 
     /// The event ends the connection, if it is open.
     pub(crate) fn end(&mut self, event: u64)
-        ensures ended { self.new ≡ record self.old { ended = option_or self.old.ended (Some event) } }
+        ensures ended { self.new
+            ≡ record self.old { ended = option_or self.old.ended (Some event) } }
         ensures link { (link : Link) → IsLink self.old link → IsLink self.new (ends event link) }
     {
         self.ended = self.ended.or(Some(event));
@@ -106,7 +108,8 @@ impl Connection {
     pub(crate) fn send(&mut self, alloc: Global, event: u64, frames: &[Up]) -> Result<(), NoMemory>
         requires open_for { (frames.now ≡ []) ⊎ (self.old.ended ≡ None) }
         requires made { AllByRecursion IsMadeUp frames.now }
-        ensures { OnOk result ((link : Link) (sent : List Sent) → up_frames sent ≡ frames.now → IsLink self.old link → IsLink self.new (sends event sent link)) }
+        ensures { OnOk result ((link : Link) (sent : List Sent) → up_frames sent ≡ frames.now
+            → IsLink self.old link → IsLink self.new (sends event sent link)) }
     {
         push_up(alloc, &mut self.up, frames)?;
         if has_close(frames) {
@@ -119,7 +122,8 @@ impl Connection {
     /// stands there was spelled here, so a whole frame is no bad one. Linear in the frame.
     pub(crate) fn first_up(&mut self) -> Result<Option<Up>, NoMemory>
         requires { IsSomeLink self.old }
-        ensures { IfOk result (λ frame. (link : Link) → IsLink self.old link → GivesFront link (front_of link) frame self.new) }
+        ensures { IfOk result (λ frame. (link : Link) → IsLink self.old link
+            → GivesFront link (front_of link) frame self.new) }
     {
         if !self.is_living {
             return Ok(None);
@@ -141,8 +145,8 @@ impl Connection {
         self.is_living && self.up.has_frame()
     }
 
-    /// Notes that the frame that was taken off was served by this session, which may end with it, and
-    /// sends the reply, which goes nowhere once the connection has ended. Linear in the reply.
+    /// Notes that the frame that was taken off was served by this session, which may end with it,
+    /// and sends the reply, which goes nowhere once the connection has ended. Linear in the reply.
     pub(crate) fn serve(
         &mut self,
         alloc: Global,
@@ -151,7 +155,10 @@ impl Connection {
         reply: &Option<Down>,
     ) -> Result<(), NoMemory>
         requires { IfSome reply.now IsMadeDown }
-        ensures { OnOk result ((front : Front) (served : Served) → served.session ≡ session → is_last_def served.item ≡ is_last → IsLink self.old (record front.link { up = front.later }) → IsLink self.new (after_front front served reply.now)) }
+        ensures { OnOk result ((front : Front) (served : Served) → served.session ≡ session
+            → is_last_def served.item ≡ is_last
+            → IsLink self.old (record front.link { up = front.later })
+            → IsLink self.new (after_front front served reply.now)) }
     {
         self.session = Some(session);
         self.is_living = !is_last;
@@ -164,11 +171,12 @@ impl Connection {
         Ok(())
     }
 
-    /// Takes the reply that stands first, and the identifier that comes with it. What stands there was
-    /// spelled here, so a whole frame is no bad one. Linear in the reply.
+    /// Takes the reply that stands first, and the identifier that comes with it. What stands there
+    /// was spelled here, so a whole frame is no bad one. Linear in the reply.
     pub(crate) fn take(&mut self) -> Result<Option<Down>, NoMemory>
         requires { IsSomeLink self.old }
-        ensures { IfOk result (λ reply. (link : Link) → IsLink self.old link → GivesReply link link.down reply self.new) }
+        ensures { IfOk result (λ reply. (link : Link) → IsLink self.old link
+            → GivesReply link link.down reply self.new) }
     {
         any_cut::<Down>();
         let reply = match self.down.next() {
@@ -185,7 +193,8 @@ impl Connection {
     /// memory.
     pub(crate) fn cut(&mut self, event: u64, up: u64, down: u64) -> Reached
         requires { self.old.ended ≡ None }
-        ensures link { (link : Link) → IsLink self.old link → (result ≡ reached_of link up down) × IsLink self.new (cut_link event up down link) }
+        ensures link { (link : Link) → IsLink self.old link
+            → (result ≡ reached_of link up down) × IsLink self.new (cut_link event up down link) }
         ensures bytes { KeepsFirst up down self.old self.new }
     {
         cut_leaves_whole_frames::<Up>();
@@ -219,7 +228,8 @@ impl Connection {
 
     /// Leaves the pool, where it is idle under this number, if it is open.
     pub(crate) fn leave(&self, number: u64, pool: &mut Pool)
-        ensures { (link : Link) → IsLink self.now link → pool.new ≡ (if link.is_open then after_gone pool.old number else pool.old) }
+        ensures { (link : Link) → IsLink self.now link
+            → pool.new ≡ (if link.is_open then after_gone pool.old number else pool.old) }
     {
         if self.ended.is_none() {
             pool.gone(number);

@@ -27,8 +27,8 @@ use std::collections::BTreeSet;
 use svc_values::{Down, Ltxid, NoMemory, SessionId, Up};
 
 /// The connections of a run, numbered from 1 in order of opening. Each call finds one by its number
-/// in constant time, and a call that begins or ends a session takes the logarithm of those that live
-/// besides.
+/// in constant time, and a call that begins or ends a session takes the logarithm of those that
+/// live besides.
 ///
 /// `fallen` is how many the last crash found: it ended these for good, so the next one passes over
 /// them. `living` has the number of each whose session lives.
@@ -55,7 +55,8 @@ impl Connections {
 
     /// Where the connection of this number stands, if there is one.
     fn place(&self, number: u64) -> Option<usize>
-        ensures { MatchOption result (connection_at self.now.all.items number ≡ None) (λ at. (number ≡ suc at) × (at < length self.now.all.items)) }
+        ensures { MatchOption result (connection_at self.now.all.items number ≡ None)
+            (λ at. (number ≡ suc at) × (at < length self.now.all.items)) }
     {
         let before = number.checked_sub(1)?;
         if before >= self.all.len() as u64 {
@@ -67,7 +68,8 @@ impl Connections {
     /// The connection of this number, if there is one.
     pub fn get(&self, number: u64) -> Option<&Connection>
         ensures exact { option_copied result ≡ connection_at self.now.all.items number }
-        ensures found { (links : List Link) → Stand self.now links → IsFound (option_copied result) (link_at links number) }
+        ensures found { (links : List Link) → Stand self.now links
+            → IsFound (option_copied result) (link_at links number) }
     {
         let at = self.place(number)?;
         Some(&self.all[at])
@@ -75,7 +77,8 @@ impl Connections {
 
     /// The session of one, once it has its name.
     pub fn session(&self, number: u64) -> Option<SessionId>
-        ensures { (links : List Link) (link : Link) → link_at links number ≡ Some link → Stand self.now links → result ≡ link.session }
+        ensures { (links : List Link) (link : Link) → link_at links number ≡ Some link
+            → Stand self.now links → result ≡ link.session }
     {
         let at = self.place(number)?;
         self.all[at].session
@@ -83,7 +86,8 @@ impl Connections {
 
     /// The identifier that is held on the one of this number.
     pub fn held(&self, number: u64) -> Option<Ltxid>
-        ensures { (links : List Link) (link : Link) → link_at links number ≡ Some link → Stand self.now links → (result ≡ link.held) × IfSome result IsLtxid }
+        ensures { (links : List Link) (link : Link) → link_at links number ≡ Some link
+            → Stand self.now links → (result ≡ link.held) × IfSome result IsLtxid }
     {
         let at = self.place(number)?;
         self.all[at].held
@@ -91,7 +95,8 @@ impl Connections {
 
     /// The event that ended the one of this number, if one did.
     pub fn ended(&self, number: u64) -> Option<u64>
-        ensures { (links : List Link) (link : Link) → link_at links number ≡ Some link → Stand self.now links → (result ≡ link.ended) × (link.is_open ≡ is_none result) }
+        ensures { (links : List Link) (link : Link) → link_at links number ≡ Some link
+            → Stand self.now links → (result ≡ link.ended) × (link.is_open ≡ is_none result) }
     {
         let at = self.place(number)?;
         self.all[at].ended
@@ -101,7 +106,8 @@ impl Connections {
     pub fn add(&mut self) -> Result<u64, NoMemory>
         ensures number { IfOk result (λ number. number ≡ length self.old.all.items + 1) }
         ensures is_open { IfOk result (λ number. IsOpenAt self.new.all.items number) }
-        ensures added { IfOk result (λ number. (links : List Link) → Stand self.old links → (number ≡ length links + 1) × Stand self.new (links ++ new_link ∷ [])) }
+        ensures added { IfOk result (λ number. (links : List Link) → Stand self.old links
+            → (number ≡ length links + 1) × Stand self.new (links ++ new_link ∷ [])) }
     {
         self.all.push(Connection::new(self.alloc))?;
         let opened = self.all.len() as u64;
@@ -114,8 +120,11 @@ impl Connections {
     pub fn send(&mut self, number: u64, event: u64, frames: &[Up]) -> Result<(), NoMemory>
         requires may { MaySend (connection_at self.old.all.items number) frames.now }
         requires made { AllByRecursion IsMadeUp frames.now }
-        ensures others { (other : ℕ) → (other ≡ number → ⊥) → connection_at self.new.all.items other ≡ connection_at self.old.all.items other }
-        ensures sent { OnOk result ((links : List Link) (sent : List Sent) → up_frames sent ≡ frames.now → Stand self.old links → Stand self.new (changed (sends event sent) links number)) }
+        ensures others { (other : ℕ) → (other ≡ number → ⊥)
+            → connection_at self.new.all.items other ≡ connection_at self.old.all.items other }
+        ensures sent { OnOk result ((links : List Link) (sent : List Sent)
+            → up_frames sent ≡ frames.now → Stand self.old links
+            → Stand self.new (changed (sends event sent) links number)) }
     {
         let Some(at) = self.place(number) else {
             return Ok(());
@@ -123,11 +132,12 @@ impl Connections {
         self.all[at].send(self.alloc, event, frames)
     }
 
-    /// Takes off the frame that is served next on one: the first whole one, while its session lives.
-    /// Linear in the frame.
+    /// Takes off the frame that is served next on one: the first whole one, while its session
+    /// lives. Linear in the frame.
     pub(crate) fn first_up(&mut self, number: u64) -> Result<Option<Up>, NoMemory>
         requires { StandForSome self.old }
-        ensures { IfOk result (λ frame. (links : List Link) → Stand self.old links → GivesFrontAt links number (front_at links number) frame self.new) }
+        ensures { IfOk result (λ frame. (links : List Link) → Stand self.old links
+            → GivesFrontAt links number (front_at links number) frame self.new) }
     {
         let Some(at) = self.place(number) else {
             return Ok(None);
@@ -135,8 +145,8 @@ impl Connections {
         self.all[at].first_up()
     }
 
-    /// Notes that the frame that was taken off was served by this session, which may end with it, and
-    /// sends the reply, which goes nowhere once the connection has ended. Linear in the reply.
+    /// Notes that the frame that was taken off was served by this session, which may end with it,
+    /// and sends the reply, which goes nowhere once the connection has ended. Linear in the reply.
     pub fn serve(
         &mut self,
         number: u64,
@@ -145,13 +155,18 @@ impl Connections {
         reply: &Option<Down>,
     ) -> Result<(), NoMemory>
         requires { IfSome reply.now IsMadeDown }
-        ensures { OnOk result ((links : List Link) (front : Front) (served : Served) → served.session ≡ session → is_last_def served.item ≡ is_last → link_at links number ≡ Some (record front.link { up = front.later }) → Stand self.old links → Stand self.new (with_link links number (after_front front served reply.now))) }
+        ensures { OnOk result ((links : List Link) (front : Front) (served : Served)
+            → served.session ≡ session → is_last_def served.item ≡ is_last
+            → link_at links number ≡ Some (record front.link { up = front.later })
+            → Stand self.old links
+            → Stand self.new (with_link links number (after_front front served reply.now))) }
     {
         let Some(at) = self.place(number) else {
             return Ok(());
         };
         self.all[at].serve(self.alloc, session, is_last, reply)?;
-        // No clause asks that its session lives and that no crash ended it, so both notes are kept for any.
+        // No clause asks that its session lives and that no crash ended it, so both notes are kept
+        // for any.
         self.fallen = self.fallen.min(at);
         if is_last {
             self.living.remove(&number);
@@ -161,11 +176,13 @@ impl Connections {
         Ok(())
     }
 
-    /// Takes the reply that stands first on one, and the identifier that comes with it. Linear in the
-    /// reply.
+    /// Takes the reply that stands first on one, and the identifier that comes with it. Linear in
+    /// the reply.
     pub(crate) fn take(&mut self, number: u64) -> Result<Option<Down>, NoMemory>
         requires { StandForSome self.old }
-        ensures { IfOk result (λ reply. (links : List Link) (link : Link) → link_at links number ≡ Some link → Stand self.old links → GivesReplyAt links number link link.down reply self.new) }
+        ensures { IfOk result (λ reply. (links : List Link) (link : Link)
+            → link_at links number ≡ Some link → Stand self.old links
+            → GivesReplyAt links number link link.down reply self.new) }
     {
         let Some(at) = self.place(number) else {
             return Ok(None);
@@ -175,7 +192,8 @@ impl Connections {
 
     /// The event ends one, if it is open.
     pub fn end(&mut self, number: u64, event: u64)
-        ensures { (links : List Link) → Stand self.old links → Stand self.new (changed (ends event) links number) }
+        ensures { (links : List Link) → Stand self.old links
+            → Stand self.new (changed (ends event) links number) }
     {
         if let Some(at) = self.place(number) {
             self.all[at].end(event);
@@ -185,7 +203,8 @@ impl Connections {
     /// Cuts one, if it is open: of the bytes on their way the first `up` still reach the server and
     /// the first `down` the client. Tells how many that are. It takes no memory.
     pub fn cut(&mut self, number: u64, event: u64, up: u64, down: u64) -> Option<Reached>
-        ensures links { (links : List Link) → Stand self.old links → CutsAt links number event up down (open_at links number) result self.new }
+        ensures links { (links : List Link) → Stand self.old links
+            → CutsAt links number event up down (open_at links number) result self.new }
         ensures bytes { KeepsFirstAt number up down self.old.all.items self.new.all.items }
     {
         let at = self.place(number)?;
@@ -195,10 +214,12 @@ impl Connections {
         Some(self.all[at].cut(event, up, down))
     }
 
-    /// Ends the session of one that was cut, if it lives still, and tells whether it did. It takes no
-    /// memory.
+    /// Ends the session of one that was cut, if it lives still, and tells whether it did. It takes
+    /// no memory.
     pub fn reap(&mut self, number: u64) -> bool
-        ensures { (links : List Link) → Stand self.old links → (result ≡ has_orphan links number) × Stand self.new (if result then changed reaped_link links number else links) }
+        ensures { (links : List Link) → Stand self.old links
+            → (result ≡ has_orphan links number)
+            × Stand self.new (if result then changed reaped_link links number else links) }
     {
         let Some(at) = self.place(number) else {
             return false;
@@ -211,11 +232,12 @@ impl Connections {
         true
     }
 
-    /// The server falls: all connections and sessions end, and of what is on its way the replies that
-    /// a cut let arrive are left. Linear in the connections that were opened since the last crash, and
-    /// takes no memory.
+    /// The server falls: all connections and sessions end, and of what is on its way the replies
+    /// that a cut let arrive are left. Linear in the connections that were opened since the last
+    /// crash, and takes no memory.
     pub fn fall(&mut self, event: u64)
-        ensures { (links : List Link) → Stand self.old links → Stand self.new (map (fallen_link event) links) }
+        ensures { (links : List Link) → Stand self.old links
+            → Stand self.new (map (fallen_link event) links) }
     {
         for at in self.fallen..self.all.len() {
             self.all[at].fall(event);
@@ -227,7 +249,8 @@ impl Connections {
     /// Those that are open leave the pool, if they are idle. It costs the number of those that were
     /// opened since the last crash times that of the idle ones, and takes no memory.
     pub fn leave(&self, pool: &mut Pool)
-        ensures { (links : List Link) → Stand self.now links → pool.new ≡ fold after_gone pool.old (open_from 1 links) }
+        ensures { (links : List Link) → Stand self.now links
+            → pool.new ≡ fold after_gone pool.old (open_from 1 links) }
     {
         for at in self.fallen..self.all.len() {
             self.all[at].leave(at as u64 + 1, pool);
@@ -267,7 +290,8 @@ impl Connections {
 
     /// The first one among those whose session lives on which a frame may be served.
     fn find_front(&self) -> Option<u64>
-        ensures found { result ≡ find (holds_at may_be_served self.now.all.items) self.now.living.keys }
+        ensures found { result ≡ find (holds_at may_be_served self.now.all.items)
+            self.now.living.keys }
         ensures rising { IsOrdered nat_cmp self.now.living }
     {
         self.living
@@ -278,14 +302,16 @@ impl Connections {
 
     /// The first one that was cut and whose session lives on. Linear in those whose session lives.
     pub fn first_orphan(&self) -> Option<u64>
-        ensures { (links : List Link) → Stand self.now links → result ≡ first_behind is_orphan_def 0 links }
+        ensures { (links : List Link) → Stand self.now links
+            → result ≡ first_behind is_orphan_def 0 links }
     {
         self.find_orphan()
     }
 
     /// The first one on which a frame may be served. Linear in those whose session lives.
     pub fn first_front(&self) -> Option<u64>
-        ensures { (links : List Link) → Stand self.now links → result ≡ first_behind (λ link. is_some (front_of link)) 0 links }
+        ensures { (links : List Link) → Stand self.now links
+            → result ≡ first_behind (λ link. is_some (front_of link)) 0 links }
     {
         any_cut::<Up>();
         self.find_front()

@@ -14,8 +14,8 @@ use world_model::laws::orderly_is_kept;
 
 impl<S: Service + Drop> Ground<S> {
     /// Serves the frame that stands first on a connection, if one may be served there, under a stop
-    /// after so many device calls, and then the server falls and leaves the image of this pick. Gives
-    /// the frame's item. Where the server is down nothing happens.
+    /// after so many device calls, and then the server falls and leaves the image of this pick.
+    /// Gives the frame's item. Where the server is down nothing happens.
     pub fn crash(
         &mut self,
         alloc: Global,
@@ -25,8 +25,11 @@ impl<S: Service + Drop> Ground<S> {
     ) -> Result<(Note, Option<Served>), NoMemory>
         requires events { self.old.traffic.event < 2 ^ 45 }
         requires there { IsSomewhere (S.sees self.old.service) self.old.traffic }
-        ensures made { IfOk result (λ made. Makes (S.sees self.old.service) self.old.traffic (S.sees self.new.service) self.new.traffic (Event.Crash connection after pick) made.0 (option_to_list made.1)) }
-        ensures base { OnOk result (HaveOneBase (S.bytes self.old.service) (S.bytes self.new.service)) }
+        ensures made { IfOk result (λ made.
+            Makes (S.sees self.old.service) self.old.traffic (S.sees self.new.service)
+            self.new.traffic (Event.Crash connection after pick) made.0 (option_to_list made.1)) }
+        ensures base { OnOk result
+            (HaveOneBase (S.bytes self.old.service) (S.bytes self.new.service)) }
     {
         orderly_is_kept();
         if !self.service.is_up() {
@@ -47,8 +50,8 @@ impl<S: Service + Drop> Ground<S> {
         Ok((note, served))
     }
 
-    /// Begins the event, and serves the frame that stands first on a connection, if one may be served
-    /// there, under a stop after so many device calls.
+    /// Begins the event, and serves the frame that stands first on a connection, if one may be
+    /// served there, under a stop after so many device calls.
     fn serve_last(
         &mut self,
         alloc: Global,
@@ -58,8 +61,11 @@ impl<S: Service + Drop> Ground<S> {
         requires events { self.old.traffic.event < 2 ^ 45 }
         requires there { IsSomewhere (S.sees self.old.service) self.old.traffic }
         requires up { (S.state self.old.service).is_up ≡ true }
-        ensures led { IfOk result (λ served. LeadsLast (S.sees self.old.service) self.old.traffic (S.sees self.new.service) (S.leaves self.new.service) self.new.traffic connection after (option_to_list served)) }
-        ensures base { OnOk result (HaveOneBase (S.bytes self.old.service) (S.bytes self.new.service)) }
+        ensures led { IfOk result (λ served.
+            LeadsLast (S.sees self.old.service) self.old.traffic (S.sees self.new.service)
+            (S.leaves self.new.service) self.new.traffic connection after (option_to_list served)) }
+        ensures base { OnOk result
+            (HaveOneBase (S.bytes self.old.service) (S.bytes self.new.service)) }
     {
         compares_exactly();
         self.traffic.begin();
@@ -73,7 +79,7 @@ impl<S: Service + Drop> Ground<S> {
             .serve(alloc, connection, &frame, self.traffic.tick)
         {
             Ok(reply) => {
-                let served = self.traffic.answer(alloc, connection, frame, &reply)?;
+                let served = self.traffic.answer(connection, frame, reply)?;
                 Ok(Some(served))
             }
             Err(ServeFault::Stopped) => {

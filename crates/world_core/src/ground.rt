@@ -43,21 +43,26 @@ impl<S: Service + Drop> Ground<S> {
 
     /// Whether the server is up.
     pub fn is_up(&self) -> bool
-        ensures { (seen : Seen) (t : Traced) → IsAt (S.sees self.now.service) self.now.traffic seen t → result ≡ t.machine.server.is_up }
+        ensures { (seen : Seen) (t : Traced)
+            → IsAt (S.sees self.now.service) self.now.traffic seen t
+            → result ≡ t.machine.server.is_up }
     {
         self.service.is_up()
     }
 
-    /// The first connection that was cut and whose session lives on. Linear in those whose session lives.
+    /// The first connection that was cut and whose session lives on. Linear in those whose session
+    /// lives.
     pub fn first_orphan(&self) -> Option<u64>
-        ensures { (m : Machine) → IsUnderway self.now.traffic m → result ≡ first_behind is_orphan 0 m.links }
+        ensures { (m : Machine) → IsUnderway self.now.traffic m
+            → result ≡ first_behind is_orphan 0 m.links }
     {
         self.traffic.connections.first_orphan()
     }
 
     /// The first connection on which a frame may be served. Linear in those whose session lives.
     pub fn first_front(&self) -> Option<u64>
-        ensures { (m : Machine) → IsUnderway self.now.traffic m → result ≡ first_behind (λ link. is_some (front_of link)) 0 m.links }
+        ensures { (m : Machine) → IsUnderway self.now.traffic m
+            → result ≡ first_behind (λ link. is_some (front_of link)) 0 m.links }
     {
         self.traffic.connections.first_front()
     }
@@ -73,7 +78,8 @@ impl<S: Service + Drop> Ground<S> {
     pub fn tick(&mut self) -> Note
         requires events { self.old.traffic.event < 2 ^ 45 }
         requires there { IsSomewhere (S.sees self.old.service) self.old.traffic }
-        ensures made { Makes (S.sees self.old.service) self.old.traffic (S.sees self.new.service) self.new.traffic Event.Tick result [] }
+        ensures made { Makes (S.sees self.old.service) self.old.traffic (S.sees self.new.service)
+            self.new.traffic Event.Tick result [] }
         ensures base { HaveOneBase (S.bytes self.old.service) (S.bytes self.new.service) }
     {
         orderly_is_kept();
@@ -82,8 +88,8 @@ impl<S: Service + Drop> Ground<S> {
         Note::Tick
     }
 
-    /// Serves the frame that stands first on a connection, if one may be served there, and gives its
-    /// item.
+    /// Serves the frame that stands first on a connection, if one may be served there, and gives
+    /// its item.
     pub fn serve(
         &mut self,
         alloc: Global,
@@ -91,8 +97,11 @@ impl<S: Service + Drop> Ground<S> {
     ) -> Result<(Note, Option<Served>), NoMemory>
         requires events { self.old.traffic.event < 2 ^ 45 }
         requires there { IsSomewhere (S.sees self.old.service) self.old.traffic }
-        ensures made { IfOk result (λ made. Makes (S.sees self.old.service) self.old.traffic (S.sees self.new.service) self.new.traffic (Event.Serve connection) made.0 (option_to_list made.1)) }
-        ensures base { OnOk result (HaveOneBase (S.bytes self.old.service) (S.bytes self.new.service)) }
+        ensures made { IfOk result (λ made.
+            Makes (S.sees self.old.service) self.old.traffic (S.sees self.new.service)
+            self.new.traffic (Event.Serve connection) made.0 (option_to_list made.1)) }
+        ensures base { OnOk result
+            (HaveOneBase (S.bytes self.old.service) (S.bytes self.new.service)) }
     {
         compares_exactly();
         orderly_is_kept();
@@ -114,7 +123,7 @@ impl<S: Service + Drop> Ground<S> {
             Err(ServeFault::NoMemory) => return Err(NoMemory),
             Err(ServeFault::Stopped) => unreachable!(),
         };
-        let served = self.traffic.answer(alloc, connection, frame, &reply)?;
+        let served = self.traffic.answer(connection, frame, reply)?;
         let note = Note::Serve {
             connection,
             frame: Some(name),
@@ -126,7 +135,8 @@ impl<S: Service + Drop> Ground<S> {
     /// server and the first `down` the client.
     pub fn cut(&mut self, connection: u64, up: u64, down: u64) -> Note
         requires events { self.old.traffic.event < 2 ^ 45 }
-        ensures made { Makes (S.sees self.old.service) self.old.traffic (S.sees self.new.service) self.new.traffic (Event.Cut connection up down) result [] }
+        ensures made { Makes (S.sees self.old.service) self.old.traffic (S.sees self.new.service)
+            self.new.traffic (Event.Cut connection up down) result [] }
         ensures bytes { CutsFirst (Event.Cut connection up down) self.old.traffic self.new.traffic }
         ensures base { HaveOneBase (S.bytes self.old.service) (S.bytes self.new.service) }
     {
@@ -142,7 +152,8 @@ impl<S: Service + Drop> Ground<S> {
     pub fn reap(&mut self, connection: u64) -> Note
         requires events { self.old.traffic.event < 2 ^ 45 }
         requires there { IsSomewhere (S.sees self.old.service) self.old.traffic }
-        ensures made { Makes (S.sees self.old.service) self.old.traffic (S.sees self.new.service) self.new.traffic (Event.Reap connection) result [] }
+        ensures made { Makes (S.sees self.old.service) self.old.traffic (S.sees self.new.service)
+            self.new.traffic (Event.Reap connection) result [] }
         ensures base { HaveOneBase (S.bytes self.old.service) (S.bytes self.new.service) }
     {
         orderly_is_kept();
@@ -160,14 +171,17 @@ impl<S: Service + Drop> Ground<S> {
         }
     }
 
-    /// Opens the store, where the server is down, and forgets the outcomes of all incarnations below
-    /// the horizon. The cost is linear in the store.
+    /// Opens the store, where the server is down, and forgets the outcomes of all incarnations
+    /// below the horizon. The cost is linear in the store.
     pub fn up(&mut self, alloc: Global, horizon: u64) -> Result<Note, NoMemory>
         requires events { self.old.traffic.event < 2 ^ 45 }
         requires there { IsSomewhere (S.sees self.old.service) self.old.traffic }
         requires may { MayForget (S.state self.old.service) horizon }
-        ensures made { IfOk result (λ note. MakesBelow horizon (S.sees self.old.service) self.old.traffic (S.sees self.new.service) self.new.traffic Event.Up note []) }
-        ensures base { OnOk result (HaveOneBase (S.bytes self.old.service) (S.bytes self.new.service)) }
+        ensures made { IfOk result (λ note.
+            MakesBelow horizon (S.sees self.old.service) self.old.traffic (S.sees self.new.service)
+            self.new.traffic Event.Up note []) }
+        ensures base { OnOk result
+            (HaveOneBase (S.bytes self.old.service) (S.bytes self.new.service)) }
     {
         orderly_is_kept();
         self.traffic.begin();
@@ -190,8 +204,11 @@ impl<S: Service + Drop> Ground<S> {
     pub fn drain(&mut self) -> Result<Note, NoMemory>
         requires events { self.old.traffic.event < 2 ^ 45 }
         requires there { IsSomewhere (S.sees self.old.service) self.old.traffic }
-        ensures made { IfOk result (λ note. Makes (S.sees self.old.service) self.old.traffic (S.sees self.new.service) self.new.traffic Event.Drain note []) }
-        ensures base { OnOk result (HaveOneBase (S.bytes self.old.service) (S.bytes self.new.service)) }
+        ensures made { IfOk result (λ note.
+            Makes (S.sees self.old.service) self.old.traffic (S.sees self.new.service)
+            self.new.traffic Event.Drain note []) }
+        ensures base { OnOk result
+            (HaveOneBase (S.bytes self.old.service) (S.bytes self.new.service)) }
     {
         orderly_is_kept();
         self.traffic.begin();

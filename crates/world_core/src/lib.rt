@@ -1,4 +1,5 @@
-//! The world: connections with their sessions, clients and the pool, run event by event over any service.
+//! The world: connections with their sessions, clients and the pool, run event by event over any
+//! service.
 #![tactic(auto)]
 
 mod answering;

@@ -14,8 +14,9 @@ use std::alloc::Global;
 use svc_values::NoMemory;
 
 impl<S: Service + Drop> Ground<S> {
-    /// Makes an event that is no step of a client, with its note and the item of the frame that it served. An opening forgets the
-    /// outcomes of all incarnations below the horizon, and a cut leaves the first of the bytes on their way.
+    /// Makes an event that is no step of a client, with its note and the item of the frame that it
+    /// served. An opening forgets the outcomes of all incarnations below the horizon, and a cut
+    /// leaves the first of the bytes on their way.
     pub fn make(
         &mut self,
         alloc: Global,
@@ -27,9 +28,12 @@ impl<S: Service + Drop> Ground<S> {
         requires may { MayForget (S.state self.old.service) horizon }
         requires allowed { (clients : ℕ) × IsAllowed clients event.now }
         requires other { is_go event.now ≡ false }
-        ensures made { IfOk result (λ made. MakesBelow horizon (S.sees self.old.service) self.old.traffic (S.sees self.new.service) self.new.traffic event.now made.0 (option_to_list made.1)) }
+        ensures made { IfOk result (λ made.
+            MakesBelow horizon (S.sees self.old.service) self.old.traffic (S.sees self.new.service)
+            self.new.traffic event.now made.0 (option_to_list made.1)) }
         ensures bytes { OnOk result (CutsFirst event.now self.old.traffic self.new.traffic) }
-        ensures base { OnOk result (HaveOneBase (S.bytes self.old.service) (S.bytes self.new.service)) }
+        ensures base { OnOk result
+            (HaveOneBase (S.bytes self.old.service) (S.bytes self.new.service)) }
     {
         match event {
             Event::Go { .. } => unreachable!(),

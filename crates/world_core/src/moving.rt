@@ -25,8 +25,8 @@ fn opened_by(did: GoNote) -> Option<u64>
 }
 
 impl<S: Service + Drop> Ground<S> {
-    /// One step of a client. A connection that it opens is told to the service. Linear in what goes out and comes in, and in the waiters
-    /// of the pool.
+    /// One step of a client. A connection that it opens is told to the service. Linear in what goes
+    /// out and comes in, and in the waiters of the pool.
     pub fn go<R: BoundRule + Copy>(
         &mut self,
         alloc: Global,
@@ -35,10 +35,15 @@ impl<S: Service + Drop> Ground<S> {
         number: u64,
     ) -> Result<Note, NoMemory>
         requires events { self.old.traffic.event < 2 ^ 45 }
-        requires there { SomeBeside R (λ rule. R.rules rule) (S.sees self.old.service) script.now number self.old.traffic client.old }
+        requires there { SomeBeside R (λ rule. R.rules rule) (S.sees self.old.service) script.now
+            number self.old.traffic client.old }
         requires fit { AllByRecursion IsFit script.now }
-        ensures made { IfOk result (λ note. MakesStep R (λ rule. R.rules rule) (S.sees self.old.service) self.old.traffic (S.sees self.new.service) self.new.traffic script.now number client.old client.new note) }
-        ensures base { OnOk result (HaveOneBase (S.bytes self.old.service) (S.bytes self.new.service)) }
+        ensures made { IfOk result (λ note.
+            MakesStep R (λ rule. R.rules rule) (S.sees self.old.service) self.old.traffic
+            (S.sees self.new.service) self.new.traffic script.now number client.old client.new
+            note) }
+        ensures base { OnOk result
+            (HaveOneBase (S.bytes self.old.service) (S.bytes self.new.service)) }
     {
         orderly_is_kept();
         self.traffic.begin();

@@ -16,10 +16,11 @@ pub(crate) struct Ended {
     pub(crate) tick: u64,
 }
 
-/// Which incarnations of a run have ended, and when. The outcomes of one are kept for `retention` ticks from its end.
+/// Which incarnations of a run have ended, and when. The outcomes of one are kept for `retention`
+/// ticks from its end.
 ///
-/// Of those that ended in one tick the greatest is held. Each is passed at the tick from which it may be forgotten, so that an opening
-/// asks at no cost.
+/// Of those that ended in one tick the greatest is held. Each is passed at the tick from which it
+/// may be forgotten, so that an opening asks at no cost.
 #[derive(Drop)]
 pub struct Openings {
     retention: u64,
@@ -38,7 +39,16 @@ impl Model for Openings {
 
     ghost Value = { Held };
 
-    ghost view = { λ o. record { retention = o.retention; tick = o.tick; running = o.running; ending = o.ending; ended = o.ended.items; passed = o.passed; wanted = o.wanted } };
+    ghost view = { λ o.
+        record {
+          retention = o.retention;
+          tick = o.tick;
+          running = o.running;
+          ending = o.ending;
+          ended = o.ended.items;
+          passed = o.passed;
+          wanted = o.wanted;
+        } };
 }
 
 /// The greater one, where there are two.
@@ -52,7 +62,8 @@ fn greatest(one: u64, other: Option<u64>) -> u64
 }
 
 impl Openings {
-    /// The opening before event 1, of a store whose last incarnation is `last`, or that was never opened. It takes no memory.
+    /// The opening before event 1, of a store whose last incarnation is `last`, or that was never
+    /// opened. It takes no memory.
     pub fn new(alloc: Global, retention: u64, opened: bool, last: u64) -> Openings
         requires kept { retention ≤ 2 ^ 62 }
         requires room { last < 2 ^ 63 }
@@ -69,10 +80,11 @@ impl Openings {
         }
     }
 
-    /// The horizon that an opening wants now: one more than the greatest incarnation that ended more than `retention` ticks ago, and 0
-    /// where there is none.
+    /// The horizon that an opening wants now: one more than the greatest incarnation that ended
+    /// more than `retention` ticks ago, and 0 where there is none.
     pub fn wanted(&self) -> u64
-        ensures { (retention : ℕ) (told : Told) → Tracks retention self.now told → result ≡ wanted_horizon retention told }
+        ensures { (retention : ℕ) (told : Told) → Tracks retention self.now told
+            → result ≡ wanted_horizon retention told }
     {
         self.wanted
     }
@@ -131,7 +143,8 @@ impl Openings {
         requires tracked { IsTracked self.old }
         requires ticks { self.old.tick < 2 ^ 48 }
         requires room { NotesOpening (λ incarnation. incarnation < 2 ^ 63) note.now }
-        ensures { OnOk result ((retention : ℕ) (told : Told) → Tracks retention self.old told → Tracks retention self.new (after_note told note.now)) }
+        ensures { OnOk result ((retention : ℕ) (told : Told) → Tracks retention self.old told
+            → Tracks retention self.new (after_note told note.now)) }
     {
         match note {
             Note::Tick => self.pass(),

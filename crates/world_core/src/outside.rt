@@ -20,8 +20,11 @@ impl<S: Service + Drop> Ground<S> {
         requires events { self.old.traffic.event < 2 ^ 45 }
         requires there { IsSomewhere (S.sees self.old.service) self.old.traffic }
         requires calls { AllByRecursion IsMade calls.now }
-        ensures made { IfOk result (λ note. Makes (S.sees self.old.service) self.old.traffic (S.sees self.new.service) self.new.traffic (Event.Outside calls.now) note []) }
-        ensures base { OnOk result (HaveOneBase (S.bytes self.old.service) (S.bytes self.new.service)) }
+        ensures made { IfOk result (λ note.
+            Makes (S.sees self.old.service) self.old.traffic (S.sees self.new.service)
+            self.new.traffic (Event.Outside calls.now) note []) }
+        ensures base { OnOk result
+            (HaveOneBase (S.bytes self.old.service) (S.bytes self.new.service)) }
     {
         compares_exactly();
         orderly_is_kept();

@@ -18,7 +18,9 @@ ghost use Rattle.world_core.specs.CutBytes.{KeepsFirstAt};
 ghost use Rattle.world_core.specs.Linked.{up_frames, connection_at, MaySend, IsOpenAt};
 ghost use Rattle.world_core.specs.Underway.{AreClosable, all_closed, IsUnderway, IsUnderwaySome, Leads, GivesFrontOf, GivesReplyOf, MayRelease, closes_with, IsWritten, IsStopped};
 
-use crate::answering::{crashed_item, is_blocked, is_last, served_item, session_served};
+use crate::answering::{
+    crashed_item, ends_session, is_blocked, is_last, served_item, session_served,
+};
 use crate::connections::Connections;
 use client_model::Hold;
 use outage_schedule::{Reached, Served};
@@ -53,7 +55,9 @@ impl Traffic {
     pub fn new(alloc: Global, slots: u64) -> Traffic
         requires some { 1 ≤ slots }
         requires few { slots ≤ 64 }
-        ensures { (m : Machine) → IsUnderway result (record m { event = 0; tick = 0; links = []; pool = unused slots }) }
+        ensures { (m : Machine)
+            → IsUnderway result
+            (record m { event = 0; tick = 0; links = []; pool = unused slots }) }
     {
         Traffic {
             event: 0,
@@ -67,7 +71,8 @@ impl Traffic {
     pub fn begin(&mut self)
         requires { self.old.event < 2 ^ 48 }
         ensures counted { self.new ≡ record self.old { event = self.old.event + 1 } }
-        ensures begun { (m : Machine) → IsUnderway self.old m → IsUnderway self.new (record m { event = m.event + 1 }) }
+        ensures begun { (m : Machine) → IsUnderway self.old m
+            → IsUnderway self.new (record m { event = m.event + 1 }) }
     {
         self.event += 1;
     }
@@ -83,8 +88,10 @@ impl Traffic {
     /// Cuts a connection, if it is open, and tells how many of the bytes on their way still arrive.
     /// One that is idle leaves the pool. Linear in the idle connections, and takes no memory.
     pub fn cut(&mut self, number: u64, up: u64, down: u64) -> Option<Reached>
-        ensures machine { (m : Machine) → IsUnderway self.old m → Leads (follow_cut m number up down result) self.new }
-        ensures bytes { KeepsFirstAt number up down self.old.connections.all.items self.new.connections.all.items }
+        ensures machine { (m : Machine) → IsUnderway self.old m
+            → Leads (follow_cut m number up down result) self.new }
+        ensures bytes { KeepsFirstAt number up down self.old.connections.all.items
+            self.new.connections.all.items }
     {
         let reached = self.connections.cut(number, self.event, up, down);
         if reached.is_some() {
@@ -95,7 +102,8 @@ impl Traffic {
 
     /// Ends the session of an orphan, and tells whether there was one. Takes no memory.
     pub fn reap(&mut self, number: u64) -> bool
-        ensures { (m : Machine) → IsUnderway self.old m → Leads (follow_reap m number result) self.new }
+        ensures { (m : Machine) → IsUnderway self.old m
+            → Leads (follow_reap m number result) self.new }
     {
         self.connections.reap(number)
     }
@@ -105,7 +113,10 @@ impl Traffic {
         requires { self.old.pool.opened ≤ length self.old.connections.all.items }
         ensures is_open { IfOk result (λ number. IsOpenAt self.new.connections.all.items number) }
         ensures tick { OnOk result (self.new.tick ≡ self.old.tick) }
-        ensures opened { IfOk result (λ number. (m : Machine) → IsUnderway self.old m → (number ≡ length m.links + 1) × IsUnderway self.new (record m { links = m.links ++ new_link ∷ []; pool = after_opened m.pool number })) }
+        ensures opened { IfOk result (λ number. (m : Machine) → IsUnderway self.old m
+            → (number ≡ length m.links + 1)
+            × IsUnderway self.new
+            (record m { links = m.links ++ new_link ∷ []; pool = after_opened m.pool number })) }
     {
         let number = self.connections.add()?;
         self.pool.opened(number);
@@ -114,14 +125,16 @@ impl Traffic {
 
     /// The identifier that is held on a connection.
     pub fn held(&self, number: u64) -> Option<Ltxid>
-        ensures { (m : Machine) (link : Link) → link_at m.links number ≡ Some link → IsUnderway self.now m → (result ≡ link.held) × IfSome result IsLtxid }
+        ensures { (m : Machine) (link : Link) → link_at m.links number ≡ Some link
+            → IsUnderway self.now m → (result ≡ link.held) × IfSome result IsLtxid }
     {
         self.connections.held(number)
     }
 
     /// The event that ended a connection, if one did.
     pub fn ended(&self, number: u64) -> Option<u64>
-        ensures { (m : Machine) (link : Link) → link_at m.links number ≡ Some link → IsUnderway self.now m → (result ≡ link.ended) × (link.is_open ≡ is_none result) }
+        ensures { (m : Machine) (link : Link) → link_at m.links number ≡ Some link
+            → IsUnderway self.now m → (result ≡ link.ended) × (link.is_open ≡ is_none result) }
     {
         self.connections.ended(number)
     }
@@ -130,13 +143,14 @@ impl Traffic {
     /// frame.
     pub(crate) fn first_up(&mut self, number: u64) -> Result<Option<Up>, NoMemory>
         requires { IsUnderwaySome self.old }
-        ensures { IfOk result (λ frame. (m : Machine) → IsUnderway self.old m → GivesFrontOf m number frame self.new) }
+        ensures { IfOk result (λ frame. (m : Machine) → IsUnderway self.old m
+            → GivesFrontOf m number frame self.new) }
     {
         self.connections.first_up(number)
     }
 
-    /// Notes that the frame that was taken off was served by this session, which may end with it, and
-    /// sends the reply, which goes nowhere once the connection has ended. Linear in the reply.
+    /// Notes that the frame that was taken off was served by this session, which may end with it,
+    /// and sends the reply, which goes nowhere once the connection has ended. Linear in the reply.
     pub fn serve(
         &mut self,
         number: u64,
@@ -145,31 +159,38 @@ impl Traffic {
         reply: &Option<Down>,
     ) -> Result<(), NoMemory>
         requires { IfSome reply.now IsMadeDown }
-        ensures { OnOk result ((m : Machine) (front : Front) (served : Served) → served.session ≡ session → is_last_def served.item ≡ is_last → link_at m.links number ≡ Some (record front.link { up = front.later }) → IsUnderway self.old m → IsUnderway self.new (record m { links = with_link m.links number (after_front front served reply.now) })) }
+        ensures { OnOk result ((m : Machine) (front : Front) (served : Served)
+            → served.session ≡ session → is_last_def served.item ≡ is_last
+            → link_at m.links number ≡ Some (record front.link { up = front.later })
+            → IsUnderway self.old m
+            → IsUnderway self.new
+            (record m { links = with_link m.links number (after_front front served reply.now) })) }
     {
         self.connections.serve(number, session, is_last, reply)
     }
 
-    /// Writes down that the frame that was taken off was served, with this reply, which is sent. A
-    /// commit that was blocked ends the connection. Linear in the reply, beside the idle connections
-    /// where it was.
+    /// Writes down that the frame that was taken off was served, with this reply, which is sent,
+    /// and whose answers are then moved to what is written. A commit that was blocked ends the
+    /// connection. Linear in the reply, beside the idle connections where it was.
     pub fn answer(
         &mut self,
-        alloc: Global,
         number: u64,
         frame: Up,
-        reply: &Option<Down>,
+        reply: Option<Down>,
     ) -> Result<Served, NoMemory>
-        requires { IfSome reply.now IsMadeDown }
-        ensures { IfOk result (λ served. (m : Machine) (front : Front) → link_at m.links number ≡ Some (record front.link { up = front.later }) → IsUnderway self.old m → IsWritten self.old m number front frame reply.now served self.new) }
+        requires { IfSome reply IsMadeDown }
+        ensures { IfOk result (λ served. (m : Machine) (front : Front)
+            → link_at m.links number ≡ Some (record front.link { up = front.later })
+            → IsUnderway self.old m
+            → IsWritten self.old m number front frame reply served self.new) }
     {
-        let session = session_served(self.connections.session(number), reply);
-        let item = served_item(alloc, frame, reply)?;
-        self.serve(number, session, is_last(&item), reply)?;
+        let session = session_served(self.connections.session(number), &reply);
+        let ends = ends_session(&frame, &reply);
+        self.serve(number, session, ends, &reply)?;
         let served = Served {
             event: self.event,
             session,
-            item,
+            item: served_item(frame, reply),
         };
         if !is_blocked(&served.item) {
             return Ok(served);
@@ -180,7 +201,9 @@ impl Traffic {
 
     /// Writes down that the frame that was taken off was stopped before its reply.
     pub fn stop(&mut self, number: u64, frame: Up) -> Result<Served, NoMemory>
-        ensures { IfOk result (λ served. (m : Machine) (front : Front) → link_at m.links number ≡ Some (record front.link { up = front.later }) → IsUnderway self.old m → IsStopped self.old m number front frame served self.new) }
+        ensures { IfOk result (λ served. (m : Machine) (front : Front)
+            → link_at m.links number ≡ Some (record front.link { up = front.later })
+            → IsUnderway self.old m → IsStopped self.old m number front frame served self.new) }
     {
         let event = self.event;
         let session = session_served(self.connections.session(number), &None);
@@ -196,7 +219,13 @@ impl Traffic {
     /// The event ends a connection, if it is open. One that is idle leaves the pool. Linear in the
     /// idle connections, and takes no memory.
     pub fn end(&mut self, number: u64)
-        ensures { (m : Machine) → IsUnderway self.old m → IsUnderway self.new (record m { links = changed (ends m.event) m.links number; pool = after_gone m.pool number }) }
+        ensures { (m : Machine) → IsUnderway self.old m
+            → IsUnderway self.new
+            (record m {
+              links = changed (ends m.event) m.links number;
+              pool = after_gone m.pool
+                  number;
+            }) }
     {
         self.connections.end(number, self.event);
         self.pool.gone(number);
@@ -205,7 +234,9 @@ impl Traffic {
     /// Takes the reply that stands first on a connection. Linear in the reply.
     pub(crate) fn take(&mut self, number: u64) -> Result<Option<Down>, NoMemory>
         requires { IsUnderwaySome self.old }
-        ensures { IfOk result (λ reply. (m : Machine) (link : Link) → link_at m.links number ≡ Some link → IsUnderway self.old m → GivesReplyOf m number link link.down reply self.new) }
+        ensures { IfOk result (λ reply. (m : Machine) (link : Link)
+            → link_at m.links number ≡ Some link → IsUnderway self.old m
+            → GivesReplyOf m number link link.down reply self.new) }
     {
         self.connections.take(number)
     }
@@ -214,20 +245,25 @@ impl Traffic {
     pub fn send(&mut self, number: u64, frames: &[Up]) -> Result<(), NoMemory>
         requires may { MaySend (connection_at self.old.connections.all.items number) frames.now }
         requires made { AllByRecursion IsMadeUp frames.now }
-        ensures { OnOk result ((m : Machine) (sent : List Sent) → up_frames sent ≡ frames.now → IsUnderway self.old m → IsUnderway self.new (record m { links = changed (sends m.event sent) m.links number })) }
+        ensures { OnOk result ((m : Machine) (sent : List Sent) → up_frames sent ≡ frames.now
+            → IsUnderway self.old m
+            → IsUnderway self.new
+            (record m { links = changed (sends m.event sent) m.links number })) }
     {
         self.connections.send(number, self.event, frames)
     }
 
     /// A client asks the pool for a slot and a connection. Linear in the waiters.
     pub fn ask_pool(&mut self, client: u64) -> Result<Take, NoMemory>
-        ensures { IfOk result (λ take. (m : Machine) → IsUnderway self.old m → (take ≡ take_answer m.pool client) × IsUnderway self.new (record m { pool = after_take m.pool client })) }
+        ensures { IfOk result (λ take. (m : Machine) → IsUnderway self.old m
+            → (take ≡ take_answer m.pool client)
+            × IsUnderway self.new (record m { pool = after_take m.pool client })) }
     {
         self.pool.take(client)
     }
 
-    /// The pool gets back what the request of a client lets go. It tells whether the connection is to
-    /// be closed. Linear in the waiters.
+    /// The pool gets back what the request of a client lets go. It tells whether the connection is
+    /// to be closed. Linear in the waiters.
     pub fn release(
         &mut self,
         client: u64,
@@ -236,9 +272,13 @@ impl Traffic {
         hold: Hold,
     ) -> Result<bool, NoMemory>
         requires { MayRelease self.old.pool number holds_slot hold }
-        ensures closing { IfOk result (λ closes. closes_with closes ≡ closing hold (give_back_answer self.old.pool number)) }
-        ensures others { (self.new.event ≡ self.old.event) × (self.new.connections ≡ self.old.connections) }
-        ensures released { OnOk result ((m : Machine) → IsUnderway self.old m → IsUnderway self.new (record m { pool = released m.pool client number holds_slot hold })) }
+        ensures closing { IfOk result (λ closes.
+            closes_with closes ≡ closing hold (give_back_answer self.old.pool number)) }
+        ensures others { (self.new.event ≡ self.old.event)
+            × (self.new.connections ≡ self.old.connections) }
+        ensures released { OnOk result ((m : Machine) → IsUnderway self.old m
+            → IsUnderway self.new
+            (record m { pool = released m.pool client number holds_slot hold })) }
     {
         match hold {
             Hold::Keep => Ok(false),
@@ -250,8 +290,9 @@ impl Traffic {
         }
     }
 
-    /// What a client does at a step: its frames are sent, and the pool gets back what its request lets
-    /// go. A connection that is given back and not kept is closed. Tells how many frames were sent.
+    /// What a client does at a step: its frames are sent, and the pool gets back what its request
+    /// lets go. A connection that is given back and not kept is closed. Tells how many frames were
+    /// sent.
     pub fn act(
         &mut self,
         client: u64,
@@ -261,10 +302,20 @@ impl Traffic {
         hold: Hold,
     ) -> Result<u64, NoMemory>
         requires release { MayRelease self.old.pool number holds_slot hold }
-        requires may { MaySend (connection_at self.old.connections.all.items number) (send.items ++ closing hold (give_back_answer self.old.pool number)) }
+        requires may { MaySend (connection_at self.old.connections.all.items number)
+            (send.items ++ closing hold (give_back_answer self.old.pool number)) }
         requires made { AllByRecursion IsMadeUp send.items }
-        ensures count { IfOk result (λ sent. sent ≡ length (send.items ++ closing hold (give_back_answer self.old.pool number))) }
-        ensures acted { OnOk result ((m : Machine) (sent : List Sent) → up_frames sent ≡ send.items ++ closing hold (give_back_answer self.old.pool number) → IsUnderway self.old m → IsUnderway self.new (record m { links = changed (sends m.event sent) m.links number; pool = released m.pool client number holds_slot hold })) }
+        ensures count { IfOk result (λ sent.
+            sent ≡ length (send.items ++ closing hold (give_back_answer self.old.pool number))) }
+        ensures acted { OnOk result ((m : Machine) (sent : List Sent)
+            → up_frames sent ≡ send.items ++ closing hold (give_back_answer self.old.pool number)
+            → IsUnderway self.old m
+            → IsUnderway self.new
+            (record m {
+              links = changed (sends m.event sent) m.links number;
+              pool = released m.pool
+                  client number holds_slot hold;
+            })) }
     {
         let closes = self.release(client, number, holds_slot, hold)?;
         let frames = with_close(send, closes)?;
@@ -275,8 +326,11 @@ impl Traffic {
     /// A request ends whose connection is used no more: its slot is lost, or it leaves the queue.
     fn let_go(&mut self, client: u64, holds_slot: bool)
         requires { MayRelease self.old.pool 0 holds_slot Hold.Drop }
-        ensures others { (self.new.event ≡ self.old.event) × (self.new.connections ≡ self.old.connections) }
-        ensures released { (m : Machine) → IsUnderway self.old m → IsUnderway self.new (record m { pool = released m.pool client 0 holds_slot Hold.Drop }) }
+        ensures others { (self.new.event ≡ self.old.event)
+            × (self.new.connections ≡ self.old.connections) }
+        ensures released { (m : Machine) → IsUnderway self.old m
+            → IsUnderway self.new
+            (record m { pool = released m.pool client 0 holds_slot Hold.Drop }) }
     {
         if holds_slot {
             self.pool.lost();
@@ -289,7 +343,8 @@ impl Traffic {
     /// were closed. Linear in the idle connections.
     pub fn drain(&mut self) -> Result<u64, NoMemory>
         requires { AreClosable self.old.connections.all.items self.old.pool.idle }
-        ensures { IfOk result (λ closed. (m : Machine) → IsUnderway self.old m → Leads (follow_drain m closed) self.new) }
+        ensures { IfOk result (λ closed. (m : Machine) → IsUnderway self.old m
+            → Leads (follow_drain m closed) self.new) }
     {
         let idle = self.pool.drain()?;
         self.close(&idle)?;
@@ -300,7 +355,8 @@ impl Traffic {
     fn close(&mut self, numbers: &[u64]) -> Result<(), NoMemory>
         requires { AreClosable self.old.connections.all.items numbers.now }
         ensures pool { self.new.pool ≡ self.old.pool }
-        ensures closed { OnOk result ((m : Machine) → IsUnderway self.old m → IsUnderway self.new (record m { links = all_closed m.event m.links numbers.now })) }
+        ensures closed { OnOk result ((m : Machine) → IsUnderway self.old m
+            → IsUnderway self.new (record m { links = all_closed m.event m.links numbers.now })) }
     {
         for number in numbers {
             self.connections.send(*number, self.event, &[Up::Close])?;
@@ -309,10 +365,16 @@ impl Traffic {
     }
 
     /// All connections and sessions end, and those that were idle leave the pool. Of what is on its
-    /// way the replies that a cut let arrive are left. It costs the connections that were opened since
-    /// the last crash times those that are idle, and takes no memory.
+    /// way the replies that a cut let arrive are left. It costs the connections that were opened
+    /// since the last crash times those that are idle, and takes no memory.
     pub fn fall(&mut self)
-        ensures { (m : Machine) → IsUnderway self.old m → IsUnderway self.new (record m { links = map (fallen_link m.event) m.links; pool = fold after_gone m.pool (open_from 1 m.links) }) }
+        ensures { (m : Machine) → IsUnderway self.old m
+            → IsUnderway self.new
+            (record m {
+              links = map (fallen_link m.event) m.links;
+              pool = fold after_gone m.pool
+                  (open_from 1 m.links);
+            }) }
     {
         self.connections.leave(&mut self.pool);
         self.connections.fall(self.event);

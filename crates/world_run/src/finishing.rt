@@ -23,8 +23,8 @@ use std::alloc::Global;
 use svc_values::NoMemory;
 use world_model::laws::{finish_falls, finish_goes_on};
 
-/// How far the finish has come: before all, at the orphans, at the start of a round, in a round at the clients behind the last
-/// one, or at the connections.
+/// How far the finish has come: before all, at the orphans, at the start of a round, in a round at
+/// the clients behind the last one, or at the connections.
 #[derive(Clone, Copy)]
 pub enum Place {
     Server,
@@ -39,7 +39,9 @@ impl<S: Service + Drop, R: BoundRule + Copy> World<S, R> {
     fn is_unfinished(&self, scripts: &[Script], at: usize) -> bool
         requires client { at < length self.now.clients }
         requires script { at < length scripts.now }
-        ensures { (seen : Seen) (t : Traced) → StandBeside S R S.sees (λ rule. R.rules rule) scripts.now self.now seen t → result ≡ option_map_or is_unfinished_def (slice_get t.machine.clients at) false }
+        ensures { (seen : Seen) (t : Traced)
+            → StandBeside S R S.sees (λ rule. R.rules rule) scripts.now self.now seen t
+            → result ≡ option_map_or is_unfinished_def (slice_get t.machine.clients at) false }
     {
         let script = scripts[at].requests.as_slice();
         self.clients[at].is_unfinished(script)
@@ -48,7 +50,9 @@ impl<S: Service + Drop, R: BoundRule + Copy> World<S, R> {
     /// The number of the first client behind so many that is not finished.
     fn next_unfinished(&self, scripts: &[Script], passed: u64) -> Option<u64>
         requires { length self.now.clients ≡ length scripts.now }
-        ensures next { (seen : Seen) (t : Traced) → StandBeside S R S.sees (λ rule. R.rules rule) scripts.now self.now seen t → result ≡ first_behind is_unfinished_def passed t.machine.clients }
+        ensures next { (seen : Seen) (t : Traced)
+            → StandBeside S R S.sees (λ rule. R.rules rule) scripts.now self.now seen t
+            → result ≡ first_behind is_unfinished_def passed t.machine.clients }
         ensures there { IfSome result (λ client. IsAllowed (length scripts.now) (Event.Go client)) }
     {
         for at in passed as usize..self.clients.len() {
@@ -61,7 +65,8 @@ impl<S: Service + Drop, R: BoundRule + Copy> World<S, R> {
 
     /// The first connection on which a frame may be served, and else one tick.
     fn serves_or_ticks(&self) -> (Event, Place)
-        ensures next { (m : Machine) → IsUnderway self.now.traffic m → Some (led_to result) ≡ serves_or_ticks_def m }
+        ensures next { (m : Machine) → IsUnderway self.now.traffic m
+            → Some (led_to result) ≡ serves_or_ticks_def m }
         ensures allowed { (clients : ℕ) → IsAllowed clients result.0 }
     {
         match self.ground.first_front() {
@@ -73,7 +78,9 @@ impl<S: Service + Drop, R: BoundRule + Copy> World<S, R> {
     /// The next client that is not finished, and else the connections.
     fn goes_or_serves(&self, scripts: &[Script], last: u64) -> (Event, Place)
         requires { length self.now.clients ≡ length scripts.now }
-        ensures next { (seen : Seen) (t : Traced) → StandBeside S R S.sees (λ rule. R.rules rule) scripts.now self.now seen t → Some (led_to result) ≡ goes_or_serves_def t.machine last }
+        ensures next { (seen : Seen) (t : Traced)
+            → StandBeside S R S.sees (λ rule. R.rules rule) scripts.now self.now seen t
+            → Some (led_to result) ≡ goes_or_serves_def t.machine last }
         ensures allowed { IsAllowed (length scripts.now) result.0 }
     {
         match self.next_unfinished(scripts, last) {
@@ -85,7 +92,9 @@ impl<S: Service + Drop, R: BoundRule + Copy> World<S, R> {
     /// A round, as long as a client is not finished.
     fn next_round(&self, scripts: &[Script]) -> Option<(Event, Place)>
         requires { length self.now.clients ≡ length scripts.now }
-        ensures next { (seen : Seen) (t : Traced) → StandBeside S R S.sees (λ rule. R.rules rule) scripts.now self.now seen t → option_map led_to result ≡ next_round_def t.machine }
+        ensures next { (seen : Seen) (t : Traced)
+            → StandBeside S R S.sees (λ rule. R.rules rule) scripts.now self.now seen t
+            → option_map led_to result ≡ next_round_def t.machine }
         ensures allowed { IfSome result (λ next. IsAllowed (length scripts.now) next.0) }
     {
         let client = self.next_unfinished(scripts, 0)?;
@@ -95,7 +104,9 @@ impl<S: Service + Drop, R: BoundRule + Copy> World<S, R> {
     /// The next orphan, and else the rounds.
     fn reaps_or_goes(&self, scripts: &[Script]) -> Option<(Event, Place)>
         requires { length self.now.clients ≡ length scripts.now }
-        ensures next { (seen : Seen) (t : Traced) → StandBeside S R S.sees (λ rule. R.rules rule) scripts.now self.now seen t → option_map led_to result ≡ reaps_or_goes_def t.machine }
+        ensures next { (seen : Seen) (t : Traced)
+            → StandBeside S R S.sees (λ rule. R.rules rule) scripts.now self.now seen t
+            → option_map led_to result ≡ reaps_or_goes_def t.machine }
         ensures allowed { IfSome result (λ next. IsAllowed (length scripts.now) next.0) }
     {
         match self.ground.first_orphan() {
@@ -107,7 +118,9 @@ impl<S: Service + Drop, R: BoundRule + Copy> World<S, R> {
     /// The next event of the finish, if there is one, and how far it has come then.
     fn next_event(&self, scripts: &[Script], place: Place) -> Option<(Event, Place)>
         requires { length self.now.clients ≡ length scripts.now }
-        ensures next { (seen : Seen) (t : Traced) → StandBeside S R S.sees (λ rule. R.rules rule) scripts.now self.now seen t → option_map led_to result ≡ next_finish t.machine (place_of place) }
+        ensures next { (seen : Seen) (t : Traced)
+            → StandBeside S R S.sees (λ rule. R.rules rule) scripts.now self.now seen t
+            → option_map led_to result ≡ next_finish t.machine (place_of place) }
         ensures allowed { IfSome result (λ next. IsAllowed (length scripts.now) next.0) }
     {
         match place {
@@ -120,15 +133,17 @@ impl<S: Service + Drop, R: BoundRule + Copy> World<S, R> {
         }
     }
 
-    /// Finishes the run behind its schedule: the server is opened if it is down, the orphans are reaped, and then come
-    /// rounds, as long as a client is not finished: a step of each client that is not, each frame that may be served, and one
-    /// tick.
+    /// Finishes the run behind its schedule: the server is opened if it is down, the orphans are
+    /// reaped, and then come rounds, as long as a client is not finished: a step of each client
+    /// that is not, each frame that may be served, and one tick.
     pub fn finish(&mut self, alloc: Global, scripts: &[Script]) -> Result<(), NoMemory>
         requires fit { AllByRecursion IsFitScript scripts.now }
         requires events { length self.old.notes ≤ 100000 }
         requires short { IsShort S R S.sees (λ rule. R.rules rule) scripts.now self.old }
-        ensures finishes { OnOk result (Finishes S R S.sees (λ rule. R.rules rule) scripts.now self.old self.new) }
-        ensures base { OnOk result (HaveOneBase (S.bytes self.old.service) (S.bytes self.new.service)) }
+        ensures finishes { OnOk result
+            (Finishes S R S.sees (λ rule. R.rules rule) scripts.now self.old self.new) }
+        ensures base { OnOk result
+            (HaveOneBase (S.bytes self.old.service) (S.bytes self.new.service)) }
     {
         finish_falls();
         finish_goes_on();

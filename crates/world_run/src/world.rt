@@ -77,12 +77,20 @@ impl<S: Service + Drop, R: BoundRule + Copy> Model for World<S, R> {
 
     ghost Value = { Parts S R };
 
-    ghost view = { λ w. record { service = w.ground.service; traffic = w.ground.traffic; clients = w.clients.items; openings = w.openings; notes = w.notes.items; served = w.served.items } };
+    ghost view = { λ w.
+        record {
+          service = w.ground.service;
+          traffic = w.ground.traffic;
+          clients = w.clients.items;
+          openings = w.openings;
+          notes = w.notes.items;
+          served = w.served.items;
+        } };
 }
 
 impl<S: Service + Drop, R: BoundRule + Copy> World<S, R> {
-    /// The run before its first event: the service is opened, and nothing was submitted. `opened` tells whether the store
-    /// was opened before.
+    /// The run before its first event: the service is opened, and nothing was submitted. `opened`
+    /// tells whether the store was opened before.
     pub fn new(
         alloc: Global,
         of: &ServiceOf,
@@ -93,8 +101,11 @@ impl<S: Service + Drop, R: BoundRule + Copy> World<S, R> {
     ) -> Result<World<S, R>, NoMemory>
         requires begins { IsOfSome (S.sees service) (R.rules rule) of.now scripts.now opened }
         requires room { HasRoom of.now }
-        ensures start { IfOk result (λ world. (document : Document) (seen : Seen) → IsOf (S.sees service) (R.rules rule) of.now scripts.now opened document seen → StandsAtStart S R S.sees (λ rule. R.rules rule) scripts.now document world) }
-        ensures base { IfOk result (λ world. HaveOneBase (S.bytes service) (S.bytes world.service)) }
+        ensures start { IfOk result (λ world. (document : Document) (seen : Seen)
+            → IsOf (S.sees service) (R.rules rule) of.now scripts.now opened document seen
+            → StandsAtStart S R S.sees (λ rule. R.rules rule) scripts.now document world) }
+        ensures base { IfOk result
+            (λ world. HaveOneBase (S.bytes service) (S.bytes world.service)) }
     {
         orderly_is_kept();
         match service.up(alloc, 0) {
@@ -119,8 +130,11 @@ impl<S: Service + Drop, R: BoundRule + Copy> World<S, R> {
         requires there { StandsSomewhere S R S.sees (λ rule. R.rules rule) scripts.now self.old }
         requires fit { AllByRecursion IsFitScript scripts.now }
         requires client { IsAllowed (length scripts.now) (Event.Go number) }
-        ensures led { IfOk result (λ note. Leads S R S.sees (λ rule. R.rules rule) scripts.now (Event.Go number) note [] self.old self.new) }
-        ensures base { OnOk result (HaveOneBase (S.bytes self.old.service) (S.bytes self.new.service)) }
+        ensures led { IfOk result (λ note.
+            Leads S R S.sees (λ rule. R.rules rule) scripts.now (Event.Go number) note [] self.old
+            self.new) }
+        ensures base { OnOk result
+            (HaveOneBase (S.bytes self.old.service) (S.bytes self.new.service)) }
     {
         let World {
             ground,
@@ -141,9 +155,12 @@ impl<S: Service + Drop, R: BoundRule + Copy> World<S, R> {
         requires there { StandsSomewhere S R S.sees (λ rule. R.rules rule) scripts.now self.old }
         requires fit { AllByRecursion IsFitScript scripts.now }
         requires allowed { IsAllowed (length scripts.now) event.now }
-        ensures led { IfOk result (λ made. Leads S R S.sees (λ rule. R.rules rule) scripts.now event.now made.0 (option_to_list made.1) self.old self.new) }
+        ensures led { IfOk result (λ made.
+            Leads S R S.sees (λ rule. R.rules rule) scripts.now event.now made.0
+            (option_to_list made.1) self.old self.new) }
         ensures bytes { OnOk result (CutsFirst event.now self.old.traffic self.new.traffic) }
-        ensures base { OnOk result (HaveOneBase (S.bytes self.old.service) (S.bytes self.new.service)) }
+        ensures base { OnOk result
+            (HaveOneBase (S.bytes self.old.service) (S.bytes self.new.service)) }
     {
         clients_stay::<R>();
         let Event::Go { client } = event else {
@@ -169,17 +186,20 @@ impl<S: Service + Drop, R: BoundRule + Copy> World<S, R> {
         Ok(())
     }
 
-    /// Makes one event. An opening stores the horizon that is wanted then, each crash is counted with its pick and its stop, and a
-    /// cut leaves exactly the first bytes that it names. Beside what the service does it costs the logarithm of the connections
-    /// and the bytes that are moved.
+    /// Makes one event. An opening stores the horizon that is wanted then, each crash is counted
+    /// with its pick and its stop, and a cut leaves exactly the first bytes that it names. Beside
+    /// what the service does it costs the logarithm of the connections and the bytes that are
+    /// moved.
     pub fn step(&mut self, alloc: Global, scripts: &[Script], event: &Event) -> Result<(), NoMemory>
         requires events { length self.old.notes < 2 ^ 45 }
         requires there { StandsSomewhere S R S.sees (λ rule. R.rules rule) scripts.now self.old }
         requires fit { AllByRecursion IsFitScript scripts.now }
         requires allowed { IsAllowed (length scripts.now) event.now }
-        ensures made { OnOk result (MakesOne S R S.sees (λ rule. R.rules rule) scripts.now event.now self.old self.new) }
+        ensures made { OnOk result
+            (MakesOne S R S.sees (λ rule. R.rules rule) scripts.now event.now self.old self.new) }
         ensures bytes { OnOk result (CutsFirst event.now self.old.traffic self.new.traffic) }
-        ensures base { OnOk result (HaveOneBase (S.bytes self.old.service) (S.bytes self.new.service)) }
+        ensures base { OnOk result
+            (HaveOneBase (S.bytes self.old.service) (S.bytes self.new.service)) }
     {
         let (note, served) = self.make(alloc, scripts, event)?;
         self.note(note, served)
@@ -187,7 +207,11 @@ impl<S: Service + Drop, R: BoundRule + Copy> World<S, R> {
 
     /// What the run leaves.
     pub fn into_ran(self, alloc: Global) -> Result<Ran<S>, NoMemory>
-        ensures { IfOk result (λ ran. (ran.service ≡ self.service) × ((ran.notes ≡ self.notes) × ((ran.served ≡ self.served) × (ran.clients ≡ map (λ client. client.past) self.clients)))) }
+        ensures { IfOk result (λ ran.
+            (ran.service ≡ self.service)
+            × ((ran.notes ≡ self.notes)
+            × ((ran.served ≡ self.served)
+            × (ran.clients ≡ map (λ client. client.past) self.clients)))) }
     {
         let World {
             ground,

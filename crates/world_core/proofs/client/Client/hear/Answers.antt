@@ -12,17 +12,17 @@ returns-clause-heard g c = λ setting number event is_lost client doing same now
     let frames : c.into_vec-send.result.items ≡ act.send = cc in
     let noted : c.deref.result.now ≡ act.send = cc in
     let left = c.in-Some.ensures.left in
-    subst (λ (sent : List Up). Hears _ (λ rule. g.R.BoundRule.rules rule) setting number event c.args.tick client doing c.args.input.now sent act.hold c.settle.new.self) (sym frames)
+    subst (λ (sent : List Up). Hears _ (λ rule. g.R.BoundRule.rules rule) setting number event c.args.tick client doing c.args.input sent act.hold c.settle.new.self) (sym frames)
     (
-    turns_so _ (λ rule. g.R.BoundRule.rules rule) setting number event c.args.tick c.args.self.now c.drive.new.self c.settle.new.self client doing c.args.input.now act c.in-Some.course c.note.new.self
+    turns_so _ (λ rule. g.R.BoundRule.rules rule) setting number event c.args.tick c.args.self.now c.drive.new.self c.settle.new.self client doing c.args.input act c.in-Some.course c.note.new.self
     record {
       acts = c.in_ok-send.ensures.act;
       drives = c.in_ok-send.ensures.after;
       ticks = c.in_ok-send.ensures.past;
       there = sym c.in-Some.ensures.taken;
       notes = λ kept draft.
-          subst (λ (s : List Up). IsDraft setting.terms doing.request (done_of doing ++ done_so c.args.input.now c.args.tick s act.shown act.failed kept ∷ []) c.note.new.self) noted
-          (c.in_ok-note.ensures setting.terms doing.request (done_of doing) c.args.tick kept draft);
+          subst (λ (s : List Up). IsDraft setting.terms doing.request (done_of doing ++ done_so c.args.input c.args.tick s act.shown act.failed kept ∷ []) c.note.new.self) noted
+          (c.in_ok-note.ensures setting.terms doing.request (done_of doing) c.args.input c.args.tick kept c.of-heard.ensures draft);
       settles = λ lost next settled course beside.
           c.in_ok-settle.ensures setting number c.args.tick lost client next same (ap (λ (h : Held _). h.course) left)
           (subst (λ (h : Held _). IsSettled h.driver.talk lost act.hold) (sym left) settled)
