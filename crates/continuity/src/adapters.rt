@@ -2,7 +2,7 @@
 //! count their faults.
 ghost use Rattle.std.specs.Prelude.{◌≡◌};
 
-use continuity_run::{Failed, Sink, Source};
+use byte_streams::{Failed, Sink, Source};
 use std::io::{Read, Write};
 
 /// A reader that counts its errors.
@@ -13,6 +13,7 @@ pub struct Input<R> {
 }
 
 impl<R> Input<R> {
+    /// A reader of which no error was counted yet.
     pub fn new(inner: R) -> Self
         ensures { result ≡ record { inner = inner; faults = 0 } }
     {
@@ -45,6 +46,7 @@ pub struct Output<W> {
 }
 
 impl<W> Output<W> {
+    /// A writer of which no error was counted yet.
     pub fn new(inner: W) -> Self
         ensures { result ≡ record { inner = inner; faults = 0 } }
     {

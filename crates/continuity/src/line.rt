@@ -7,7 +7,8 @@ use continuity_run::Status;
 use std::fmt;
 use std::io::{self, Write};
 
-/// The line that tells of an end without an answer, with its line end. Of an answer nothing is told.
+/// The line that tells of an end without an answer, with its line end. Of an answer nothing is
+/// told.
 #[derive(Drop)]
 pub struct Line<'a>(pub &'a Status);
 

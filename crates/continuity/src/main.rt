@@ -18,11 +18,13 @@ use std::rt::Env;
 use std::{env, io};
 use words::behind_name;
 
+/// The words of the command: the arguments of the process but the first.
 fn words_of(rt: &(impl Env + AllocGlobal)) -> io::Result<Vec<String>> {
     let args = env::args(rt)?;
     Ok(behind_name(rt.alloc(), args)?)
 }
 
+/// Runs the command on the standard streams, tells how it ended, and gives that as its exit status.
 fn main(rt: HostRuntime) -> ExitCode {
     let status = match words_of(&rt) {
         Ok(words) => {
@@ -32,6 +34,7 @@ fn main(rt: HostRuntime) -> ExitCode {
         }
         Err(error) => without_words(&error),
     };
+    // Where standard error fails, nobody can be told, and the exit status says the same.
     let _ = tell(&mut rt.stderr(), &status);
     exit_status(&status)
 }

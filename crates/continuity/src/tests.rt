@@ -1,6 +1,7 @@
 use crate::adapters::{Input, Output};
 use crate::line::Line;
-use continuity_run::{MemSink, MemSource, Sink, Source, Status, continuity};
+use byte_streams::{MemSink, MemSource, Sink, Source};
+use continuity_run::{Status, continuity};
 use std::io::{self, Write};
 use std::test::Fail;
 

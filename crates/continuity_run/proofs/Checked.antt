@@ -14,7 +14,7 @@ use Rattle.report_check.specs.Judged.{IsJudged}
 use Rattle.report_check.specs.meaning.Pairs.{pair_at}
 use Rattle.continuity_run.specs.declared.status.Status.{Status}
 use Rattle.continuity_run.specs.declared.status.Status.TheVariants as status
-use Rattle.continuity_run.specs.Causes.{AppendsFront, Rose}
+use Rattle.byte_streams.specs.Causes.{AppendsFront, Rose}
 use Rattle.continuity_run.specs.Checking.{IsVerdict, IsToldAs, IsJudgement}
 use Rattle.continuity_run.specs.Clauses.{IfDocument, IfNo}
 use Rattle.continuity_run.specs.meaning.Check.{IsRight, IsWrong, right_text}

@@ -6,11 +6,8 @@ mod Headlines
 mod Images
 mod Indexing
 mod Lasting
-mod LoadWords
 mod Loading
-mod Moves
 mod ReadOff
 mod Responses
 mod Schedule
 mod StartRoom
-mod WordFaults

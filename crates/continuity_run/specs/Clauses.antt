@@ -7,11 +7,11 @@ use Rattle.report_check.specs.declared.verdict.Clause.{Clause}
 use Rattle.report_check.specs.meaning.Pairs.{check_limit, pair_at}
 use Rattle.continuity_run.specs.declared.answer.Telling.{Telling}
 use Rattle.continuity_run.specs.declared.answer.Telling.TheVariants as telling
-use Rattle.continuity_run.specs.declared.command.Command.{Command}
-use Rattle.continuity_run.specs.declared.command.Command.TheVariants as command
+use Rattle.command_words.specs.declared.command.Command.{Command}
+use Rattle.command_words.specs.declared.command.Command.TheVariants as command
 use Rattle.continuity_run.specs.declared.status.Status.{Status}
 use Rattle.continuity_run.specs.declared.status.Status.TheVariants as status
-use Rattle.continuity_run.specs.Causes.{AppendsFront}
+use Rattle.byte_streams.specs.Causes.{AppendsFront}
 use Rattle.doc_reader.specs.meaning.Documents.{document_at, limit}
 use Rattle.continuity_run.specs.meaning.Check.{IsRight, right_text}
 use Rattle.continuity_run.specs.meaning.Clauses.{IsAnswer, IsRead}

@@ -5,7 +5,7 @@ use Rattle.json_form.specs.declared.fault.DocFault.{DocFault}
 use Rattle.json_form.specs.declared.fault.DocFault.TheVariants as fault
 use Rattle.continuity_run.specs.declared.status.Status.{Status}
 use Rattle.continuity_run.specs.declared.status.Status.TheVariants as status
-use Rattle.continuity_run.specs.Causes.{AppendsFront, Rose}
+use Rattle.byte_streams.specs.Causes.{AppendsFront, Rose}
 
 -- the document was not read, or its report not made
 abbrev pub ended_as : DocFault → Status

@@ -3,23 +3,22 @@ ghost use Rattle.std.specs.Prelude.{◌≡◌, ◌⊎◌, IfErr, IfOk, IsErrOf, 
 ghost use Rattle.std.specs.Io.KnownBytes.{Appends};
 ghost use Rattle.json_form.specs.Faults.{Fails};
 ghost use Rattle.report_check.specs.meaning.Pairs.{pair_at, check_limit};
-ghost use Rattle.continuity_run.specs.Causes.{AppendsFront, Rose};
+ghost use Rattle.byte_streams.specs.Causes.{AppendsFront, Rose};
 ghost use Rattle.continuity_run.specs.Checking.{IsVerdict, IsToldAs, IsJudgement};
 ghost use Rattle.continuity_run.specs.meaning.Check.{IsRight, IsWrong, right_text};
 ghost use Rattle.continuity_run.specs.meaning.Clauses.{IsChecked, IsDenied, IsRead};
 ghost use Rattle.continuity_run.specs.Clauses.{IsCheckedInPart, HasFault, IfDocument, IfNo, IsBefore, UnlessRead};
 ghost use Rattle.continuity_run.specs.Complete.{IsFaultlessOn, IsNo};
 
-use crate::outside::{Sink, Source};
 use crate::status::Status;
-use crate::whole::{ReadError, read_to_limit, write_whole};
+use byte_streams::{ReadError, Sink, Source, read_to_limit, write_whole};
 use json_form::DocFault;
 use report_check::{CHECK_LIMIT, Verdict, judge, pair_from};
 use std::alloc::Global;
 use svc_values::NoMemory;
 
-/// The verdict on the document and the report that the bytes are, or why they are none. The bytes are
-/// given up once they are read. The cost is that of `pair_from` and `judge`.
+/// The verdict on the document and the report that the bytes are, or why they are none. The bytes
+/// are given up once they are read. The cost is that of `pair_from` and `judge`.
 #[tactic(auto, using(crate::proofs::Checked::judged))]
 fn verdict_on(alloc: Global, bytes: Vec<u8>) -> Result<Verdict, DocFault>
     ensures judged { IfOk result (IsVerdict bytes.items) }
@@ -36,7 +35,8 @@ fn verdict_on(alloc: Global, bytes: Vec<u8>) -> Result<Verdict, DocFault>
 
 /// Writes that a report is right, or tells why it is not.
 fn tell_verdict<K: Sink>(verdict: Result<Verdict, DocFault>, sink: &mut K) -> Status
-    ensures told { IsToldAs verdict result (K.held sink.old) (K.held sink.new) (K.faults sink.old) (K.faults sink.new) }
+    ensures told { IsToldAs verdict result (K.held sink.old) (K.held sink.new) (K.faults sink.old)
+        (K.faults sink.new) }
     ensures untouched { IsBefore result → sink.new ≡ sink.old }
 {
     match verdict {
@@ -51,10 +51,13 @@ fn tell_verdict<K: Sink>(verdict: Result<Verdict, DocFault>, sink: &mut K) -> St
     }
 }
 
-/// Judges the report that the bytes are with its document, and writes `yes` where each clause holds.
+/// Judges the report that the bytes are with its document, and writes `yes` where each clause
+/// holds.
 fn respond<K: Sink>(alloc: Global, bytes: Vec<u8>, sink: &mut K) -> Status
-    ensures done { result ≡ Status.Done → IsRight bytes.items × Appends (K.held sink.old) (K.held sink.new) right_text }
-    ensures cut { result ≡ Status.Write → IsRight bytes.items × AppendsFront (K.held sink.old) (K.held sink.new) right_text }
+    ensures done { result ≡ Status.Done
+        → IsRight bytes.items × Appends (K.held sink.old) (K.held sink.new) right_text }
+    ensures cut { result ≡ Status.Write
+        → IsRight bytes.items × AppendsFront (K.held sink.old) (K.held sink.new) right_text }
     ensures write { result ≡ Status.Write → Rose (K.faults sink.old) (K.faults sink.new) }
     ensures document { IfDocument result (λ fault. pair_at bytes.items ≡ Err fault) }
     ensures denied { IfNo result (IsWrong bytes.items) }
@@ -64,11 +67,14 @@ fn respond<K: Sink>(alloc: Global, bytes: Vec<u8>, sink: &mut K) -> Status
     tell_verdict(verdict_on(alloc, bytes), sink)
 }
 
+/// All bytes of the source, as far as `check` reads.
 fn read_pair<S: Source>(alloc: Global, source: &mut S) -> Result<Vec<u8>, ReadError>
-    ensures read { IfOk result (λ bytes. IsRead check_limit pair_at (S.left source.old) (S.left source.new) bytes.items) }
+    ensures read { IfOk result (λ bytes.
+        IsRead check_limit pair_at (S.left source.old) (S.left source.new) bytes.items) }
     ensures kept { OnOk result (S.faults source.new ≡ S.faults source.old) }
     ensures lacked { IsErrOf result ReadError.NoMemory → S.faults source.new ≡ S.faults source.old }
-    ensures failed { IsErrOf result ReadError.Failed → Rose (S.faults source.old) (S.faults source.new) }
+    ensures failed { IsErrOf result ReadError.Failed
+        → Rose (S.faults source.old) (S.faults source.new) }
 {
     read_to_limit(alloc, source, CHECK_LIMIT)
 }
@@ -83,7 +89,8 @@ pub(crate) fn tell_of_check<S: Source, K: Sink>(
     ensures read { result ≡ Status.Read → Rose (S.faults source.old) (S.faults source.new) }
     ensures kept { UnlessRead result (S.faults source.new ≡ S.faults source.old) }
     ensures write { result ≡ Status.Write → Rose (K.faults sink.old) (K.faults sink.new) }
-    ensures document { IfDocument result (HasFault check_limit pair_at (S.left source.old) (S.left source.new)) }
+    ensures document { IfDocument result
+        (HasFault check_limit pair_at (S.left source.old) (S.left source.new)) }
     ensures denied { IfNo result (IsDenied (S.left source.old) (S.left source.new)) }
     ensures done { result ≡ Status.Done → IsChecked (S.left source.old) (S.left source.new)
         (K.held sink.old) (K.held sink.new) }

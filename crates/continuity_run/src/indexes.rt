@@ -29,6 +29,7 @@ fn index_by(table: &DocTable, name: &Name) -> Option<IndexOf>
     }
 }
 
+/// One index more, if there is one.
 fn add(all: &mut Vec<IndexOf>, index: Option<IndexOf>) -> Result<(), NoMemory>
     ensures { OnOk result (all.new.items ≡ all.old.items ++ option_to_list index) }
 {
@@ -40,7 +41,9 @@ fn add(all: &mut Vec<IndexOf>, index: Option<IndexOf>) -> Result<(), NoMemory>
 
 /// Adds an index of the table for each of these names.
 fn add_each(all: &mut Vec<IndexOf>, table: &DocTable, names: &[Name]) -> Result<(), NoMemory>
-    ensures { OnOk result (all.new.items ≡ all.old.items ++ flat_map (λ name. option_to_list (index_by_def table.now name)) names.now) }
+    ensures { OnOk result
+        (all.new.items ≡ all.old.items ++ flat_map
+        (λ name. option_to_list (index_by_def table.now name)) names.now) }
 {
     for name in names {
         add(all, index_by(table, name))?;

@@ -62,8 +62,11 @@ fn run_by<S: Service + Drop, R: BoundRule + Copy>(
     opened: bool,
     rule: R,
 ) -> Result<Ran<S>, NoMemory>
-    requires begins { IsRunOfSome (S.sees service) (R.rules rule) of.now scripts.now schedule.now opened }
-    ensures ran { IfOk result (λ ran. (document : Given) → IsRunOf (S.sees service) (R.rules rule) of.now scripts.now schedule.now opened document → HasRun S.sees document ran) }
+    requires begins { IsRunOfSome (S.sees service) (R.rules rule) of.now scripts.now schedule.now
+        opened }
+    ensures ran { IfOk result (λ ran. (document : Given)
+        → IsRunOf (S.sees service) (R.rules rule) of.now scripts.now schedule.now opened document
+        → HasRun S.sees document ran) }
     ensures base { IfOk result (λ ran. HaveOneBase (S.bytes service) (S.bytes ran.service)) }
 {
     finish_is_short();
@@ -84,8 +87,11 @@ fn run_all<S: Service + Drop>(
     service: S,
     opened: bool,
 ) -> Result<Ran<S>, NoMemory>
-    requires begins { IsRunOfSome (S.sees service) (rules_of of.now.failover of.now.consistency) of.now scripts.now schedule.now opened }
-    ensures ran { IfOk result (λ ran. (document : Given) → IsRunOf (S.sees service) (rules_of of.now.failover of.now.consistency) of.now scripts.now schedule.now opened document → HasRun S.sees document ran) }
+    requires begins { IsRunOfSome (S.sees service) (rules_of of.now.failover of.now.consistency)
+        of.now scripts.now schedule.now opened }
+    ensures ran { IfOk result (λ ran. (document : Given)
+        → IsRunOf (S.sees service) (rules_of of.now.failover of.now.consistency) of.now scripts.now
+        schedule.now opened document → HasRun S.sees document ran) }
     ensures base { IfOk result (λ ran. HaveOneBase (S.bytes service) (S.bytes ran.service)) }
 {
     match (of.failover, of.consistency) {
@@ -111,8 +117,11 @@ fn run_over<S: Service + Drop>(
     before: Before,
     print_image: bool,
 ) -> Result<Report, NoMemory>
-    requires begins { IsRunOfSome (S.sees service) (rules_of of.now.failover of.now.consistency) of.now scripts.now schedule.now opened }
-    ensures { IfOk result (λ report. (document : Given) → IsRunOf (S.sees service) (rules_of of.now.failover of.now.consistency) of.now scripts.now schedule.now opened document
+    requires begins { IsRunOfSome (S.sees service) (rules_of of.now.failover of.now.consistency)
+        of.now scripts.now schedule.now opened }
+    ensures { IfOk result (λ report. (document : Given)
+        → IsRunOf (S.sees service) (rules_of of.now.failover of.now.consistency) of.now scripts.now
+        schedule.now opened document
         → IsReportOf S.sees S.bytes (S.bytes service) before print_image document report) }
 {
     finish_falls();
@@ -148,8 +157,8 @@ fn runs_hold()
     calm_runs_answer();
 }
 
-/// The run of a document: the scripts of its clients, as they were, and its report. Where the document asks for
-/// a second store, it begins with a copy of the first one's bytes.
+/// The run of a document: the scripts of its clients, as they were, and its report. Where the
+/// document asks for a second store, it begins with a copy of the first one's bytes.
 pub fn run_document(alloc: Global, document: Document) -> Result<(Clients, Report), NoMemory>
     requires document { IsDocument document }
     ensures scripts { IfOk result (λ ran. ran.0 ≡ document.clients) }

@@ -17,10 +17,11 @@ pub enum Status {
     Read,
     /// The sink failed, or took nothing. It holds a front of the text.
     Write,
-    /// The bytes are no document, or none with a report of it. The path is a JSON Pointer (RFC 6901) to
-    /// the value at fault.
+    /// The bytes are no document, or none with a report of it. The path is a JSON Pointer (RFC
+    /// 6901) to the value at fault.
     Document { code: DocCode, path: Pointer },
-    /// This clause of the report is the first that is false. The path leads from the report to the place.
+    /// This clause of the report is the first that is false. The path leads from the report to the
+    /// place.
     No { clause: Clause, path: Pointer },
 }
 

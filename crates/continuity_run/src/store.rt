@@ -21,7 +21,8 @@ use outage_schedule::{DocSequences, DocTable, DocTables, Image};
 use std::alloc::Global;
 use svc_values::{NoMemory, Schema};
 
-/// A disk with a store, whether the store was opened before, and how many entries, blocks and lines it has.
+/// A disk with a store, whether the store was opened before, and how many entries, blocks and lines
+/// it has.
 #[derive(Drop)]
 pub(crate) struct Store {
     pub(crate) disk: MemDisk,
@@ -107,8 +108,10 @@ fn created(alloc: Global, base: Base) -> Result<Store, NoMemory>
 fn looked_at(alloc: Global, disk: &mut MemDisk) -> Result<(Before, bool), NoMemory>
     requires untroubled { IsUntroubled (mem_state disk.old) }
     requires whole { (place : ℕ) → journal_of (mem_state disk.old).now.seen ≡ Err place → ⊥ }
-    ensures counts { IfOk result (λ found. CountsOf (journal_of (mem_state disk.old).now.seen) found.0) }
-    ensures opened { IfOk result (λ found. found.1 ≡ is_opened (so_far_of (mem_state disk.old).now.seen)) }
+    ensures counts { IfOk result (λ found.
+        CountsOf (journal_of (mem_state disk.old).now.seen) found.0) }
+    ensures opened { IfOk result (λ found.
+        found.1 ≡ is_opened (so_far_of (mem_state disk.old).now.seen)) }
     ensures only_reads { OnOk result (OnlyReads ⊥ (mem_state disk.old) (mem_state disk.new)) }
 {
     match Log::look(alloc, disk) {
@@ -140,7 +143,8 @@ fn pictured(alloc: Global, image: Image) -> Result<Store, NoMemory>
     })
 }
 
-/// The store that a run begins with: that of the image, and else a new one of these tables and sequences.
+/// The store that a run begins with: that of the image, and else a new one of these tables and
+/// sequences.
 pub(crate) fn store_of(
     alloc: Global,
     tables: DocTables,
@@ -154,7 +158,10 @@ pub(crate) fn store_of(
     requires sequence_names { IsTrue (have_distinct_keys bytes_eq sequence_name sequences) }
     requires few_sequences { length sequences ≤ 32 }
     requires begins { IsTrue (is_begin tables sequences image) }
-    ensures { IfOk result (IsStoreOf (record { tables = map base_table tables; sequences = map base_sequence sequences }) image) }
+    ensures { IfOk result
+        (IsStoreOf
+        (record { tables = map base_table tables; sequences = map base_sequence sequences })
+        image) }
 {
     if let Some(image) = image {
         return pictured(alloc, image);

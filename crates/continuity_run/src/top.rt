@@ -2,9 +2,9 @@
 ghost use Rattle.std.specs.Prelude.{◌≡◌, ◌⊎◌, ℕ, false, Err, IfOk, IfErr, IsErrOf, None, OnOk, Some};
 ghost use Rattle.doc_reader.specs.Keeping.{IsDocument};
 ghost use Rattle.doc_reader.specs.meaning.Documents.{document_at, limit};
-ghost use Rattle.continuity_run.specs.Causes.{Rose};
-ghost use Rattle.continuity_run.specs.Words.{command_of as command_of_def, reads_source};
-ghost use Rattle.continuity_run.specs.LoadWords.{HasLoadNumbers};
+ghost use Rattle.byte_streams.specs.Causes.{Rose};
+ghost use Rattle.command_words.specs.Words.{command_of as command_of_def, reads_source};
+ghost use Rattle.command_words.specs.LoadWords.{HasLoadNumbers};
 ghost use Rattle.continuity_run.specs.meaning.Clauses.{Tells, IsDone, IsDenied, IsAnswered, LoadIsDone, IsRead};
 ghost use Rattle.continuity_run.specs.Clauses.{IsCut, IsAnsweredInPart, HasFault, IsRefused, Writes, WritesFront, IfDocument, IfNo, IsBefore, IsReply, UnlessRead, EndsAtSink, LoadIsCut};
 ghost use Rattle.continuity_run.specs.Complete.{IsFaultless, IsFaultlessOn, HasAnswered, IsNo};
@@ -12,20 +12,18 @@ ghost use Rattle.continuity_run.specs.InnerEnds.{ended_as, IsWritten};
 
 use crate::answer::{Telling, text_of};
 use crate::check::tell_of_check;
-use crate::command::Command;
 use crate::load::load_text;
-use crate::outside::{Sink, Source};
 use crate::status::Status;
-use crate::whole::{ReadError, read_to_limit, write_whole};
-use crate::words::command_of;
+use byte_streams::{ReadError, Sink, Source, read_to_limit, write_whole};
+use command_words::{Command, command_of};
 use doc_reader::{DOCUMENT_LIMIT, read_document};
 use json_form::DocFault;
 use outage_schedule::Document;
 use std::alloc::Global;
 use svc_values::NoMemory;
 
-/// The text that is told of the document that was read, or why none was. For the text there may be no
-/// memory.
+/// The text that is told of the document that was read, or why none was. For the text there may be
+/// no memory.
 fn answer(
     alloc: Global,
     telling: Telling,
@@ -46,18 +44,23 @@ fn answer(
     }
 }
 
+/// All bytes of the source, as far as a document may go.
 fn read_input<S: Source>(alloc: Global, source: &mut S) -> Result<Vec<u8>, ReadError>
-    ensures read { IfOk result (λ bytes. IsRead limit document_at (S.left source.old) (S.left source.new) bytes.items) }
+    ensures read { IfOk result (λ bytes.
+        IsRead limit document_at (S.left source.old) (S.left source.new) bytes.items) }
     ensures kept { OnOk result (S.faults source.new ≡ S.faults source.old) }
     ensures lacked { IsErrOf result ReadError.NoMemory → S.faults source.new ≡ S.faults source.old }
-    ensures failed { IsErrOf result ReadError.Failed → Rose (S.faults source.old) (S.faults source.new) }
+    ensures failed { IsErrOf result ReadError.Failed
+        → Rose (S.faults source.old) (S.faults source.new) }
 {
     read_to_limit(alloc, source, DOCUMENT_LIMIT)
 }
 
 /// Writes the text, or tells why there is none.
 fn write_answer<K: Sink>(answer: Result<Vec<u8>, DocFault>, sink: &mut K) -> Status
-    ensures wrote { IfOk answer (λ text. IsWritten text.items result (K.held sink.old) (K.held sink.new) (K.faults sink.old) (K.faults sink.new)) }
+    ensures wrote { IfOk answer (λ text.
+        IsWritten text.items result (K.held sink.old) (K.held sink.new) (K.faults sink.old)
+        (K.faults sink.new)) }
     ensures told { IfErr answer (λ fault. result ≡ ended_as fault) }
     ensures untouched { IsBefore result → sink.new ≡ sink.old }
 {
@@ -72,10 +75,13 @@ fn write_answer<K: Sink>(answer: Result<Vec<u8>, DocFault>, sink: &mut K) -> Sta
     }
 }
 
-/// Judges the bytes, which are given up once they are read, and writes what is told of the document.
+/// Judges the bytes, which are given up once they are read, and writes what is told of the
+/// document.
 fn respond<K: Sink>(alloc: Global, telling: Telling, bytes: Vec<u8>, sink: &mut K) -> Status
-    ensures done { result ≡ Status.Done → Writes telling bytes.items (K.held sink.old) (K.held sink.new) }
-    ensures cut { result ≡ Status.Write → WritesFront telling bytes.items (K.held sink.old) (K.held sink.new) }
+    ensures done { result ≡ Status.Done
+        → Writes telling bytes.items (K.held sink.old) (K.held sink.new) }
+    ensures cut { result ≡ Status.Write
+        → WritesFront telling bytes.items (K.held sink.old) (K.held sink.new) }
     ensures write { result ≡ Status.Write → Rose (K.faults sink.old) (K.faults sink.new) }
     ensures document { IfDocument result (λ fault. document_at bytes.items ≡ Err fault) }
     ensures untouched { IsBefore result → sink.new ≡ sink.old }
@@ -97,11 +103,13 @@ fn tell_of_read<S: Source, K: Sink>(
     ensures read { result ≡ Status.Read → Rose (S.faults source.old) (S.faults source.new) }
     ensures kept { UnlessRead result (S.faults source.new ≡ S.faults source.old) }
     ensures write { result ≡ Status.Write → Rose (K.faults sink.old) (K.faults sink.new) }
-    ensures document { IfDocument result (HasFault limit document_at (S.left source.old) (S.left source.new)) }
+    ensures document { IfDocument result
+        (HasFault limit document_at (S.left source.old) (S.left source.new)) }
     ensures done { result ≡ Status.Done → IsAnswered telling (S.left source.old) (S.left source.new)
         (K.held sink.old) (K.held sink.new) }
-    ensures cut { result ≡ Status.Write → IsAnsweredInPart telling (S.left source.old) (S.left source.new)
-        (K.held sink.old) (K.held sink.new) }
+    ensures cut { result ≡ Status.Write
+        → IsAnsweredInPart telling (S.left source.old) (S.left source.new) (K.held sink.old)
+        (K.held sink.new) }
     ensures judges { IsNo result → ⊥ }
     ensures complete { IsFaultlessOn document_at (S.left source.old)
         (S.faults source.old) (S.faults source.new) (K.faults sink.old) (K.faults sink.new)
@@ -119,8 +127,10 @@ fn tell_of_read<S: Source, K: Sink>(
 /// Makes the document of these numbers, and writes the line of its report.
 fn tell_load<K: Sink>(alloc: Global, seed: u64, clients: u64, requests: u64, sink: &mut K) -> Status
     requires { HasLoadNumbers clients requests }
-    ensures done { result ≡ Status.Done → LoadIsDone seed clients requests (K.held sink.old) (K.held sink.new) }
-    ensures cut { result ≡ Status.Write → LoadIsCut seed clients requests (K.held sink.old) (K.held sink.new) }
+    ensures done { result ≡ Status.Done
+        → LoadIsDone seed clients requests (K.held sink.old) (K.held sink.new) }
+    ensures cut { result ≡ Status.Write
+        → LoadIsCut seed clients requests (K.held sink.old) (K.held sink.new) }
     ensures write { result ≡ Status.Write → Rose (K.faults sink.old) (K.faults sink.new) }
     ensures untouched { IsBefore result → sink.new ≡ sink.old }
     ensures others { EndsAtSink result }
@@ -136,10 +146,10 @@ fn tell_load<K: Sink>(alloc: Global, seed: u64, clients: u64, requests: u64, sin
 
 /// Carries out a command. `run` and `cover` read a document from the source and run its clients'
 /// scripts under its schedule: `run` writes the report to the sink as compact JSON, and `cover` how
-/// many calls of each report were shown and protected. `check` reads a document with a report of it,
-/// and writes `yes` where each clause of the report holds. `load` makes its document of three numbers,
-/// and writes a line of counts. The words are looked at first, which may want memory; then the
-/// source is read, to one byte past the limit of 8,388,608 bytes at most, which for `check` is
+/// many calls of each report were shown and protected. `check` reads a document with a report of
+/// it, and writes `yes` where each clause of the report holds. `load` makes its document of three
+/// numbers, and writes a line of counts. The words are looked at first, which may want memory; then
+/// the source is read, to one byte past the limit of 8,388,608 bytes at most, which for `check` is
 /// 67,108,864; then the document is judged. Memory is proportional to the input, and the cost of
 /// reading, judging and writing is n log n in it.
 pub fn continuity<S: Source, K: Sink>(
@@ -148,12 +158,15 @@ pub fn continuity<S: Source, K: Sink>(
     source: &mut S,
     sink: &mut K,
 ) -> Status
-    // The words are those of no command, which want of memory may hide, and then the source is unread.
+    // The words are those of no command, which want of memory may hide, and then the source is
+    // unread.
     ensures words { result ≡ Status.Words → command_of_def words.now ≡ None }
-    ensures commands { command_of_def words.now ≡ None → (result ≡ Status.Words) ⊎ (result ≡ Status.NoMemory) }
+    ensures commands { command_of_def words.now ≡ None
+        → (result ≡ Status.Words) ⊎ (result ≡ Status.NoMemory) }
     ensures unread { reads_source (command_of_def words.now) ≡ false → source.new ≡ source.old }
 
-    // The source or the sink failed, and a source that failed is told of, not hidden as want of memory.
+    // The source or the sink failed, and a source that failed is told of, not hidden as want of
+    // memory.
     ensures read { result ≡ Status.Read → Rose (S.faults source.old) (S.faults source.new) }
     ensures kept { UnlessRead result (S.faults source.new ≡ S.faults source.old) }
     ensures write { result ≡ Status.Write → Rose (K.faults sink.old) (K.faults sink.new) }
@@ -166,9 +179,9 @@ pub fn continuity<S: Source, K: Sink>(
     ensures denied { IfNo result (IsDenied (S.left source.old) (S.left source.new)) }
     ensures denies { IsNo result → command_of_def words.now ≡ Some Command.Check }
 
-    // The sink took the text of the command, or a front of it: of a report with its headline, of how
-    // many of its calls were protected, of a report of which each clause holds, or of the counts of a
-    // load.
+    // The sink took the text of the command, or a front of it: of a report with its headline, of
+    // how many of its calls were protected, of a report of which each clause holds, or of the
+    // counts of a load.
     ensures done { (command : Command) → command_of_def words.now ≡ Some command
         → result ≡ Status.Done
         → IsDone command (S.left source.old) (S.left source.new)
@@ -179,7 +192,8 @@ pub fn continuity<S: Source, K: Sink>(
         (K.held sink.old) (K.held sink.new) }
 
     // A load reads nothing, so there is no other end of it.
-    ensures loads { (seed clients requests : ℕ) → command_of_def words.now ≡ Some (Command.Load seed clients requests) → EndsAtSink result }
+    ensures loads { (seed clients requests : ℕ)
+        → command_of_def words.now ≡ Some (Command.Load seed clients requests) → EndsAtSink result }
 
     // Where nothing is at fault there is an answer, but for want of memory.
     ensures complete { (command : Command) → command_of_def words.now ≡ Some command

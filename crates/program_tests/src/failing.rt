@@ -1,4 +1,5 @@
-use continuity_run::{MemSink, MemSource, continuity};
+use byte_streams::{MemSink, MemSource};
+use continuity_run::continuity;
 use std::alloc::Global;
 use std::test::Fail;
 

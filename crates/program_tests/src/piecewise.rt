@@ -2,7 +2,8 @@
 //! fail.
 ghost use Rattle.std.specs.Prelude.{◌<◌};
 
-use continuity_run::{MemSink, MemSource, continuity};
+use byte_streams::{MemSink, MemSource};
+use continuity_run::continuity;
 use std::alloc::Global;
 use std::test::Fail;
 

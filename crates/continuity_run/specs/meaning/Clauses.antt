@@ -14,8 +14,8 @@ use Rattle.report_check.specs.meaning.Pairs.{check_limit, pair_at}
 use Rattle.cover_core.specs.meaning.Text.{cover_value}
 use Rattle.continuity_run.specs.declared.answer.Telling.{Telling}
 use Rattle.continuity_run.specs.declared.answer.Telling.TheVariants as telling
-use Rattle.continuity_run.specs.declared.command.Command.{Command}
-use Rattle.continuity_run.specs.declared.command.Command.TheVariants as command
+use Rattle.command_words.specs.declared.command.Command.{Command}
+use Rattle.command_words.specs.declared.command.Command.TheVariants as command
 use Rattle.continuity_run.specs.meaning.Check.{IsRight, IsWrong, right_text}
 use Rattle.continuity_run.specs.meaning.Headline.{Headline}
 use Rattle.continuity_run.specs.meaning.Load.{IsLoaded}

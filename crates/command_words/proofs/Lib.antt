@@ -1,0 +1,2 @@
+mod LoadWords
+mod WordFaults

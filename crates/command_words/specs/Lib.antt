@@ -1,0 +1,3 @@
+pub mod InnerWords
+pub mod LoadWords
+pub mod Words
