@@ -31,11 +31,11 @@ fn pair_in(alloc: Global, value: Json) -> Result<(Document, Report), DocFault>
     Ok((document, report))
 }
 
-/// The document and its report that the bytes spell as a JSON object (RFC 8259), of at most 64 MiB, or
-/// the first fault and its place. A fault of the object comes first, then one of the document, and then
-/// one of the report, which has code 11. The whole object stands there as a JSON value. The cost is
-/// linear in the number of bytes, but for the n log n comparisons of keys and names that stand in no
-/// rising order.
+/// The document and its report that the bytes spell as a JSON object (RFC 8259), of at most 64 MiB,
+/// or the first fault and its place. A fault of the object comes first, then one of the document,
+/// and then one of the report, which has code 11. The whole object stands there as a JSON value.
+/// The cost is linear in the number of bytes, but for the n log n comparisons of keys and names
+/// that stand in no rising order.
 pub fn pair_from(alloc: Global, bytes: &[u8]) -> Result<(Document, Report), DocFault>
     ensures read { Gives result (pair_at bytes.now) }
     ensures document { IfOk result (λ pair. IsDocument pair.0) }

@@ -10,6 +10,7 @@ use outage_schedule::{Document, Report};
 use serial_check::laws::{fresh_is_placed, serial_is_placed};
 use serial_check::{judge_fresh, judge_serial};
 use std::alloc::Global;
+use stored_check::judge_stored;
 use svc_values::NoMemory;
 
 /// A clause on a report and its document, in the order in which they are judged.
@@ -21,8 +22,11 @@ pub enum Clause {
     Fresh,
     /// Each transaction stands among the entries at most once, and as it was shown.
     Once,
-    /// Each transaction stands there with the calls, answers, draws and settings that its client knows.
+    /// Each transaction stands there with the calls, answers, draws and settings that its client
+    /// knows.
     Same,
+    /// Each outcome that was told is the stored one.
+    Stored,
 }
 
 impl Clause {
@@ -35,6 +39,7 @@ impl Clause {
             Clause::Fresh => "fresh",
             Clause::Once => "once",
             Clause::Same => "same",
+            Clause::Stored => "stored",
         }
     }
 }
@@ -44,13 +49,15 @@ impl Clause {
 pub enum Verdict {
     /// Each holds.
     Yes,
-    /// This one is the first that does not. The path is a JSON Pointer (RFC 6901) from the report to the
-    /// place where it fails: of `Serial` and `Fresh` it is promised that it is the first such place.
+    /// This one is the first that does not. The path is a JSON Pointer (RFC 6901) from the report
+    /// to the place where it fails: of `Serial` and `Fresh` it is promised that it is the first
+    /// such place.
     No { clause: Clause, path: Pointer },
 }
 
-/// Judges a report with its document. A later clause is looked at only where those before it hold. The
-/// cost is that of `judge_serial`, `judge_fresh`, `judge_once` and `judge_same`.
+/// Judges a report with its document. A later clause is looked at only where those before it hold.
+/// The cost is that of `judge_serial`, `judge_fresh`, `judge_once`, `judge_same` and
+/// `judge_stored`.
 pub fn judge(alloc: Global, document: &Document, report: &Report) -> Result<Verdict, NoMemory>
     requires { IsDocument document.now }
     ensures { IfOk result (IsJudged document.now report.now) }
@@ -69,9 +76,13 @@ pub fn judge(alloc: Global, document: &Document, report: &Report) -> Result<Verd
     if let Some(path) = judge_same(alloc, document, report)? {
         return Ok(against(Clause::Same, path));
     }
+    if let Some(path) = judge_stored(alloc, document, report)? {
+        return Ok(against(Clause::Stored, path));
+    }
     Ok(Verdict::Yes)
 }
 
+/// That this clause is the first that fails, there.
 fn against(clause: Clause, path: Pointer) -> Verdict
     ensures { result ≡ Verdict.No clause path }
 {

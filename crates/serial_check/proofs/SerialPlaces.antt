@@ -54,7 +54,7 @@ one_table : (same : Bool) (place : List ℕ) (rest : Option (List ℕ)) (all : B
 one_table true place rest all is = is
 one_table false place rest all is = refl
 
-tables_none : (n : ℕ) (printed tables : List ReportTable) → is_none (table_place n printed tables) ≡ pointwise same_report_table printed tables
+pub tables_none : (n : ℕ) (printed tables : List ReportTable) → is_none (table_place n printed tables) ≡ pointwise same_report_table printed tables
 tables_none n [] [] = refl
 tables_none n [] (b ∷ tables) = refl
 tables_none n (a ∷ printed) [] = refl

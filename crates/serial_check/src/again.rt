@@ -51,7 +51,8 @@ fn is_answered(piece: &Piece, answers: &Answers, left: usize) -> bool
 
 /// Whether a piece of a call without statements has this answer alone, and no draw.
 fn is_alone(alloc: Global, piece: &Piece, answer: Answer) -> Result<bool, NoMemory>
-    ensures { IfOk result (λ alone. alone ≡ ((length piece.now.draws == 0) && same_answers (answer ∷ []) piece.now.answers)) }
+    ensures { IfOk result (λ alone.
+        alone ≡ ((length piece.now.draws == 0) && same_answers (answer ∷ []) piece.now.answers)) }
 {
     let answers = Answers::from_vec(Vec::from_array(alloc, [answer])?);
     Ok(is_answered(piece, &answers, piece.draws.len()))
@@ -59,7 +60,8 @@ fn is_alone(alloc: Global, piece: &Piece, answer: Answer) -> Result<bool, NoMemo
 
 /// A piece's draws as a source of the sequences of these names.
 fn source_of(alloc: Global, names: &Names, piece: &Piece) -> Result<ListDraws, NoMemory>
-    ensures { IfOk result (λ source. source ≡ record { names = names.now; draws = piece.now.draws }) }
+    ensures { IfOk result (λ source.
+        source ≡ record { names = names.now; draws = piece.now.draws }) }
 {
     let names = names.copy(alloc)?;
     Ok(ListDraws::new(names, piece.draws.copy(alloc)?))
@@ -78,8 +80,13 @@ fn works_again(
 ) -> Result<bool, NoMemory>
     requires fits { IsTrue (writes_fit tables.now.schemas txn.old.writes) }
     requires draws { source.old.draws ≡ piece.now.draws }
-    ensures replayed { IfOk result (λ replays. HasReplayed tables.now.rows txn.new.writes settings.now (if_replayed piece.now (mean (shape_of tables.now source.old.names) (with_writes tables.now.rows txn.old.writes) settings.now (call.Work statements.now commit) piece.now.draws)) replays) }
-    ensures fits { IfOk result (λ replays. IsTrue replays → IsTrue (writes_fit tables.now.schemas txn.new.writes)) }
+    ensures replayed { IfOk result (λ replays.
+        HasReplayed tables.now.rows txn.new.writes settings.now
+        (if_replayed piece.now
+        (mean (shape_of tables.now source.old.names) (with_writes tables.now.rows txn.old.writes)
+        settings.now (call.Work statements.now commit) piece.now.draws)) replays) }
+    ensures fits { IfOk result (λ replays. IsTrue replays
+        → IsTrue (writes_fit tables.now.schemas txn.new.writes)) }
 {
     match txn.run(tables, settings, statements, source) {
         Ok(ran) => {
@@ -111,8 +118,9 @@ impl Rerun {
         writes
     }
 
-    /// Runs the call of the next piece. Whether it takes exactly the piece's draws and gives exactly
-    /// its answers. A call with statements takes their time, and each other one that of the settings.
+    /// Runs the call of the next piece. Whether it takes exactly the piece's draws and gives
+    /// exactly its answers. A call with statements takes their time, and each other one that of the
+    /// settings.
     fn replays(
         &mut self,
         alloc: Global,
@@ -121,8 +129,13 @@ impl Rerun {
         piece: &Piece,
     ) -> Result<bool, NoMemory>
         requires fits { IsTrue (writes_fit tables.now.schemas self.old.txn.writes) }
-        ensures replayed { IfOk result (λ replays. HasReplayed tables.now.rows self.new.txn.writes self.new.settings (replayed (shape_of tables.now names.now) (with_writes tables.now.rows self.old.txn.writes) self.old.settings piece.now) replays) }
-        ensures fits { IfOk result (λ replays. IsTrue replays → IsTrue (writes_fit tables.now.schemas self.new.txn.writes)) }
+        ensures replayed { IfOk result (λ replays.
+            HasReplayed tables.now.rows self.new.txn.writes self.new.settings
+            (replayed (shape_of tables.now names.now)
+            (with_writes tables.now.rows self.old.txn.writes) self.old.settings piece.now)
+            replays) }
+        ensures fits { IfOk result (λ replays. IsTrue replays
+            → IsTrue (writes_fit tables.now.schemas self.new.txn.writes)) }
     {
         match &piece.call {
             Call::Work { statements, commit } => {
@@ -157,8 +170,13 @@ impl Rerun {
         is_last: bool,
     ) -> Result<bool, NoMemory>
         requires fits { IsTrue (writes_fit tables.now.schemas self.old.txn.writes) }
-        ensures replayed { IfOk result (λ goes_on. HasReplayed tables.now.rows self.new.txn.writes self.new.settings (next_piece (shape_of tables.now names.now) (with_writes tables.now.rows self.old.txn.writes) self.old.settings piece.now is_last) goes_on) }
-        ensures fits { IfOk result (λ goes_on. IsTrue goes_on → IsTrue (writes_fit tables.now.schemas self.new.txn.writes)) }
+        ensures replayed { IfOk result (λ goes_on.
+            HasReplayed tables.now.rows self.new.txn.writes self.new.settings
+            (next_piece (shape_of tables.now names.now)
+            (with_writes tables.now.rows self.old.txn.writes) self.old.settings piece.now is_last)
+            goes_on) }
+        ensures fits { IfOk result (λ goes_on. IsTrue goes_on
+            → IsTrue (writes_fit tables.now.schemas self.new.txn.writes)) }
     {
         if ends_committed(piece.answers.as_slice()) != is_last {
             return Ok(false);

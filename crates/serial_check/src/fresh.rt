@@ -35,7 +35,8 @@ fn value_in(draw: &Draw) -> Option<Single>
 
 /// Keeps the value of a draw, and tells whether it stood there before.
 fn comes_again(kept: &mut KeySet<Single>, draw: &Draw) -> Result<bool, NoMemory>
-    ensures { IfOk result (λ again. (before : List Given) → Keeps kept.old before → (again ≡ is_drawn_before before draw.now) × Keeps kept.new (before ++ draw.now ∷ [])) }
+    ensures { IfOk result (λ again. (before : List Given) → Keeps kept.old before
+        → (again ≡ is_drawn_before before draw.now) × Keeps kept.new (before ++ draw.now ∷ [])) }
 {
     match value_in(draw) {
         None => Ok(false),
@@ -49,7 +50,9 @@ fn comes_again(kept: &mut KeySet<Single>, draw: &Draw) -> Result<bool, NoMemory>
 
 /// Whether one of the draws of a piece stood there before. If not, they are kept.
 fn one_again(kept: &mut KeySet<Single>, draws: &[Draw]) -> Result<bool, NoMemory>
-    ensures { IfOk result (λ again. (before : List Given) → Keeps kept.old before → (again ≡ draws_again before draws.now) × (again ≡ false → Keeps kept.new (before ++ draws.now))) }
+    ensures { IfOk result (λ again. (before : List Given) → Keeps kept.old before
+        → (again ≡ draws_again before draws.now)
+        × (again ≡ false → Keeps kept.new (before ++ draws.now))) }
 {
     for draw in draws {
         if comes_again(kept, draw)? {
@@ -67,7 +70,9 @@ fn failing_piece(
     n: usize,
     pieces: &[Piece],
 ) -> Result<Option<Pointer>, NoMemory>
-    ensures { IfOk result (λ place. (before : List Given) → Keeps kept.old before → (place ≡ fresh_pieces before n 0 pieces.now) × (place ≡ None → Keeps kept.new (before ++ flat_map draws_in pieces.now))) }
+    ensures { IfOk result (λ place. (before : List Given) → Keeps kept.old before
+        → (place ≡ fresh_pieces before n 0 pieces.now)
+        × (place ≡ None → Keeps kept.new (before ++ flat_map draws_in pieces.now))) }
 {
     for (p, piece) in pieces.iter().enumerate() {
         if one_again(kept, piece.draws.as_slice())? {
@@ -91,9 +96,9 @@ fn failing_entry(alloc: Global, entries: &[Entry]) -> Result<Option<Pointer>, No
     Ok(None)
 }
 
-/// The first piece of a report's entries in which a value of a sequence or an identifier stands that
-/// stood before it, in an earlier piece or earlier in this one. There is none exactly where the
-/// clause `Fresh` holds. n log n for n draws.
+/// The first piece of a report's entries in which a value of a sequence or an identifier stands
+/// that stood before it, in an earlier piece or earlier in this one. There is none exactly where
+/// the clause `Fresh` holds. n log n for n draws.
 pub fn judge_fresh(alloc: Global, report: &Report) -> Result<Option<Pointer>, NoMemory>
     ensures { IfOk result (λ place. place ≡ fresh_place report.now) }
 {

@@ -11,4 +11,5 @@ mod serial;
 mod transaction;
 
 pub use fresh::judge_fresh;
+pub use printed::are_printed;
 pub use serial::judge_serial;

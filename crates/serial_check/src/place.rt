@@ -10,7 +10,8 @@ use svc_values::NoMemory;
 
 /// What is at this place of an item, seen from the list that the item is in.
 fn in_list(alloc: Global, name: &str, n: usize, fault: DocFault) -> DocFault
-    ensures { (place : List ℕ) → IsAt place fault → IsAt (47 ∷ escaped name.now ++ (47 ∷ decimal n ++ place)) result }
+    ensures { (place : List ℕ) → IsAt place fault
+        → IsAt (47 ∷ escaped name.now ++ (47 ∷ decimal n ++ place)) result }
 {
     fault.under_item(alloc, n).under(alloc, name)
 }

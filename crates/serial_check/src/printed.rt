@@ -1,5 +1,6 @@
 //! Where the tables of a report differ from those that its entries leave.
 ghost use Rattle.std.specs.Prelude.{◌≡◌, IfOk, map};
+ghost use Rattle.std.specs.Cmp.Lexicographic.{pointwise};
 ghost use Rattle.serial_check.specs.meaning.Places.{table_place};
 ghost use Rattle.run_clauses.specs.meaning.Serial.{same_report_table};
 ghost use Rattle.run_clauses.specs.meaning.Comparing.{same_printed_rows};
@@ -19,6 +20,7 @@ fn is_same(printed: &ReportTable, table: &TableRows) -> bool
     printed.name == table.table && are_same(printed.rows.as_slice(), table.rows.as_slice())
 }
 
+/// Whether these rows are those, in order. Linear.
 fn are_same(printed: &[Row], rows: &[Row]) -> bool
     ensures { result ≡ same_printed_rows printed.now rows.now }
 {
@@ -31,7 +33,8 @@ fn differing(
     printed: &[ReportTable],
     tables: &[TableRows],
 ) -> Result<Option<Pointer>, NoMemory>
-    ensures { IfOk result (λ place. place ≡ table_place 0 printed.now (map print_given tables.now)) }
+    ensures { IfOk result (λ place.
+        place ≡ table_place 0 printed.now (map print_given tables.now)) }
 {
     for (n, one) in printed.iter().enumerate() {
         match tables.get(n) {
@@ -49,14 +52,24 @@ fn differing(
     Ok(None)
 }
 
-/// The first of a report's tables that is printed otherwise than the table stands. Linear in the rows.
+/// The first of a report's tables that is printed otherwise than the table stands. Linear in the
+/// rows.
 pub(crate) fn printed_otherwise(
     alloc: Global,
     printed: &[ReportTable],
     tables: Tables,
 ) -> Result<Option<Pointer>, NoMemory>
-    ensures { IfOk result (λ place. place ≡ table_place 0 printed.now (map (print_in tables.rows) tables.schemas)) }
+    ensures { IfOk result (λ place.
+        place ≡ table_place 0 printed.now (map (print_in tables.rows) tables.schemas)) }
 {
     let tables = tables.into_rows()?;
     differing(alloc, printed, tables.as_slice())
+}
+
+/// Whether a report prints each of the tables as it stands, and no other. Linear in the rows.
+pub fn are_printed(alloc: Global, printed: &[ReportTable], tables: Tables) -> Result<bool, NoMemory>
+    ensures { IfOk result (λ are. are ≡ pointwise same_report_table printed.now (map (print_in tables.rows) tables.schemas)) }
+{
+    let place = printed_otherwise(alloc, printed, tables)?;
+    Ok(place.is_none())
 }

@@ -35,7 +35,10 @@ fn failing_entry(
     names: &Names,
     entries: &[Entry],
 ) -> Result<Option<Pointer>, NoMemory>
-    ensures { IfOk result (λ place. HasEnded tables.old (entries_course (shape_of tables.old names.now) tables.old.rows 0 entries.now) place tables.new) }
+    ensures { IfOk result (λ place.
+        HasEnded tables.old
+        (entries_course (shape_of tables.old names.now) tables.old.rows 0 entries.now) place
+        tables.new) }
 {
     for (n, entry) in entries.iter().enumerate() {
         let pieces = entry.pieces.as_slice();
@@ -47,11 +50,11 @@ fn failing_entry(
     Ok(None)
 }
 
-/// The first place where a report is no serial run of its document that leaves its tables: the first
-/// piece of an entry that is not answered as it stands when the entries are run one after the other,
-/// an entry without a piece, or behind all entries the first table that has other rows. There is none
-/// exactly where the clause `Serial` holds. For r rows and q calls it takes r log r and q log r, and for each
-/// statement on a whole table its rows.
+/// The first place where a report is no serial run of its document that leaves its tables: the
+/// first piece of an entry that is not answered as it stands when the entries are run one after the
+/// other, an entry without a piece, or behind all entries the first table that has other rows.
+/// There is none exactly where the clause `Serial` holds. For r rows and q calls it takes r log r
+/// and q log r, and for each statement on a whole table its rows.
 pub fn judge_serial(
     alloc: Global,
     document: &Document,

@@ -19,8 +19,8 @@ pub(crate) enum Ended {
 }
 
 /// Runs the pieces of entry `n` again, one after the other. They are no transaction at the first
-/// piece that is not answered as it stands, that commits and is not the last, or is the last and does
-/// not commit; and at the entry itself where it has no piece.
+/// piece that is not answered as it stands, that commits and is not the last, or is the last and
+/// does not commit; and at the entry itself where it has no piece.
 pub(crate) fn run_again(
     alloc: Global,
     tables: &Tables,
@@ -29,7 +29,10 @@ pub(crate) fn run_again(
     settings: &Settings,
     pieces: &[Piece],
 ) -> Result<Ended, NoMemory>
-    ensures { IfOk result (HasCourse tables.now (pieces_course (shape_of tables.now names.now) tables.now.rows settings.now n 0 pieces.now)) }
+    ensures { IfOk result
+        (HasCourse tables.now
+        (pieces_course (shape_of tables.now names.now) tables.now.rows settings.now n 0
+        pieces.now)) }
 {
     if pieces.is_empty() {
         return Ok(Ended::Failed {

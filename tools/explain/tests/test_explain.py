@@ -116,7 +116,7 @@ class OfSmallPages(unittest.TestCase):
 
 class OfThePages(unittest.TestCase):
     def test_each_code_and_each_clause_has_its_line(self):
-        for word in [*range(1, 10), 11, "serial", "fresh", "once", "same"]:
+        for word in [*range(1, 10), 11, "serial", "fresh", "once", "same", "stored"]:
             with self.subTest(word):
                 status, out, _ = told(explain.DOCS, "--line", str(word))
                 self.assertEqual(status, 0)

@@ -6,6 +6,7 @@ use Rattle.run_clauses.specs.meaning.Serial.{serial}
 use Rattle.run_clauses.specs.meaning.Fresh.{fresh}
 use Rattle.run_clauses.specs.meaning.Once.{once}
 use Rattle.run_clauses.specs.meaning.Same.{same}
+use Rattle.run_clauses.specs.meaning.Stored.{stored}
 use Rattle.serial_check.specs.meaning.Places.{serial_place, fresh_place}
 use Rattle.report_check.specs.declared.verdict.Clause.{Clause}
 use Rattle.report_check.specs.declared.verdict.Clause.TheVariants as clause
@@ -15,10 +16,11 @@ holds document report clause.Serial = serial document report
 holds document report clause.Fresh = fresh report
 holds document report clause.Once = once document report
 holds document report clause.Same = same document report
+holds document report clause.Stored = stored document report
 
 -- the clauses that are judged, in their order
 abbrev pub clauses : List Clause
-clauses = clause.Serial ∷ clause.Fresh ∷ clause.Once ∷ clause.Same ∷ []
+clauses = clause.Serial ∷ clause.Fresh ∷ clause.Once ∷ clause.Same ∷ clause.Stored ∷ []
 
 -- None exactly where all of these hold
 abbrev pub first_false : Document → Report → Option Clause

@@ -1,0 +1,40 @@
+-- Incarnations that ended and horizons that are wanted, as code keeps them.
+use Rattle.std.specs.Prelude.{ℕ, ◌+◌, max, nat_lt, List, [], ◌∷◌, map, reverse, Option, Some, None, if◌then◌else◌}
+use Rattle.run_clauses.specs.meaning.Horizons.{Ended, Openings, Wanted}
+use Rattle.report_horizons.specs.declared.horizons.EndedAt.{EndedAt}
+use Rattle.report_horizons.specs.declared.horizons.WantedAt.{WantedAt}
+use Rattle.report_horizons.specs.declared.horizons.OpeningsAt.{OpeningsAt}
+
+abbrev pub ended_as : EndedAt → Ended
+ended_as one = record { incarnation = one.incarnation; tick = one.tick }
+
+abbrev pub all_ended : List EndedAt → List Ended
+all_ended all = map ended_as all
+
+abbrev pub wanted_as : WantedAt → Wanted
+wanted_as one = record { event = one.event; horizon = one.horizon }
+
+abbrev pub all_wanted : List WantedAt → List Wanted
+all_wanted all = map wanted_as all
+
+-- the last that ended comes first
+abbrev pub openings_as : OpeningsAt → Openings
+openings_as openings = record { tick = openings.tick; running = openings.running; ended = reverse (all_ended openings.ended.items) }
+
+-- the horizon that an ended incarnation asks for
+abbrev pub part_of : ℕ → ℕ → Ended → ℕ
+part_of retention tick one = if nat_lt (one.tick + retention) tick then one.incarnation + 1 else 0
+
+-- the horizon that an opening before this event asks for
+abbrev pub part_before : ℕ → Wanted → ℕ
+part_before event one = if nat_lt one.event event then one.horizon else 0
+
+-- the greatest of the numbers that these give, and 0 where there is none
+abbrev pub most_by : {A : Type 0} → (A → ℕ) → List A → ℕ
+most_by part [] = 0
+most_by part (one ∷ all) = max (part one) (most_by part all)
+
+-- what there is, as a list
+abbrev pub as_list : {A : Type 0} → Option A → List A
+as_list None = []
+as_list (Some a) = a ∷ []

@@ -1,0 +1,207 @@
+//! The horizon at each event, below which outcomes are forgotten.
+ghost use Rattle.std.specs.Prelude.{◌≡◌, ◌<◌, ◌≤◌, ◌+◌, ◌^◌, max, false, IfOk, OnOk};
+ghost use Rattle.std.specs.Option.{option_map};
+ghost use Rattle.outage_schedule.specs.declared.note.Note.TheVariants as note;
+ghost use Rattle.run_clauses.specs.meaning.Horizons.{first_opening, ended_before as ended_before_def, after_note, wanted_horizon as wanted_def, wanted_at as wanted_at_def, wanted_from, raised as raised_def};
+ghost use Rattle.report_horizons.specs.Horizons.{as_list, openings_as, ended_as, wanted_as, all_ended, all_wanted, part_of as part_def, part_before as before_def, most_by};
+
+use outage_schedule::Note;
+use std::alloc::Global;
+use svc_values::NoMemory;
+
+/// An incarnation that ended, and the tick of its end.
+#[derive(Clone, Copy)]
+struct EndedAt {
+    incarnation: u64,
+    tick: u64,
+}
+
+/// A horizon that the opening of this event wants. It has more bits than a report's numbers, since it is
+/// one more than an incarnation.
+#[derive(Clone, Copy)]
+pub struct WantedAt {
+    event: u64,
+    horizon: u128,
+}
+
+/// How far a run has come: the tick, the incarnation that goes on, if any does, and those that ended.
+#[derive(Drop)]
+struct OpeningsAt {
+    tick: u64,
+    running: Option<u64>,
+    ended: Vec<EndedAt>,
+}
+
+fn greater(one: u128, other: u128) -> u128
+    ensures { result ≡ max one other }
+{
+    if one < other { other } else { one }
+}
+
+/// The horizon that an ended incarnation asks for, where outcomes are kept for so many ticks.
+fn part_of(one: &EndedAt, retention: u64, tick: u64) -> u128
+    ensures { result ≡ part_def retention tick (ended_as one.now) }
+{
+    let last = one.tick as u128 + retention as u128;
+    if last < tick as u128 {
+        return one.incarnation as u128 + 1;
+    }
+    0
+}
+
+/// The greatest horizon that these ask for.
+fn greatest(ended: &[EndedAt], retention: u64, tick: u64) -> u128
+    ensures { result ≡ most_by (part_def retention tick) (all_ended ended.now) }
+{
+    let mut most = 0;
+    for one in ended {
+        most = greater(most, part_of(one, retention, tick));
+    }
+    most
+}
+
+/// The incarnations that ended before event 1: the last one of a store that was opened.
+fn ended_before(alloc: Global, opened: bool, last: u64) -> Result<Vec<EndedAt>, NoMemory>
+    ensures { IfOk result (λ ended. all_ended ended.items ≡ ended_before_def opened last) }
+{
+    let mut ended = Vec::new(alloc);
+    if !opened {
+        return Ok(ended);
+    }
+    ended.push(EndedAt {
+        incarnation: last,
+        tick: 0,
+    })?;
+    Ok(ended)
+}
+
+impl OpeningsAt {
+    /// The opening before event 1.
+    fn first(alloc: Global, opened: bool, last: u64) -> Result<OpeningsAt, NoMemory>
+        requires { last ≤ 2 ^ 63 }
+        ensures is { IfOk result (λ openings. openings_as openings ≡ first_opening opened last) }
+        ensures tick { IfOk result (λ openings. openings.tick ≡ 0) }
+    {
+        let ended = ended_before(alloc, opened, last)?;
+        Ok(OpeningsAt {
+            tick: 0,
+            running: Some(last + 1),
+            ended,
+        })
+    }
+
+    /// The incarnation that goes on ends.
+    fn end(&mut self) -> Result<(), NoMemory>
+        ensures is { OnOk result (openings_as self.new ≡ after_note (openings_as self.old) (note.Crash 0 false)) }
+        ensures tick { self.new.tick ≡ self.old.tick }
+    {
+        let Some(incarnation) = self.running else {
+            return Ok(());
+        };
+        self.ended.push(EndedAt {
+            incarnation,
+            tick: self.tick,
+        })?;
+        self.running = None;
+        Ok(())
+    }
+
+    /// Goes on behind a note.
+    fn follow(&mut self, note: &Note) -> Result<(), NoMemory>
+        requires { self.old.tick < 2 ^ 63 }
+        ensures is { OnOk result (openings_as self.new ≡ after_note (openings_as self.old) note.now) }
+        ensures tick { self.new.tick ≤ self.old.tick + 1 }
+    {
+        match note {
+            Note::Tick => {
+                self.tick += 1;
+                Ok(())
+            }
+            Note::Crash { down: false, .. } => self.end(),
+            Note::Up {
+                incarnation: Some(incarnation),
+            } => {
+                self.running = Some(*incarnation);
+                Ok(())
+            }
+            _ => Ok(()),
+        }
+    }
+
+    /// The horizon that is wanted now. Linear in the incarnations that ended.
+    fn wanted(&self, retention: u64) -> u128
+        ensures { result ≡ wanted_def retention (openings_as self.now) }
+    {
+        greatest(self.ended.as_slice(), retention, self.tick)
+    }
+
+    /// The horizon that a note wants at its event, if it is that of an opening.
+    fn wanted_at(&self, retention: u64, event: u64, note: &Note) -> Option<WantedAt>
+        ensures { as_list (option_map wanted_as result) ≡ wanted_at_def retention event (openings_as self.now) note.now }
+    {
+        let Note::Up {
+            incarnation: Some(_),
+        } = note
+        else {
+            return None;
+        };
+        let horizon = self.wanted(retention);
+        Some(WantedAt { event, horizon })
+    }
+}
+
+/// The horizons that the notes want, in their order, where outcomes are kept for so many ticks. For each
+/// opening it is linear in the incarnations that ended before it.
+fn wanted_by(
+    alloc: Global,
+    first: OpeningsAt,
+    retention: u64,
+    notes: &[Note],
+) -> Result<Vec<WantedAt>, NoMemory>
+    requires { first.tick ≡ 0 }
+    ensures { IfOk result (λ all. all_wanted all.items ≡ wanted_from retention 1 (openings_as first) notes.now) }
+{
+    let mut all = Vec::new(alloc);
+    let mut openings = first;
+    for (at, note) in notes.iter().enumerate() {
+        if let Some(one) = openings.wanted_at(retention, at as u64 + 1, note) {
+            all.push(one)?;
+        }
+        openings.follow(note)?;
+    }
+    Ok(all)
+}
+
+/// The same from the opening before event 1 on, behind the last incarnation of a store that was opened
+/// or not.
+pub fn wanted_in(
+    alloc: Global,
+    opened: bool,
+    last: u64,
+    retention: u64,
+    notes: &[Note],
+) -> Result<Vec<WantedAt>, NoMemory>
+    requires { last ≤ 2 ^ 63 }
+    ensures { IfOk result (λ all. all_wanted all.items ≡ wanted_from retention 1 (first_opening opened last) notes.now) }
+{
+    let first = OpeningsAt::first(alloc, opened, last)?;
+    wanted_by(alloc, first, retention, notes)
+}
+
+/// The horizon that an opening before an event asks for.
+fn part_before(one: &WantedAt, event: u64) -> u128
+    ensures { result ≡ before_def event (wanted_as one.now) }
+{
+    if one.event < event { one.horizon } else { 0 }
+}
+
+/// The horizon at an event: the image's, raised by each opening before it. Linear in the openings.
+pub fn raised(image: u64, openings: &[WantedAt], event: u64) -> u128
+    ensures { result ≡ raised_def image (all_wanted openings.now) event }
+{
+    let mut most = image as u128;
+    for one in openings {
+        most = greater(most, part_before(one, event));
+    }
+    most
+}

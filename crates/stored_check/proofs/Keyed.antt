@@ -1,0 +1,21 @@
+-- Identifiers as keys of a set.
+use Rattle.std.proofs.Common.{◌≡◌, ℕ, List, [], ◌∷◌, map, ◌||◌, refl, sym, ap, ◌∙◌}
+use Rattle.std.specs.Bool.{Decides, one_answer}
+use Rattle.svc_values.specs.Keys.{is_key}
+use Rattle.svc_values.specs.declared.entry.Ltxid.{Ltxid}
+use Rattle.svc_values.specs.meaning.Identifiers.{same_ltxid}
+use Rattle.svc_values.specs.SameLaws.{same_ltxid_decides}
+use Rattle.ltxid_book.specs.meaning.Journal.{is_blocked}
+use Rattle.stored_check.specs.Keys.{key_of, ltxid_at, same_key}
+
+flipped : (x y : Ltxid) → Decides (same_ltxid y x) (x ≡ y)
+flipped x y = let d = same_ltxid_decides y x in (λ h. sym (d.0 h), λ e. d.1 (sym e))
+
+pub same_symm : (x y : Ltxid) → same_ltxid x y ≡ same_ltxid y x
+same_symm x y = one_answer (same_ltxid x y) (same_ltxid y x) (same_ltxid_decides x y) (flipped x y)
+
+pub key_holds : (keys : List (ℕ × ℕ × ℕ)) (x : Ltxid) → is_key same_key keys (key_of x) ≡ is_blocked (map ltxid_at keys) x
+key_holds [] x = refl
+key_holds (key ∷ keys) x =
+    ap (λ b. b || is_key same_key keys (key_of x)) (same_symm x (ltxid_at key))
+    ∙ ap (λ b. same_ltxid (ltxid_at key) x || b) (key_holds keys x)

@@ -1,0 +1,10 @@
+mod Keyed
+mod Lists
+mod Marks
+mod Counted
+mod Merging
+mod CommitsAt
+mod ToldIn
+mod BlocksOn
+mod StoredLines
+mod LastOpening

@@ -1,0 +1,69 @@
+//! Sets of identifiers.
+ghost use Rattle.std.specs.Prelude.{◌≡◌, ◌||◌, [], OnOk};
+ghost use Rattle.svc_values.specs.meaning.Identifiers.{same_ltxid};
+ghost use Rattle.ltxid_book.specs.meaning.Journal.{is_blocked};
+ghost use Rattle.stored_check.specs.Keys.{key_of as key_of_def};
+ghost use Rattle.svc_values.specs.declared.entry.Ltxid.{Ltxid as Id};
+
+use std::alloc::Global;
+use std::marker::Model;
+use svc_values::{KeySet, Ltxid, NoMemory};
+
+/// The three numbers of an identifier, by which it is looked up.
+pub(crate) type Key = (u64, u64, u64);
+
+/// Identifiers, seen as a list of them. Each call takes the logarithm of their number.
+#[derive(Drop)]
+pub(crate) struct Ids {
+    keys: KeySet<Key>,
+}
+
+impl Model for Ids {
+    ghost use Rattle.std.specs.Prelude.{List, map};
+    ghost use Rattle.svc_values.specs.declared.entry.Ltxid.{Ltxid};
+    ghost use Rattle.stored_check.specs.Keys.{ltxid_at};
+
+    ghost Value = { List Ltxid };
+
+    ghost view = { λ s. map ltxid_at s.keys };
+}
+
+pub(crate) fn key_of(ltxid: &Ltxid) -> Key
+    ensures { result ≡ key_of_def ltxid.now }
+{
+    (ltxid.incarnation, ltxid.session, ltxid.number)
+}
+
+pub(crate) fn is_same(one: &Ltxid, other: &Ltxid) -> bool
+    ensures { result ≡ same_ltxid one.now other.now }
+{
+    one.incarnation == other.incarnation
+        && one.session == other.session
+        && one.number == other.number
+}
+
+impl Ids {
+    /// None. It takes no memory.
+    pub(crate) fn new(alloc: Global) -> Ids
+        ensures { result ≡ [] }
+    {
+        Ids {
+            keys: KeySet::new(alloc),
+        }
+    }
+
+    /// Whether the identifier is among them.
+    pub(crate) fn has(&self, ltxid: &Ltxid) -> bool
+        ensures { result ≡ is_blocked self.now ltxid.now }
+    {
+        self.keys.has(&key_of(ltxid))
+    }
+
+    /// The identifier is among them from now on.
+    pub(crate) fn add(&mut self, ltxid: &Ltxid) -> Result<(), NoMemory>
+        ensures { OnOk result ((x : Id) → is_blocked self.new x ≡ (is_blocked self.old x || same_ltxid ltxid.now x)) }
+    {
+        self.keys.add(key_of(ltxid))?;
+        Ok(())
+    }
+}

@@ -1,0 +1,62 @@
+//! Places of a report at fault.
+ghost use Rattle.std.specs.Prelude.{◌≡◌, is_none, IfOk};
+
+use json_form::{DocCode, DocFault, Pointer};
+use std::alloc::Global;
+use svc_values::NoMemory;
+
+/// A place of a report. Numbers are from 0.
+#[derive(Clone, Copy)]
+pub(crate) enum Place {
+    Outcome {
+        client: usize,
+        request: usize,
+        outcome: usize,
+    },
+    Note(usize),
+    Served(usize),
+    Forgotten,
+    /// All that were blocked.
+    AllBlocked,
+    Blocked(usize),
+    Image,
+}
+
+/// The fault of an item of a member's array.
+fn item_of(alloc: Global, fault: DocFault, at: usize, name: &str) -> DocFault {
+    fault.under_item(alloc, at).under(alloc, name)
+}
+
+/// The fault of a place, seen from the report.
+fn fault_of(alloc: Global, place: Place) -> DocFault {
+    let here = DocFault::here(alloc, DocCode::BadReport);
+    match place {
+        Place::Outcome {
+            client,
+            request,
+            outcome,
+        } => {
+            let fault = item_of(alloc, here, outcome, "outcomes").under_item(alloc, request);
+            item_of(alloc, fault, client, "clients")
+        },
+        Place::Note(at) => item_of(alloc, here, at, "notes"),
+        Place::Served(at) => item_of(alloc, here, at, "served"),
+        Place::Forgotten => here.under(alloc, "forgotten"),
+        Place::AllBlocked => here.under(alloc, "blocked"),
+        Place::Blocked(at) => item_of(alloc, here, at, "blocked"),
+        Place::Image => here.under(alloc, "image"),
+    }
+}
+
+/// The pointer to a place, if there is one.
+pub(crate) fn pointer_to(alloc: Global, place: Option<Place>) -> Result<Option<Pointer>, NoMemory>
+    ensures { IfOk result (λ pointer. is_none pointer ≡ is_none place) }
+{
+    let Some(place) = place else {
+        return Ok(None);
+    };
+    match fault_of(alloc, place) {
+        DocFault::At { path, .. } => Ok(Some(path)),
+        DocFault::NoMemory => Err(NoMemory),
+    }
+}
