@@ -1,0 +1,4 @@
+pub mod Limits
+pub mod LimitsOfNotes
+pub mod Reports
+pub mod Laws
