@@ -66,13 +66,14 @@ fn given_before(alloc: Global, document: &Document) -> Result<Journal, NoMemory>
     }
 }
 
-/// The journal before event 1: that of the document's image, and else one of nothing but the base that
-/// the document gives. Linear in the document, and n log n for n records of an image.
+/// The journal before event 1: that of the document's image, and else one of nothing but the base
+/// that the document gives. Linear in the document, and n log n for n records of an image.
 pub fn journal_before(alloc: Global, document: &Document) -> Result<Journal, NoMemory>
     requires { IsDocument document.now }
     ensures is { IfOk result (λ journal. journal ≡ journal_def document.now) }
     ensures base { IfOk result (λ journal. IsBase journal.base) }
-    ensures fitting { IfOk result (λ journal. All (λ entry. IsTrue (writes_fit (schemas_of journal.base) entry.writes)) journal.entries) }
+    ensures fitting { IfOk result (λ journal.
+        All (λ entry. IsTrue (writes_fit (schemas_of journal.base) entry.writes)) journal.entries) }
 {
     keeps_journal();
     let journal = given_before(alloc, document)?;

@@ -50,6 +50,7 @@ impl Writer<ClientCounts> for ClientWriter {
     }
 }
 
+/// The counts of all clients, as an array.
 #[tactic(auto, unfolding(crate::specs::meaning::Text::cover_value))]
 fn cover_written(
     alloc: Global,
@@ -65,8 +66,7 @@ fn cover_written(
 }
 
 /// The counts as compact JSON (RFC 8259), without a line end: an object for each report of each
-/// client. Linear in
-/// its length.
+/// client. Linear in its length.
 #[tactic(auto, using(crate::proofs::CoverForm::cover_form))]
 pub fn cover_bytes(alloc: Global, all: &[ClientCounts]) -> Result<Vec<u8>, NoMemory>
     ensures text { IfOk result (λ bytes. bytes.items ≡ compact_text (cover_value all.now)) }

@@ -11,7 +11,8 @@ use std::alloc::Global;
 use svc_values::NoMemory;
 use transcript_core::is_repeated;
 
-/// How many reports from the first on are of one request, of which so many further copies are allowed.
+/// How many reports from the first on are of one request, of which so many further copies are
+/// allowed.
 fn copies_len(again: u64, reports: &[RequestReport]) -> usize
     ensures is { result ≡ copies_len_def again reports.now }
     ensures within { result ≤ length reports.now }
@@ -63,7 +64,9 @@ pub(crate) trait JudgesCopies {
         request: &Request,
         copies: &[RequestReport],
     ) -> Result<Option<CopiesFault>, NoMemory>
-        ensures { IfOk result (λ found. is_none found ≡ test self.now (record { request = request.now; reports = copies.now })) };
+        ensures { IfOk result (λ found.
+            is_none found ≡ test self.now
+            (record { request = request.now; reports = copies.now })) };
 }
 
 /// The reports from a place on.
@@ -90,7 +93,8 @@ fn fault_of_script<J: JudgesCopies>(
     reports: &[RequestReport],
     client: usize,
 ) -> Result<Option<Place>, NoMemory>
-    ensures { IfOk result (λ place. is_none place ≡ list_all (J.test judge.now) (copies_of script.now reports.now)) }
+    ensures { IfOk result (λ place.
+        is_none place ≡ list_all (J.test judge.now) (copies_of script.now reports.now)) }
 {
     let mut from = 0;
     for request in script {
@@ -121,7 +125,9 @@ pub(crate) fn fault_of_scripts<J: JudgesCopies>(
     clients: &[Client],
     transcripts: &[Transcript],
 ) -> Result<Option<Place>, NoMemory>
-    ensures { IfOk result (λ place. is_none place ≡ list_all (list_all (J.test judge.now)) (copies_by_client clients.now transcripts.now)) }
+    ensures { IfOk result (λ place.
+        is_none place ≡ list_all (list_all (J.test judge.now))
+        (copies_by_client clients.now transcripts.now)) }
 {
     for (place, client) in clients.iter().enumerate() {
         let reports = reports_at(transcripts, place);

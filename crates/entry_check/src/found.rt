@@ -20,7 +20,8 @@ pub(crate) struct Found {
 /// The set of the identifiers, up to the first that is met a second time.
 pub(crate) fn set_of(alloc: Global, all: &[IdAt]) -> Result<Found, NoMemory>
     ensures twice { IfOk result (λ found. is_none found.twice ≡ ids_differ (ids_in all.now)) }
-    ensures all { IfOk result (λ found. found.twice ≡ None → (x : Id) → holds found.ids x ≡ holds (ids_in all.now) x) }
+    ensures all { IfOk result (λ found. found.twice ≡ None → (x : Id)
+        → holds found.ids x ≡ holds (ids_in all.now) x) }
 {
     let mut ids = Ids::new(alloc);
     for one in all {

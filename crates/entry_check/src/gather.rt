@@ -35,7 +35,8 @@ fn gather_request(
     client: usize,
     request: usize,
 ) -> Result<(), NoMemory>
-    ensures { OnOk result (ids_in found.new.items ≡ ids_in found.old.items ++ flat_map (λ ids. ids) lists.now) }
+    ensures { OnOk result
+        (ids_in found.new.items ≡ ids_in found.old.items ++ flat_map (λ ids. ids) lists.now) }
 {
     for (at, ids) in lists.iter().enumerate() {
         let part = Part::Tried(at);
@@ -55,7 +56,8 @@ fn gather_client(
     requests: &[RequestReport],
     client: usize,
 ) -> Result<(), NoMemory>
-    ensures { OnOk result (ids_in found.new.items ≡ ids_in found.old.items ++ flat_map ids_tried requests.now) }
+    ensures { OnOk result
+        (ids_in found.new.items ≡ ids_in found.old.items ++ flat_map ids_tried requests.now) }
 {
     for (at, request) in requests.iter().enumerate() {
         gather_request(found, request.tried.as_slice(), client, at)?;
@@ -65,7 +67,8 @@ fn gather_client(
 
 /// Those of all lists of the report.
 pub(crate) fn ids_of_lists(alloc: Global, clients: &[Transcript]) -> Result<Vec<IdAt>, NoMemory>
-    ensures { IfOk result (λ found. ids_in found.items ≡ flat_map (λ requests. flat_map ids_tried requests) clients.now) }
+    ensures { IfOk result (λ found.
+        ids_in found.items ≡ flat_map (λ requests. flat_map ids_tried requests) clients.now) }
 {
     let mut found = Vec::new(alloc);
     for (at, transcript) in clients.iter().enumerate() {

@@ -55,7 +55,9 @@ impl Granting<'_> {
 
     /// The first draw that is kept, and those behind it.
     fn first<'b>(&self, draws: &'b [Draw]) -> Option<First<'b>>
-        ensures { filter (keeps self.now.kinds self.now.sequences.now) draws.now ≡ option_map_or (λ first. first.draw.now ∷ filter (keeps self.now.kinds self.now.sequences.now) first.behind.now) result [] }
+        ensures { filter (keeps self.now.kinds self.now.sequences.now) draws.now ≡ option_map_or
+            (λ first. first.draw.now ∷ filter (keeps self.now.kinds self.now.sequences.now)
+            first.behind.now) result [] }
     {
         let Some(at) = self.place(draws) else {
             return None;
@@ -66,10 +68,12 @@ impl Granting<'_> {
         })
     }
 
-    /// Whether those of the draws that are kept are the same, in order. Linear, and for each draw in
-    /// the number of sequences, of which there are at most 32.
+    /// Whether those of the draws that are kept are the same, in order. Linear, and for each draw
+    /// in the number of sequences, of which there are at most 32.
     pub(crate) fn keeps_same(&self, left: &[Draw], right: &[Draw]) -> bool
-        ensures { result ≡ same_draws (filter (keeps self.now.kinds self.now.sequences.now) left.now) (filter (keeps self.now.kinds self.now.sequences.now) right.now) }
+        ensures { result ≡ same_draws
+            (filter (keeps self.now.kinds self.now.sequences.now) left.now)
+            (filter (keeps self.now.kinds self.now.sequences.now) right.now) }
     {
         tests_equality();
         let mut rest = right;

@@ -28,6 +28,7 @@ impl Model for Ids {
     ghost view = { λ s. map ltxid_at s.keys };
 }
 
+/// The three numbers of an identifier, by which it is found.
 pub(crate) fn key_of(ltxid: &Ltxid) -> Key
     ensures { result ≡ key_of_def ltxid.now }
 {
@@ -53,7 +54,8 @@ impl Ids {
 
     /// The identifier is among them from now on.
     pub(crate) fn add(&mut self, ltxid: &Ltxid) -> Result<(), NoMemory>
-        ensures { OnOk result ((x : Id) → holds self.new x ≡ (holds self.old x || same_ltxid x ltxid.now)) }
+        ensures { OnOk result ((x : Id)
+            → holds self.new x ≡ (holds self.old x || same_ltxid x ltxid.now)) }
     {
         self.keys.add(key_of(ltxid))?;
         Ok(())

@@ -64,7 +64,8 @@ fn other_answers(pieces: &[Piece], shown: &[ShownCall]) -> Option<usize>
 
 /// The first call that was shown other draws than its piece has, of those that are kept.
 fn other_draws(granting: &Granting<'_>, pieces: &[Piece], shown: &[ShownCall]) -> Option<usize>
-    ensures { is_none result ≡ has_draws (keeps granting.now.kinds granting.now.sequences.now) pieces.now shown.now }
+    ensures { is_none result ≡ has_draws (keeps granting.now.kinds granting.now.sequences.now)
+        pieces.now shown.now }
 {
     for (at, call) in shown.iter().enumerate() {
         let Some(piece) = pieces.get(at) else {
@@ -90,7 +91,8 @@ impl Known<'_> {
         granting: &Granting<'_>,
         found: &Placed<'_>,
     ) -> Option<Difference>
-        ensures { is_none result ≡ is_same (keeps granting.now.kinds granting.now.sequences.now) self.now.settings.now self.now.calls.now self.now.shown.now found.now.entry.now }
+        ensures { is_none result ≡ is_same (keeps granting.now.kinds granting.now.sequences.now)
+            self.now.settings.now self.now.calls.now self.now.shown.now found.now.entry.now }
     {
         let entry = found.entry;
         let pieces = entry.pieces.as_slice();

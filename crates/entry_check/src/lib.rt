@@ -1,5 +1,5 @@
-//! Judges of a report's entries: whether each transaction stands in the journal at most once, and as
-//! its client knows it.
+//! Judges of a report's entries: whether each transaction stands in the journal at most once, and
+//! as its client knows it.
 #![tactic(auto)]
 
 mod copies;

@@ -85,7 +85,8 @@ fn wrong_list(
     report: &Report,
     stored: &Ids,
 ) -> Result<Option<Place>, NoMemory>
-    ensures { IfOk result (λ place. is_none place ≡ lists_right (holds stored.now) document.now report.now) }
+    ensures { IfOk result (λ place.
+        is_none place ≡ lists_right (holds stored.now) document.now report.now) }
 {
     let clients = report.clients.as_slice();
     let two = fault_of_requests(&HasOne { stored }, clients);
@@ -102,7 +103,8 @@ fn wrong_list(
 
 /// The first identifier that is in no list, and of no session of an `outside`.
 fn first_untried(outside: &OutsideSessions, tried: &Ids, all: &[IdAt]) -> Option<Place>
-    ensures { is_none result ≡ list_all (λ x. is_foreign outside.now x || holds tried.now x) (ids_in all.now) }
+    ensures { is_none result ≡ list_all (λ x. is_foreign outside.now x || holds tried.now x)
+        (ids_in all.now) }
 {
     for one in all {
         if !outside.has_session_of(&one.ltxid) && !tried.has(&one.ltxid) {
@@ -119,7 +121,8 @@ fn wrong_entry(
     report: &Report,
     tried: &Ids,
 ) -> Result<Option<Place>, NoMemory>
-    ensures { IfOk result (λ place. is_none place ≡ entries_right (holds tried.now) document.now report.now) }
+    ensures { IfOk result (λ place.
+        is_none place ≡ entries_right (holds tried.now) document.now report.now) }
 {
     let outside = outside_sessions(alloc, report.notes.as_slice())?;
     let entries = ids_of_entries(alloc, report.entries.as_slice())?;
@@ -134,6 +137,7 @@ fn wrong_entry(
     wrong_list(alloc, document, report, &stored.ids)
 }
 
+/// The place where `Once` fails, if it does: the lists of the report first, then its entries.
 fn once(alloc: Global, document: &Document, report: &Report) -> Result<Option<Place>, NoMemory>
     ensures { IfOk result (λ place. is_none place ≡ once_def document.now report.now) }
 {
@@ -150,8 +154,8 @@ fn once(alloc: Global, document: &Document, report: &Report) -> Result<Option<Pl
     wrong_entry(alloc, document, report, &tried.ids)
 }
 
-/// Judges `Once` of a report of a document: `None` exactly where it holds, and else the place at fault. m log m for a
-/// report of size m.
+/// Judges `Once` of a report of a document: `None` exactly where it holds, and else the place at
+/// fault. m log m for a report of size m.
 pub fn judge_once(
     alloc: Global,
     document: &Document,

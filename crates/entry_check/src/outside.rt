@@ -27,6 +27,7 @@ impl Model for OutsideSessions {
 }
 
 impl OutsideSessions {
+    /// No session. It takes no memory.
     fn new(alloc: Global) -> OutsideSessions
         ensures { result ≡ [] }
     {
@@ -42,8 +43,10 @@ impl OutsideSessions {
         self.keys.has(&(ltxid.incarnation, ltxid.session))
     }
 
+    /// One session more. It takes the logarithm of those that are there.
     fn add(&mut self, session: SessionId) -> Result<(), NoMemory>
-        ensures { OnOk result ((x : Id) → is_foreign self.new x ≡ (is_foreign self.old x || is_of_session session x)) }
+        ensures { OnOk result ((x : Id)
+            → is_foreign self.new x ≡ (is_foreign self.old x || is_of_session session x)) }
     {
         self.keys.add((session.incarnation, session.session))?;
         Ok(())
@@ -62,7 +65,8 @@ fn session_of_note(note: &Note) -> Option<SessionId>
 
 /// The sessions of all `outside` notes.
 pub(crate) fn outside_sessions(alloc: Global, notes: &[Note]) -> Result<OutsideSessions, NoMemory>
-    ensures { IfOk result (λ outside. (x : Id) → is_foreign outside x ≡ is_foreign (outside_sessions_def notes.now) x) }
+    ensures { IfOk result (λ outside. (x : Id)
+        → is_foreign outside x ≡ is_foreign (outside_sessions_def notes.now) x) }
 {
     let mut outside = OutsideSessions::new(alloc);
     for note in notes {

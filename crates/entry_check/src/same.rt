@@ -98,7 +98,10 @@ struct AreSame<'a> {
 impl AreSame<'_> {
     /// The first difference of a transaction, of which these identifiers were tried.
     fn of_transaction(&self, known: &Known<'_>, ids: &[Ltxid]) -> Option<Difference>
-        ensures { is_none result ≡ list_all (is_same (keeps self.now.granting.kinds self.now.granting.sequences.now) known.now.settings.now known.now.calls.now known.now.shown.now) (entries_in self.now.stored ids.now) }
+        ensures { is_none result ≡ list_all
+            (is_same (keeps self.now.granting.kinds self.now.granting.sequences.now)
+            known.now.settings.now known.now.calls.now known.now.shown.now)
+            (entries_in self.now.stored ids.now) }
     {
         for ltxid in ids {
             if let Some(found) = self.stored.find(ltxid) {
@@ -118,7 +121,10 @@ impl AreSame<'_> {
         request: &Request,
         copy: &RequestReport,
     ) -> Result<Option<Difference>, NoMemory>
-        ensures { IfOk result (λ found. is_none found ≡ is_same_request (keeps self.now.granting.kinds self.now.granting.sequences.now) self.now.stored request.now copy.now) }
+        ensures { IfOk result (λ found.
+            is_none found ≡ is_same_request
+            (keeps self.now.granting.kinds self.now.granting.sequences.now) self.now.stored
+            request.now copy.now) }
     {
         let more = unshown(copy);
         let script = request.calls.as_slice();
@@ -170,7 +176,8 @@ fn fault_at(copy: usize, difference: Difference) -> CopiesFault {
 }
 
 impl JudgesCopies for AreSame<'_> {
-    ghost test = { λ s. are_same_copies (keeps s.granting.kinds s.granting.sequences.now) s.stored };
+    ghost test = { λ s. are_same_copies (keeps s.granting.kinds s.granting.sequences.now)
+        s.stored };
 
     fn fault(
         &self,
@@ -187,11 +194,12 @@ impl JudgesCopies for AreSame<'_> {
     }
 }
 
-/// Judges `Same` of a report of a document, where `Once` holds: `None` exactly where each transaction
-/// stands in the journal with the calls, answers, granted draws and settings that its client knows.
-/// Else it is the place of the first one that does not, in the order of the report: its entry where
-/// calls or settings differ, and else the call that was shown other answers or other granted draws.
-/// m log m for a report of size m, beside the reading of what stood before event 1.
+/// Judges `Same` of a report of a document, where `Once` holds: `None` exactly where each
+/// transaction stands in the journal with the calls, answers, granted draws and settings that its
+/// client knows. Else it is the place of the first one that does not, in the order of the report:
+/// its entry where calls or settings differ, and else the call that was shown other answers or
+/// other granted draws. m log m for a report of size m, beside the reading of what stood before
+/// event 1.
 pub fn judge_same(
     alloc: Global,
     document: &Document,

@@ -50,7 +50,8 @@ impl<'a> Stored<'a> {
 
     /// The entry of an identifier, if there is one. It takes the logarithm of their number.
     pub(crate) fn find(&self, ltxid: &Ltxid) -> Option<Placed<'a>>
-        ensures { as_list (option_map (λ found. found.entry.now) result) ≡ entries_in self.now (ltxid.now ∷ []) }
+        ensures { as_list (option_map (λ found. found.entry.now) result) ≡ entries_in self.now
+            (ltxid.now ∷ []) }
     {
         let Some(place) = self.places.get(&key_of(ltxid)) else {
             return None;

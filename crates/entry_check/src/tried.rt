@@ -26,6 +26,7 @@ pub(crate) fn is_end(call: &ShownCall) -> bool
     ends_transaction(call.answers.as_slice())
 }
 
+/// How many of these calls end a transaction.
 fn ended_calls(calls: &[ShownCall]) -> usize
     ensures { result ≡ length (filter is_end_def calls.now) }
 {
@@ -85,14 +86,14 @@ pub(crate) fn list_at(lists: &[Ltxids], at: usize) -> &[Ltxid]
     }
 }
 
+/// Whether two identifiers are one.
 fn is_same(one: &Ltxid, other: &Ltxid) -> bool
     ensures { result ≡ same_ltxid one.now other.now }
 {
-    one.incarnation == other.incarnation
-        && one.session == other.session
-        && one.number == other.number
+    one == other
 }
 
+/// Whether an identifier is among these. Linear.
 fn is_among(ids: &[Ltxid], ltxid: &Ltxid) -> bool
     ensures { result ≡ holds ids.now ltxid.now }
 {
@@ -127,8 +128,8 @@ pub(crate) struct EndsRight<'a> {
     pub(crate) stored: &'a Ids,
 }
 
-/// How many transactions are over behind a call, where so many were before it, and `None` where its end is not that of
-/// its transaction.
+/// How many transactions are over behind a call, where so many were before it, and `None` where its
+/// end is not that of its transaction.
 #[tactic(auto, unfolding(crate::specs::Once::is_end))]
 fn over_behind(stored: &Ids, call: &ShownCall, lists: &[Ltxids], over: usize) -> Option<usize>
     requires { over < 2 ^ 63 }

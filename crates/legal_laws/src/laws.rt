@@ -1,11 +1,13 @@
-//! What was served, as it is read off the report of a whole run, is legal. Each law is the clause of a function with nothing to run.
+//! What was served, as it is read off the report of a whole run, is legal. Each law is the clause
+//! of a function with nothing to run.
 ghost use Rattle.legal_laws.specs.MarksTold.{ReportsTellMarked};
 ghost use Rattle.legal_laws.specs.ReplaysTold.{ReplaysArePlaced, ReportsShowReplays, ReportsTellReplays};
 ghost use Rattle.legal_laws.specs.ToldLegal.{RunsAreLegalTold, RunsAreFreshNewTold};
 
-/// The items that are read off the report of a whole run are those of its service's history, but for their numbers and for what calls without the mark
-/// bring, which is dropped: where what is told of each call with the mark is what its frame brought. So what was served is legal, and no value was drawn
-/// anew twice.
+/// The items that are read off the report of a whole run are those of its service's history, but
+/// for their numbers and for what calls without the mark bring, which is dropped: where what is
+/// told of each call with the mark is what its frame brought. So what was served is legal, and no
+/// value was drawn anew twice.
 pub fn told_runs_are_legal()
     ensures legal { ReportsTellMarked → RunsAreLegalTold }
     ensures fresh { ReportsTellMarked → RunsAreFreshNewTold }
@@ -16,9 +18,10 @@ pub fn told_runs_are_legal()
     shown_laws::turns::marked_calls_meet_no_block();
 }
 
-/// What is told of each call with the mark is what its frame brought, where replays are told as they are: the turn of the session has as many calls with
-/// the mark as were sent before it, and the part of the request that acquired the session was shown as many calls before as the request had been before it
-/// opened the connection.
+/// What is told of each call with the mark is what its frame brought, where replays are told as
+/// they are: the turn of the session has as many calls with the mark as were sent before it, and
+/// the part of the request that acquired the session was shown as many calls before as the request
+/// had been before it opened the connection.
 pub fn told_replays_bring_draws()
     ensures { ReportsTellReplays → ReportsTellMarked }
 {
@@ -26,8 +29,9 @@ pub fn told_replays_bring_draws()
     replay_laws::laws::replays_repeat_in_order();
 }
 
-/// Each call with the mark that is served was sent by a request on a connection that it held, and the turn that is told of its session has as many calls
-/// with the mark as were sent there before it, and was acquired by a step of this request.
+/// Each call with the mark that is served was sent by a request on a connection that it held, and
+/// the turn that is told of its session has as many calls with the mark as were sent there before
+/// it, and was acquired by a step of this request.
 pub fn replays_are_placed()
     ensures { ReplaysArePlaced }
 {
@@ -38,8 +42,8 @@ pub fn replays_are_placed()
     shown_laws::turns::turns_are_of_acquirers();
 }
 
-/// The request that sent a call with the mark is told by its part, which was shown before its session was acquired what the request was shown before it
-/// opened the connection.
+/// The request that sent a call with the mark is told by its part, which was shown before its
+/// session was acquired what the request was shown before it opened the connection.
 pub fn replays_are_shown()
     ensures { ReportsShowReplays }
 {
@@ -58,7 +62,8 @@ pub fn replays_are_told()
     replays_are_shown();
 }
 
-/// The clause `Legal` holds of the report of every whole run, read off the report alone, and no value was drawn anew twice.
+/// The clause `Legal` holds of the report of every whole run, read off the report alone, and no
+/// value was drawn anew twice.
 pub fn runs_are_legal_told()
     ensures legal { RunsAreLegalTold }
     ensures fresh { RunsAreFreshNewTold }

@@ -14,8 +14,8 @@ pub(crate) struct Ends {
     pub(crate) failed: u64,
 }
 
-/// Both counts together. A count past what its type holds would need more calls than there is memory
-/// for, and is refused as such.
+/// Both counts together. A count past what its type holds would need more calls than there is
+/// memory for, and is refused as such.
 fn plus(ends: Ends, others: Ends) -> Result<Ends, NoMemory>
     ensures { IfOk result (λ sum. sum ≡ plus_def ends others) }
 {

@@ -73,7 +73,8 @@ fn load_service(clients: u64) -> ServiceOf
 }
 
 /// The document of a load: so many clients move money between sixteen accounts in so many requests
-/// each, while connections are cut. The same numbers make the same document. Linear in the requests.
+/// each, while connections are cut. The same numbers make the same document. Linear in the
+/// requests.
 pub fn load_document(
     alloc: Global,
     seed: u64,

@@ -12,8 +12,8 @@ pub(crate) fn next(state: u64) -> u64
         .wrapping_add(1_442_695_040_888_963_407)
 }
 
-/// The number that is drawn where a step led to this state. Its lower bits are of short periods, and
-/// left out.
+/// The number that is drawn where a step led to this state. Its lower bits are of short periods,
+/// and left out.
 #[tactic(auto, unfolding(crate::specs::meaning::Loads::drawn))]
 pub(crate) fn drawn(below: u64, state: u64) -> u64
     requires { 1 ≤ below }

@@ -1,4 +1,5 @@
-//! The document that `load` makes of three numbers, and the line that it prints of the run's report.
+//! The document that `load` makes of three numbers, and the line that it prints of the run's
+//! report.
 #![tactic(auto)]
 
 mod counts;

@@ -9,8 +9,8 @@ use outage_schedule::{Report, ReportTable};
 use stmt_meaning::number_at;
 use svc_values::{NoMemory, Row};
 
-/// How many shown calls ended with Committed and with Conflict, how many entries and how many events
-/// there were, how many requests failed, and what stands on all accounts.
+/// How many shown calls ended with Committed and with Conflict, how many entries and how many
+/// events there were, how many requests failed, and what stands on all accounts.
 #[derive(Clone, Copy)]
 pub struct LoadLine {
     pub committed: u64,

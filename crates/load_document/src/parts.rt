@@ -21,6 +21,7 @@ fn name(alloc: Global, text: &str) -> Name
     }
 }
 
+/// An operand that is this number.
 fn number(number: i64) -> Operand
     ensures { result ≡ number_def number }
 {
@@ -114,6 +115,7 @@ fn pay(alloc: Global, from: u64, to: u64) -> Result<Call, NoMemory>
     })
 }
 
+/// A call that commits, and does nothing else.
 fn commit(alloc: Global) -> Call
     ensures { result ≡ commit_def }
 {

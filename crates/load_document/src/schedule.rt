@@ -16,6 +16,7 @@ fn connection_drawn(clients: u64, state: u64) -> u64
     1 + drawn(2 * clients, state)
 }
 
+/// The client that this state draws, numbered from 1.
 fn client_drawn(clients: u64, state: u64) -> u64
     requires some { 1 ≤ clients }
     requires few { clients ≤ 64 }

@@ -21,12 +21,14 @@ fn count_member(name: &str, number: u64, out: &mut TextWriter) -> Result<(), All
 
 /// The last member.
 fn total_member(line: &LoadLine, out: &mut TextWriter) -> Result<(), AllocError>
-    ensures { OnOk result (out.new ≡ out.old ++ key (codes "total") ∷ tokens_of (integer line.now.total)) }
+    ensures { OnOk result
+        (out.new ≡ out.old ++ key (codes "total") ∷ tokens_of (integer line.now.total)) }
 {
     out.name("total")?;
     out.integer(line.total)
 }
 
+/// The line as an object, its members in the order of their names.
 #[tactic(auto, unfolding(crate::specs::meaning::Lines::line_value))]
 fn line_written(line: &LoadLine, out: &mut TextWriter) -> Result<(), AllocError>
     ensures { OnOk result (out.new ≡ out.old ++ tokens_of (line_value line.now)) }

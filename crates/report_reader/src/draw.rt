@@ -18,6 +18,7 @@ pub enum DrawWord {
     Id,
 }
 
+/// A value of a sequence.
 #[tactic(auto, unfolding(crate::specs::meaning::Draws::seq_in), using(json_form::proofs::Offered::others_stay))]
 fn seq_from(alloc: Global, value: Json) -> Result<Draw, DocFault>
     ensures { Gives result (seq_in (view value)) }
@@ -28,6 +29,7 @@ fn seq_from(alloc: Global, value: Json) -> Result<Draw, DocFault>
     Ok(Draw::Seq { name, value })
 }
 
+/// A time of the clock.
 #[tactic(auto, unfolding(crate::specs::meaning::Draws::clock_in))]
 fn clock_from(alloc: Global, value: Json) -> Result<Draw, DocFault>
     ensures { Gives result (clock_in (view value)) }
@@ -37,6 +39,7 @@ fn clock_from(alloc: Global, value: Json) -> Result<Draw, DocFault>
     Ok(Draw::Clock { tick })
 }
 
+/// A new identifier.
 #[tactic(auto, unfolding(crate::specs::meaning::Draws::id_in))]
 fn id_from(alloc: Global, value: Json) -> Result<Draw, DocFault>
     ensures { Gives result (id_in (view value)) }
@@ -46,6 +49,7 @@ fn id_from(alloc: Global, value: Json) -> Result<Draw, DocFault>
     Ok(Draw::Id { id })
 }
 
+/// A draw, by the word that it begins with.
 fn draw_by(alloc: Global, value: Json, word: DrawWord) -> Result<Draw, DocFault>
     ensures { Gives result (draw_by_def word (view value)) }
 {

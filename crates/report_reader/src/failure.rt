@@ -34,6 +34,7 @@ pub enum FailureWord {
     Unknown,
 }
 
+/// A reason that is one word.
 fn lone_from(alloc: Global, value: Json, one: Reason) -> Result<Reason, DocFault>
     ensures { Gives result (lone_reason one (view value)) }
 {
@@ -41,6 +42,7 @@ fn lone_from(alloc: Global, value: Json, one: Reason) -> Result<Reason, DocFault
     Ok(one)
 }
 
+/// The number behind the word of a reason.
 #[tactic(auto, unfolding(crate::specs::meaning::Failures::number_behind))]
 fn number_from(alloc: Global, value: Json) -> Result<u64, DocFault>
     ensures { Gives result (number_behind (view value)) }
@@ -49,6 +51,7 @@ fn number_from(alloc: Global, value: Json) -> Result<u64, DocFault>
     parts.read(alloc, 1, &NUMBER)
 }
 
+/// A reason, by its word.
 fn reason_by(alloc: Global, value: Json, word: ReasonWord) -> Result<Reason, DocFault>
     ensures { Gives result (reason_by_def word (view value)) }
 {
@@ -86,6 +89,7 @@ impl Reader<Reason> for ReasonReader {
     }
 }
 
+/// A request with a reason against its replay.
 #[tactic(auto, unfolding(crate::specs::meaning::Failures::disabled_in), using(json_form::proofs::Offered::others_stay))]
 fn disabled_from(alloc: Global, value: Json) -> Result<Failure, DocFault>
     ensures { Gives result (disabled_in (view value)) }
@@ -96,6 +100,7 @@ fn disabled_from(alloc: Global, value: Json) -> Result<Failure, DocFault>
     Ok(Failure::Disabled { why, event })
 }
 
+/// A repeated call that was answered otherwise.
 #[tactic(auto, unfolding(crate::specs::meaning::Failures::mismatch_in), using(json_form::proofs::Offered::others_stay))]
 fn mismatch_from(alloc: Global, value: Json) -> Result<Failure, DocFault>
     ensures { Gives result (mismatch_in (view value)) }
@@ -107,6 +112,7 @@ fn mismatch_from(alloc: Global, value: Json) -> Result<Failure, DocFault>
     Ok(Failure::Mismatch { call, seen, now })
 }
 
+/// A transaction that is committed, and whose last answers are lost.
 #[tactic(auto, unfolding(crate::specs::meaning::Failures::incomplete_in))]
 fn incomplete_from(alloc: Global, value: Json) -> Result<Failure, DocFault>
     ensures { Gives result (incomplete_in (view value)) }
@@ -116,6 +122,7 @@ fn incomplete_from(alloc: Global, value: Json) -> Result<Failure, DocFault>
     Ok(Failure::Incomplete { ltxid })
 }
 
+/// So many tries to connect that failed in a row.
 #[tactic(auto, unfolding(crate::specs::meaning::Failures::retries_in))]
 fn retries_from(alloc: Global, value: Json) -> Result<Failure, DocFault>
     ensures { Gives result (retries_in (view value)) }
@@ -125,6 +132,7 @@ fn retries_from(alloc: Global, value: Json) -> Result<Failure, DocFault>
     Ok(Failure::Retries { tries })
 }
 
+/// A replay that came too late.
 #[tactic(auto, unfolding(crate::specs::meaning::Failures::timeout_in), using(json_form::proofs::Offered::others_stay))]
 fn timeout_from(alloc: Global, value: Json) -> Result<Failure, DocFault>
     ensures { Gives result (timeout_in (view value)) }
@@ -135,6 +143,7 @@ fn timeout_from(alloc: Global, value: Json) -> Result<Failure, DocFault>
     Ok(Failure::ReplayTimeout { first, ready })
 }
 
+/// So many replays as a request may have.
 #[tactic(auto, unfolding(crate::specs::meaning::Failures::replays_in), using(json_form::proofs::Offered::others_stay))]
 fn replays_from(alloc: Global, value: Json) -> Result<Failure, DocFault>
     ensures { Gives result (replays_in (view value)) }
@@ -145,6 +154,7 @@ fn replays_from(alloc: Global, value: Json) -> Result<Failure, DocFault>
     Ok(Failure::Replays { limit, event })
 }
 
+/// A request that waited too long for a slot.
 #[tactic(auto, unfolding(crate::specs::meaning::Failures::wait_in), using(json_form::proofs::Offered::others_stay))]
 fn wait_from(alloc: Global, value: Json) -> Result<Failure, DocFault>
     ensures { Gives result (wait_in (view value)) }
@@ -155,6 +165,7 @@ fn wait_from(alloc: Global, value: Json) -> Result<Failure, DocFault>
     Ok(Failure::PoolWait { first, now })
 }
 
+/// An identifier whose outcome is kept no more.
 #[tactic(auto, unfolding(crate::specs::meaning::Failures::unknown_in))]
 fn unknown_from(alloc: Global, value: Json) -> Result<Failure, DocFault>
     ensures { Gives result (unknown_in (view value)) }
@@ -164,6 +175,7 @@ fn unknown_from(alloc: Global, value: Json) -> Result<Failure, DocFault>
     Ok(Failure::Unknown { ltxid })
 }
 
+/// An error, by the word that it begins with.
 fn failure_by(alloc: Global, value: Json, word: FailureWord) -> Result<Failure, DocFault>
     ensures { Gives result (failure_by_def word (view value)) }
 {
@@ -190,6 +202,7 @@ const FAILURES: [(&str, FailureWord); 8] = [
     ("unknown", FailureWord::Unknown),
 ];
 
+/// An error.
 #[tactic(auto, unfolding(crate::specs::meaning::Failures::failure_in))]
 fn failure_from(alloc: Global, value: Json) -> Result<Failure, DocFault>
     ensures { Gives result (failure_in (view value)) }

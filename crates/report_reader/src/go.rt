@@ -72,6 +72,7 @@ fn sent_on(alloc: Global, parts: &mut Parts, sent: u64) -> Result<u64, DocFault>
     Ok(connection)
 }
 
+/// A frame that a client took, and how many it sent then.
 #[tactic(auto, using(json_form::proofs::Offered::others_stay))]
 fn took_from(alloc: Global, parts: &mut Parts) -> Result<GoNote, DocFault>
     ensures { Gives result (go_by_def GoWord.Took (parts_at parts.old)) }

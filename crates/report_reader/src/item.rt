@@ -104,6 +104,7 @@ pub struct ServedAt {
     pub session: SessionId,
 }
 
+/// The item at its event, with its session.
 fn served_at(place: ServedAt, item: Item) -> Served
     ensures { result ≡ served_at_def place item }
 {
@@ -114,8 +115,8 @@ fn served_at(place: ServedAt, item: Item) -> Served
     }
 }
 
-/// Reads an item behind those before it, of which the last one stands at the event `last`, and at an
-/// event of these notes.
+/// Reads an item behind those before it, of which the last one stands at the event `last`, and at
+/// an event of these notes.
 #[derive(Clone, Copy)]
 struct ServedReader<'a> {
     notes: &'a [Note],
@@ -131,8 +132,10 @@ impl ServedReader<'_> {
         parts: &mut Parts,
         word: ServedWord,
     ) -> Result<ServedAt, DocFault>
-        ensures read { Gives result (place_in self.now.notes.now word self.now.last (parts_at parts.old)) }
-        ensures left { IfOk result (λ _. parts_at parts.new ≡ taken_at 2 (taken_at 1 (parts_at parts.old))) }
+        ensures read { Gives result
+            (place_in self.now.notes.now word self.now.last (parts_at parts.old)) }
+        ensures left { IfOk result (λ _.
+            parts_at parts.new ≡ taken_at 2 (taken_at 1 (parts_at parts.old))) }
         ensures count { count_at parts.new ≡ count_at parts.old }
     {
         let ServedReader { notes, last } = *self;
@@ -141,6 +144,7 @@ impl ServedReader<'_> {
         Ok(ServedAt { event, session })
     }
 
+    /// An item with nothing behind its session.
     #[tactic(auto, unfolding(crate::specs::meaning::Items::bare_in))]
     fn bare(
         &self,
@@ -156,6 +160,7 @@ impl ServedReader<'_> {
         Ok(served_at(place, item))
     }
 
+    /// A Begin, with its settings.
     #[tactic(auto, unfolding(crate::specs::meaning::Items::begin_in), using(json_form::proofs::Offered::others_stay))]
     fn begin(&self, alloc: Global, value: Json) -> Result<Served, DocFault>
         ensures { Gives result (begin_in self.now.notes.now self.now.last (view value)) }
@@ -166,6 +171,7 @@ impl ServedReader<'_> {
         Ok(served_at(place, Item::Begin { settings }))
     }
 
+    /// A call, with its answers and draws.
     #[tactic(auto, unfolding(crate::specs::meaning::Items::answered_in), using(json_form::proofs::Offered::others_stay))]
     fn answered(&self, alloc: Global, value: Json) -> Result<Served, DocFault>
         ensures { Gives result (answered_in self.now.notes.now self.now.last (view value)) }
@@ -185,6 +191,7 @@ impl ServedReader<'_> {
         Ok(served_at(place, item))
     }
 
+    /// A commit that was blocked.
     #[tactic(auto, unfolding(crate::specs::meaning::Items::blocked_in), using(json_form::proofs::Offered::others_stay))]
     fn blocked(&self, alloc: Global, value: Json) -> Result<Served, DocFault>
         ensures { Gives result (blocked_in self.now.notes.now self.now.last (view value)) }
@@ -209,6 +216,7 @@ impl ServedReader<'_> {
         Ok(served_at(place, Item::Outcome { ltxid, result }))
     }
 
+    /// A frame that was refused, with the cause.
     #[tactic(auto, unfolding(crate::specs::meaning::Items::refused_in), using(json_form::proofs::Offered::others_stay))]
     fn refused(&self, alloc: Global, value: Json) -> Result<Served, DocFault>
         ensures { Gives result (refused_in self.now.notes.now self.now.last (view value)) }
@@ -219,6 +227,7 @@ impl ServedReader<'_> {
         Ok(served_at(place, Item::Refused { cause }))
     }
 
+    /// A question for an outcome that was stopped before its answer.
     #[tactic(auto, unfolding(crate::specs::meaning::Items::stopped_outcome_in), using(json_form::proofs::Offered::others_stay))]
     fn stopped_outcome(&self, alloc: Global, value: Json) -> Result<Served, DocFault>
         ensures { Gives result (stopped_outcome_in self.now.notes.now self.now.last (view value)) }
@@ -229,6 +238,7 @@ impl ServedReader<'_> {
         Ok(served_at(place, Item::CrashedOutcome { ltxid }))
     }
 
+    /// A call that was stopped before its answer.
     #[tactic(auto, unfolding(crate::specs::meaning::Items::stopped_call_in), using(json_form::proofs::Offered::others_stay))]
     fn stopped_call(&self, alloc: Global, value: Json) -> Result<Served, DocFault>
         ensures { Gives result (stopped_call_in self.now.notes.now self.now.last (view value)) }
@@ -251,6 +261,7 @@ impl ServedReader<'_> {
         }
     }
 
+    /// An item, by the word that it begins with.
     fn by(&self, alloc: Global, value: Json, word: ServedWord) -> Result<Served, DocFault>
         ensures { Gives result (served_by_def self.now.notes.now self.now.last word (view value)) }
     {
@@ -308,7 +319,8 @@ impl Reader<Served> for ServedReader<'_> {
 #[tactic(auto, using(crate::proofs::Stays::last_pushed))]
 fn each_served(alloc: Global, notes: &[Note], values: Vec<Json>) -> Result<Vec<Served>, DocFault>
     ensures { GivesBy (λ v. v.items) result
-        (each_after (λ before. one_served notes.now (last_event before)) [] (items_view values.items)) }
+        (each_after (λ before. one_served notes.now (last_event before)) []
+        (items_view values.items)) }
 {
     let mut found = Vec::with_capacity(alloc, values.len())?;
     let mut last = 0;

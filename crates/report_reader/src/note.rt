@@ -67,6 +67,7 @@ impl Reader<Option<FrameName>> for FrameReader {
     }
 }
 
+/// A frame that was served, or that there was none.
 #[tactic(auto, unfolding(crate::specs::meaning::Notes::serve_in), using(json_form::proofs::Offered::others_stay))]
 fn serve_from(alloc: Global, value: Json) -> Result<Note, DocFault>
     ensures { Gives result (serve_in (view value)) }
@@ -107,6 +108,7 @@ fn reached_from(alloc: Global, parts: &mut Parts) -> Result<Option<Reached>, Doc
     Ok(Some(Reached { up, down }))
 }
 
+/// A cut.
 #[tactic(auto, unfolding(crate::specs::meaning::Notes::cut_in), using(crate::proofs::Stays::bytes_stay))]
 fn cut_from(alloc: Global, value: Json) -> Result<Note, DocFault>
     ensures { Gives result (cut_in (view value)) }
@@ -131,6 +133,7 @@ fn with_word(alloc: Global, parts: &mut Parts, word: &str) -> Result<bool, DocFa
     parts.read(alloc, 2, &JustReader { word })
 }
 
+/// The end of a session behind a cut.
 #[tactic(auto, unfolding(crate::specs::meaning::Notes::reap_in), using(crate::proofs::Stays::word_stays))]
 fn reap_from(alloc: Global, value: Json) -> Result<Note, DocFault>
     ensures { Gives result (reap_in (view value)) }
@@ -144,6 +147,7 @@ fn reap_from(alloc: Global, value: Json) -> Result<Note, DocFault>
     })
 }
 
+/// A crash.
 #[tactic(auto, unfolding(crate::specs::meaning::Notes::crash_in), using(crate::proofs::Stays::word_stays))]
 fn crash_from(alloc: Global, value: Json) -> Result<Note, DocFault>
     ensures { Gives result (crash_in (view value)) }
@@ -169,6 +173,7 @@ impl Reader<Option<u64>> for IncarnationReader {
     }
 }
 
+/// An opening.
 #[tactic(auto, unfolding(crate::specs::meaning::Notes::up_in))]
 fn up_from(alloc: Global, value: Json) -> Result<Note, DocFault>
     ensures { Gives result (up_in (view value)) }
@@ -178,6 +183,7 @@ fn up_from(alloc: Global, value: Json) -> Result<Note, DocFault>
     Ok(Note::Up { incarnation })
 }
 
+/// An opening that was stopped.
 #[tactic(auto, unfolding(crate::specs::meaning::Notes::upcrash_in))]
 fn upcrash_from(alloc: Global, value: Json) -> Result<Note, DocFault>
     ensures { Gives result (upcrash_in (view value)) }
@@ -190,6 +196,7 @@ fn upcrash_from(alloc: Global, value: Json) -> Result<Note, DocFault>
     Ok(Note::UpCrash { made: false })
 }
 
+/// A tick.
 fn tick_from(alloc: Global, value: Json) -> Result<Note, DocFault>
     ensures { Gives result (tick_in (view value)) }
 {
@@ -235,6 +242,7 @@ fn ran_from(alloc: Global, value: Json) -> Result<OutsideNote, DocFault>
     Ok(OutsideNote { ltxid, runs })
 }
 
+/// What calls from outside did.
 #[tactic(auto, unfolding(crate::specs::meaning::Notes::outside_in))]
 fn outside_from(alloc: Global, value: Json) -> Result<Note, DocFault>
     ensures { Gives result (outside_in (view value)) }
@@ -248,6 +256,7 @@ fn outside_from(alloc: Global, value: Json) -> Result<Note, DocFault>
     Ok(Note::Outside { ran: Some(ran) })
 }
 
+/// What was told of an identifier from outside.
 #[tactic(auto, unfolding(crate::specs::meaning::Notes::ask_in), using(json_form::proofs::Offered::others_stay, crate::proofs::Stays::asked_stays))]
 fn ask_from(alloc: Global, value: Json) -> Result<Note, DocFault>
     ensures { Gives result (ask_in (view value)) }
@@ -260,6 +269,7 @@ fn ask_from(alloc: Global, value: Json) -> Result<Note, DocFault>
     Ok(Note::Ask { ltxid, told })
 }
 
+/// How many idle connections were closed.
 #[tactic(auto, unfolding(crate::specs::meaning::Notes::drain_in))]
 fn drain_from(alloc: Global, value: Json) -> Result<Note, DocFault>
     ensures { Gives result (drain_in (view value)) }
@@ -269,6 +279,7 @@ fn drain_from(alloc: Global, value: Json) -> Result<Note, DocFault>
     Ok(Note::Drain { closed })
 }
 
+/// A note, by the word that it begins with.
 fn note_by(alloc: Global, value: Json, word: NoteWord) -> Result<Note, DocFault>
     ensures { Gives result (note_by_def word (view value)) }
 {

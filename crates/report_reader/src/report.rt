@@ -62,7 +62,8 @@ fn front_from(alloc: Global, members: &mut Members) -> Result<Front, DocFault>
     ensures read { Gives result (front_in (members_at members.old)) }
     ensures middle { IfOk result (λ _. (print : Bool) →
         middle_in print (members_at members.new) ≡ middle_in print (members_at members.old)) }
-    ensures back { IfOk result (λ _. back_in (members_at members.new) ≡ back_in (members_at members.old)) }
+    ensures back { IfOk result (λ _.
+        back_in (members_at members.new) ≡ back_in (members_at members.old)) }
 {
     let alerts = members.read(alloc, "alerts", &AlertsReader)?;
     let blocked = members.read(alloc, "blocked", &LtxidsReader)?;
@@ -86,7 +87,8 @@ pub struct Middle {
 #[tactic(auto, using(crate::proofs::Stays::back_stays))]
 fn image_from(alloc: Global, members: &mut Members, print: bool) -> Result<Option<Image>, DocFault>
     ensures read { Gives result (image_in print (members_at members.old)) }
-    ensures back { IfOk result (λ _. back_in (members_at members.new) ≡ back_in (members_at members.old)) }
+    ensures back { IfOk result (λ _.
+        back_in (members_at members.new) ≡ back_in (members_at members.old)) }
 {
     if print {
         members.read(alloc, "image", &ImageReader)
@@ -99,7 +101,8 @@ fn image_from(alloc: Global, members: &mut Members, print: bool) -> Result<Optio
 #[tactic(auto, unfolding(crate::specs::meaning::Reports::middle_in), using(json_form::proofs::Offered::others_stay, crate::proofs::Stays::image_stays, crate::proofs::Stays::back_stays))]
 fn middle_from(alloc: Global, members: &mut Members, print: bool) -> Result<Middle, DocFault>
     ensures read { Gives result (middle_in print (members_at members.old)) }
-    ensures back { IfOk result (λ _. back_in (members_at members.new) ≡ back_in (members_at members.old)) }
+    ensures back { IfOk result (λ _.
+        back_in (members_at members.new) ≡ back_in (members_at members.old)) }
 {
     let entries = members.read(alloc, "entries", &EntriesReader)?;
     let horizon = Whole::new(1, u64::MAX);
@@ -135,6 +138,7 @@ fn back_from(alloc: Global, members: &mut Members) -> Result<Back, DocFault>
     })
 }
 
+/// The report of its three parts.
 fn report_with(front: Front, middle: Middle, back: Back) -> Report
     ensures { result ≡ report_with_def front middle back }
 {
@@ -239,9 +243,9 @@ fn as_bad<T>(read: Result<T, DocFault>) -> Result<T, DocFault>
     }
 }
 
-/// The report of a document that a JSON value is, or the first place at fault, which has code 11. No
-/// report shows writes, so its entries have none. The cost is linear in the size of the value, but for
-/// n log n steps over a list of n settings.
+/// The report of a document that a JSON value is, or the first place at fault, which has code 11.
+/// No report shows writes, so its entries have none. The cost is linear in the size of the value,
+/// but for n log n steps over a list of n settings.
 pub fn report_from(alloc: Global, document: &Document, value: Json) -> Result<Report, DocFault>
     ensures read { Gives result (report_of document.now (view value)) }
     ensures told { IfOk result IsTold }

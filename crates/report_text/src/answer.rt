@@ -12,22 +12,27 @@ use json_form::{TextWriter, Writer};
 use std::alloc::{AllocError, Global};
 use svc_values::{Answer, Answers, Draw, Draws, Rows, StatementFault};
 
+/// The number by which a refusal is told.
 fn refusal_code(fault: StatementFault) -> u8
     ensures { result ≡ refusal_code_def fault }
 {
     fault as u8
 }
 
+/// The sum or the count that a statement answered.
 fn number_written(number: i64, out: &mut TextWriter) -> Result<(), AllocError>
-    ensures { OnOk result (out.new ≡ out.old ++ tokens_of (one_def (codes "number") (integer_def number))) }
+    ensures { OnOk result
+        (out.new ≡ out.old ++ tokens_of (one_def (codes "number") (integer_def number))) }
 {
     begin_one(out, "number")?;
     out.integer(number)?;
     out.end_object()
 }
 
+/// The rows that a statement answered.
 fn rows_written(alloc: Global, rows: &Rows, out: &mut TextWriter) -> Result<(), AllocError>
-    ensures { OnOk result (out.new ≡ out.old ++ tokens_of (one_def (codes "rows") (list_by row_value rows.now))) }
+    ensures { OnOk result
+        (out.new ≡ out.old ++ tokens_of (one_def (codes "rows") (list_by row_value rows.now))) }
 {
     begin_one(out, "rows")?;
     out.array_of(alloc, rows.as_slice(), &RowWriter)?;
@@ -78,6 +83,7 @@ impl Writer<Draw> for DrawWriter {
     }
 }
 
+/// The answers of a call, in order.
 pub(crate) fn answers_written(
     alloc: Global,
     answers: &Answers,
@@ -88,6 +94,7 @@ pub(crate) fn answers_written(
     out.array_of(alloc, answers.as_slice(), &AnswerWriter)
 }
 
+/// The draws of a call, in order.
 pub(crate) fn draws_written(
     alloc: Global,
     draws: &Draws,

@@ -13,7 +13,7 @@ use json_form::{TextWriter, Writer};
 use std::alloc::{AllocError, Global};
 use svc_values::{Call, Name, Statement, Text, Value};
 
-// The commit, if the call has one, and the bracket behind it.
+/// The commit, if the call has one, and the bracket behind it.
 fn work_ended(out: &mut TextWriter, commit: bool) -> Result<(), AllocError>
     ensures { OnOk result (out.new ≡ out.old ++ ending (commit_values commit)) }
 {
@@ -24,7 +24,7 @@ fn work_ended(out: &mut TextWriter, commit: bool) -> Result<(), AllocError>
     out.end_array()
 }
 
-// The statements, and last the commit.
+/// The statements, and last the commit.
 #[tactic(auto, unfolding(crate::specs::meaning::Calls::call_value))]
 fn work_written(
     alloc: Global,
@@ -32,13 +32,15 @@ fn work_written(
     commit: bool,
     out: &mut TextWriter,
 ) -> Result<(), AllocError>
-    ensures { OnOk result (out.new ≡ out.old ++ tokens_of (call_value (Call.Work statements.now commit))) }
+    ensures { OnOk result
+        (out.new ≡ out.old ++ tokens_of (call_value (Call.Work statements.now commit))) }
 {
     out.begin_array()?;
     out.each(alloc, statements, &StatementWriter)?;
     work_ended(out, commit)
 }
 
+/// A call that sets a name to a value.
 #[tactic(auto, unfolding(crate::specs::meaning::Calls::call_value))]
 fn set_written(
     alloc: Global,
@@ -46,7 +48,8 @@ fn set_written(
     value: &Value,
     out: &mut TextWriter,
 ) -> Result<(), AllocError>
-    ensures { OnOk result (out.new ≡ out.old ++ tokens_of (call_value (Call.Set name.now value.now))) }
+    ensures { OnOk result
+        (out.new ≡ out.old ++ tokens_of (call_value (Call.Set name.now value.now))) }
 {
     out.begin_array()?;
     begin_word(out, "set")?;
@@ -56,6 +59,7 @@ fn set_written(
     out.end_array()
 }
 
+/// A call that writes an alert line.
 #[tactic(auto, unfolding(crate::specs::meaning::Calls::call_value))]
 fn alter_written(line: &Text, out: &mut TextWriter) -> Result<(), AllocError>
     ensures { OnOk result (out.new ≡ out.old ++ tokens_of (call_value (Call.Alter line.now))) }
@@ -67,7 +71,7 @@ fn alter_written(line: &Text, out: &mut TextWriter) -> Result<(), AllocError>
     out.end_array()
 }
 
-// A call of one item that is one word.
+/// A call of one item that is one word.
 fn word_written(out: &mut TextWriter, word: &str) -> Result<(), AllocError>
     ensures { OnOk result (out.new ≡ out.old ++ tokens_of (list (lone_def word.now ∷ []))) }
 {

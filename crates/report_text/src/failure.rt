@@ -13,6 +13,7 @@ use outage_schedule::{Failure, Reason};
 use std::alloc::{AllocError, Global};
 use svc_values::Ltxid;
 
+/// Why a replay was disabled: a word, or a word with the number behind it.
 #[tactic(auto, unfolding(crate::specs::meaning::Failures::reason_value))]
 fn reason_written(why: Reason, out: &mut TextWriter) -> Result<(), AllocError>
     ensures { OnOk result (out.new ≡ out.old ++ tokens_of (reason_value why)) }
@@ -28,9 +29,11 @@ fn reason_written(why: Reason, out: &mut TextWriter) -> Result<(), AllocError>
     }
 }
 
+/// A request with a reason against its replay, and the event that ended its connection.
 #[tactic(auto, unfolding(crate::specs::meaning::Failures::failure_value))]
 fn disabled_written(why: Reason, event: u64, out: &mut TextWriter) -> Result<(), AllocError>
-    ensures { OnOk result (out.new ≡ out.old ++ tokens_of (failure_value (Failure.Disabled why event))) }
+    ensures { OnOk result
+        (out.new ≡ out.old ++ tokens_of (failure_value (Failure.Disabled why event))) }
 {
     begin_word(out, "disabled")?;
     reason_written(why, out)?;
@@ -38,6 +41,7 @@ fn disabled_written(why: Reason, event: u64, out: &mut TextWriter) -> Result<(),
     out.end_array()
 }
 
+/// A repeated call that was answered otherwise: its index, and both digests.
 #[tactic(auto, unfolding(crate::specs::meaning::Failures::failure_value))]
 fn mismatch_written(
     alloc: Global,
@@ -46,7 +50,8 @@ fn mismatch_written(
     now: &[u8],
     out: &mut TextWriter,
 ) -> Result<(), AllocError>
-    ensures { OnOk result (out.new ≡ out.old ++ tokens_of (failure_value (Failure.Mismatch call seen.now now.now))) }
+    ensures { OnOk result
+        (out.new ≡ out.old ++ tokens_of (failure_value (Failure.Mismatch call seen.now now.now))) }
 {
     begin_word(out, "mismatch")?;
     out.whole(call)?;
@@ -55,23 +60,25 @@ fn mismatch_written(
     out.end_array()
 }
 
-// An error that is about an identifier.
+/// An error that is about an identifier.
 fn of_ltxid(
     alloc: Global,
     word: &str,
     ltxid: &Ltxid,
     out: &mut TextWriter,
 ) -> Result<(), AllocError>
-    ensures { OnOk result (out.new ≡ out.old ++ tokens_of (headed word.now (identifier_value ltxid.now ∷ []))) }
+    ensures { OnOk result
+        (out.new ≡ out.old ++ tokens_of (headed word.now (identifier_value ltxid.now ∷ []))) }
 {
     begin_word(out, word)?;
     LtxidWriter.write(alloc, ltxid, out)?;
     out.end_array()
 }
 
-// An error with two numbers.
+/// An error with two numbers.
 fn two_numbers(out: &mut TextWriter, word: &str, first: u64, second: u64) -> Result<(), AllocError>
-    ensures { OnOk result (out.new ≡ out.old ++ tokens_of (headed word.now (whole first ∷ whole second ∷ []))) }
+    ensures { OnOk result
+        (out.new ≡ out.old ++ tokens_of (headed word.now (whole first ∷ whole second ∷ []))) }
 {
     begin_word(out, word)?;
     out.whole(first)?;
@@ -79,6 +86,7 @@ fn two_numbers(out: &mut TextWriter, word: &str, first: u64, second: u64) -> Res
     out.end_array()
 }
 
+/// An error, by its kind.
 #[tactic(auto, unfolding(crate::specs::meaning::Failures::failure_value))]
 fn failure_written(alloc: Global, failure: &Failure, out: &mut TextWriter) -> Result<(), AllocError>
     ensures { OnOk result (out.new ≡ out.old ++ tokens_of (failure_value failure.now)) }
@@ -99,7 +107,7 @@ fn failure_written(alloc: Global, failure: &Failure, out: &mut TextWriter) -> Re
     }
 }
 
-// Null where the request reached its last reply.
+/// Null where the request reached its last reply.
 pub(crate) fn failed_written(
     alloc: Global,
     failed: &Option<Failure>,

@@ -53,6 +53,7 @@ impl Writer<SessionId> for SessionWriter {
     }
 }
 
+/// One setting: its name and its value.
 fn setting_written(
     alloc: Global,
     name: &Name,
@@ -67,9 +68,10 @@ fn setting_written(
     out.end_array()
 }
 
-// Each setting, with no bracket around them.
+/// Each setting, with no bracket around them.
 fn each_setting(alloc: Global, settings: &Settings, out: &mut TextWriter) -> Result<(), AllocError>
-    ensures { OnOk result (out.new ≡ out.old ++ flat_map (λ pair. tokens_of (setting_value pair)) settings.now) }
+    ensures { OnOk result
+        (out.new ≡ out.old ++ flat_map (λ pair. tokens_of (setting_value pair)) settings.now) }
 {
     for (name, value) in settings.as_map() {
         setting_written(alloc, name, value, out)?;
@@ -77,7 +79,7 @@ fn each_setting(alloc: Global, settings: &Settings, out: &mut TextWriter) -> Res
     Ok(())
 }
 
-// In order of name.
+/// In order of name.
 pub(crate) fn settings_written(
     alloc: Global,
     settings: &Settings,

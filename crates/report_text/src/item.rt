@@ -17,7 +17,7 @@ use outage_schedule::{AskResult, Item, Served};
 use std::alloc::{AllocError, Global};
 use svc_values::{Answers, Call, Draws, Ltxid, Settings};
 
-// Begins an item with its word, the event at which it was served, and its session.
+/// Begins an item with its word, the event at which it was served, and its session.
 fn begin_item(
     alloc: Global,
     word: &str,
@@ -32,20 +32,22 @@ fn begin_item(
     SessionWriter.write(alloc, &served.session, out)
 }
 
-// An item with nothing behind its session.
+/// An item with nothing behind its session.
 fn bare_written(
     alloc: Global,
     word: &str,
     served: &Served,
     out: &mut TextWriter,
 ) -> Result<(), AllocError>
-    ensures { OnOk result (out.new ≡ out.old
-        ++ tokens_of (headed word.now (whole served.now.event ∷ session_value served.now.session ∷ []))) }
+    ensures { OnOk result
+        (out.new ≡ out.old ++ tokens_of
+        (headed word.now (whole served.now.event ∷ session_value served.now.session ∷ []))) }
 {
     begin_item(alloc, word, served, out)?;
     out.end_array()
 }
 
+/// A Begin, with its settings.
 #[tactic(auto, unfolding(crate::specs::meaning::Items::item_value))]
 fn begin_written(
     alloc: Global,
@@ -53,14 +55,17 @@ fn begin_written(
     settings: &Settings,
     out: &mut TextWriter,
 ) -> Result<(), AllocError>
-    ensures { OnOk result (out.new ≡ out.old
-        ++ tokens_of (item_value (whole served.now.event) (session_value served.now.session) (Item.Begin settings.now))) }
+    ensures { OnOk result
+        (out.new ≡ out.old ++ tokens_of
+        (item_value (whole served.now.event) (session_value served.now.session)
+        (Item.Begin settings.now))) }
 {
     begin_item(alloc, "begin", served, out)?;
     settings_written(alloc, settings, out)?;
     out.end_array()
 }
 
+/// A call, whether it is one of a replay, with its answers and draws.
 #[tactic(auto, unfolding(crate::specs::meaning::Items::item_value))]
 fn call_written(
     alloc: Global,
@@ -71,8 +76,10 @@ fn call_written(
     draws: &Draws,
     out: &mut TextWriter,
 ) -> Result<(), AllocError>
-    ensures { OnOk result (out.new ≡ out.old
-        ++ tokens_of (item_value (whole served.now.event) (session_value served.now.session) (Item.Call replay call.now answers.now draws.now))) }
+    ensures { OnOk result
+        (out.new ≡ out.old ++ tokens_of
+        (item_value (whole served.now.event) (session_value served.now.session)
+        (Item.Call replay call.now answers.now draws.now))) }
 {
     begin_item(alloc, "call", served, out)?;
     out.flag(replay)?;
@@ -82,6 +89,7 @@ fn call_written(
     out.end_array()
 }
 
+/// A commit that was blocked.
 #[tactic(auto, unfolding(crate::specs::meaning::Items::item_value))]
 fn blocked_written(
     alloc: Global,
@@ -89,14 +97,17 @@ fn blocked_written(
     call: &Call,
     out: &mut TextWriter,
 ) -> Result<(), AllocError>
-    ensures { OnOk result (out.new ≡ out.old
-        ++ tokens_of (item_value (whole served.now.event) (session_value served.now.session) (Item.Blocked call.now))) }
+    ensures { OnOk result
+        (out.new ≡ out.old ++ tokens_of
+        (item_value (whole served.now.event) (session_value served.now.session)
+        (Item.Blocked call.now))) }
 {
     begin_item(alloc, "blocked", served, out)?;
     CallWriter.write(alloc, call, out)?;
     out.end_array()
 }
 
+/// An outcome that was told of an identifier.
 #[tactic(auto, unfolding(crate::specs::meaning::Items::item_value))]
 fn outcome_written(
     alloc: Global,
@@ -105,14 +116,17 @@ fn outcome_written(
     told: AskResult,
     out: &mut TextWriter,
 ) -> Result<(), AllocError>
-    ensures { OnOk result (out.new ≡ out.old
-        ++ tokens_of (item_value (whole served.now.event) (session_value served.now.session) (Item.Outcome ltxid.now told))) }
+    ensures { OnOk result
+        (out.new ≡ out.old ++ tokens_of
+        (item_value (whole served.now.event) (session_value served.now.session)
+        (Item.Outcome ltxid.now told))) }
 {
     begin_item(alloc, "outcome", served, out)?;
     LtxidWriter.write(alloc, ltxid, out)?;
     told_ended(told, out)
 }
 
+/// A frame that was refused, with the cause.
 #[tactic(auto, unfolding(crate::specs::meaning::Items::item_value))]
 fn refused_written(
     alloc: Global,
@@ -120,14 +134,17 @@ fn refused_written(
     cause: u8,
     out: &mut TextWriter,
 ) -> Result<(), AllocError>
-    ensures { OnOk result (out.new ≡ out.old
-        ++ tokens_of (item_value (whole served.now.event) (session_value served.now.session) (Item.Refused cause))) }
+    ensures { OnOk result
+        (out.new ≡ out.old ++ tokens_of
+        (item_value (whole served.now.event) (session_value served.now.session)
+        (Item.Refused cause))) }
 {
     begin_item(alloc, "refused", served, out)?;
     out.whole(u64::from(cause))?;
     out.end_array()
 }
 
+/// A call that was stopped before its answer.
 #[tactic(auto, unfolding(crate::specs::meaning::Items::item_value))]
 fn crashed_call_written(
     alloc: Global,
@@ -136,8 +153,10 @@ fn crashed_call_written(
     call: &Call,
     out: &mut TextWriter,
 ) -> Result<(), AllocError>
-    ensures { OnOk result (out.new ≡ out.old
-        ++ tokens_of (item_value (whole served.now.event) (session_value served.now.session) (Item.CrashedCall replay call.now))) }
+    ensures { OnOk result
+        (out.new ≡ out.old ++ tokens_of
+        (item_value (whole served.now.event) (session_value served.now.session)
+        (Item.CrashedCall replay call.now))) }
 {
     begin_item(alloc, "crashed", served, out)?;
     out.flag(replay)?;
@@ -145,6 +164,7 @@ fn crashed_call_written(
     out.end_array()
 }
 
+/// A question for an outcome that was stopped before its answer.
 #[tactic(auto, unfolding(crate::specs::meaning::Items::item_value))]
 fn crashed_outcome_written(
     alloc: Global,
@@ -152,8 +172,10 @@ fn crashed_outcome_written(
     ltxid: &Ltxid,
     out: &mut TextWriter,
 ) -> Result<(), AllocError>
-    ensures { OnOk result (out.new ≡ out.old
-        ++ tokens_of (item_value (whole served.now.event) (session_value served.now.session) (Item.CrashedOutcome ltxid.now))) }
+    ensures { OnOk result
+        (out.new ≡ out.old ++ tokens_of
+        (item_value (whole served.now.event) (session_value served.now.session)
+        (Item.CrashedOutcome ltxid.now))) }
 {
     begin_item(alloc, "crashed", served, out)?;
     LtxidWriter.write(alloc, ltxid, out)?;

@@ -14,7 +14,7 @@ use outage_schedule::{AskResult, FrameName, GoNote, Note, NoteRun, OutsideNote, 
 use std::alloc::{AllocError, Global};
 use svc_values::Ltxid;
 
-// A note of a number and a word.
+/// A note of a number and a word.
 fn with_word(out: &mut TextWriter, kind: &str, of: u64, word: &str) -> Result<(), AllocError>
     ensures { OnOk result (out.new
         ≡ out.old ++ tokens_of (headed_def kind.now (whole_def of ∷ text_def word.now ∷ []))) }
@@ -25,16 +25,17 @@ fn with_word(out: &mut TextWriter, kind: &str, of: u64, word: &str) -> Result<()
     out.end_array()
 }
 
-// A note of a word alone.
+/// A note of a word alone.
 fn of_word(out: &mut TextWriter, kind: &str, word: &str) -> Result<(), AllocError>
-    ensures { OnOk result (out.new ≡ out.old ++ tokens_of (headed_def kind.now (text_def word.now ∷ []))) }
+    ensures { OnOk result
+        (out.new ≡ out.old ++ tokens_of (headed_def kind.now (text_def word.now ∷ []))) }
 {
     begin_word(out, kind)?;
     out.text(word)?;
     out.end_array()
 }
 
-// A step of a client on a connection.
+/// A step of a client on a connection.
 fn on_connection(
     out: &mut TextWriter,
     client: u64,
@@ -53,9 +54,11 @@ fn on_connection(
     out.end_array()
 }
 
+/// A client that lost its connection.
 #[tactic(auto, unfolding(crate::specs::meaning::Notes::note_value))]
 fn lost_written(client: u64, connection: u64, out: &mut TextWriter) -> Result<(), AllocError>
-    ensures { OnOk result (out.new ≡ out.old ++ tokens_of (note_value (Note.Go client (GoNote.Lost connection)))) }
+    ensures { OnOk result
+        (out.new ≡ out.old ++ tokens_of (note_value (Note.Go client (GoNote.Lost connection)))) }
 {
     begin_word(out, "go")?;
     out.whole(client)?;
@@ -64,6 +67,7 @@ fn lost_written(client: u64, connection: u64, out: &mut TextWriter) -> Result<()
     out.end_array()
 }
 
+/// What a client did at its step.
 #[tactic(auto, unfolding(crate::specs::meaning::Notes::note_value))]
 fn go_written(client: u64, did: GoNote, out: &mut TextWriter) -> Result<(), AllocError>
     ensures { OnOk result (out.new ≡ out.old ++ tokens_of (note_value (Note.Go client did))) }
@@ -81,6 +85,7 @@ fn go_written(client: u64, did: GoNote, out: &mut TextWriter) -> Result<(), Allo
     }
 }
 
+/// The word of a frame.
 fn frame_word(frame: FrameName) -> &'static str
     ensures { result.now ≡ frame_word_def frame }
 {
@@ -94,6 +99,7 @@ fn frame_word(frame: FrameName) -> &'static str
     }
 }
 
+/// The word of the frame that was served, or that there was none.
 fn served_word(frame: Option<FrameName>) -> &'static str
     ensures { result.now ≡ served_word_def frame }
 {
@@ -103,13 +109,15 @@ fn served_word(frame: Option<FrameName>) -> &'static str
     }
 }
 
+/// How many bytes of each direction still arrive behind a cut.
 #[tactic(auto, unfolding(crate::specs::meaning::Notes::note_value))]
 fn reached_written(
     connection: u64,
     reached: Reached,
     out: &mut TextWriter,
 ) -> Result<(), AllocError>
-    ensures { OnOk result (out.new ≡ out.old ++ tokens_of (note_value (Note.Cut connection (Some reached)))) }
+    ensures { OnOk result
+        (out.new ≡ out.old ++ tokens_of (note_value (Note.Cut connection (Some reached)))) }
 {
     begin_word(out, "cut")?;
     out.whole(connection)?;
@@ -118,13 +126,15 @@ fn reached_written(
     out.end_array()
 }
 
+/// A cut, and what still arrives where the connection was open.
 #[tactic(auto, unfolding(crate::specs::meaning::Notes::note_value))]
 fn cut_written(
     connection: u64,
     reached: Option<Reached>,
     out: &mut TextWriter,
 ) -> Result<(), AllocError>
-    ensures { OnOk result (out.new ≡ out.old ++ tokens_of (note_value (Note.Cut connection reached))) }
+    ensures { OnOk result
+        (out.new ≡ out.old ++ tokens_of (note_value (Note.Cut connection reached))) }
 {
     match reached {
         None => with_word(out, "cut", connection, "none"),
@@ -132,9 +142,11 @@ fn cut_written(
     }
 }
 
+/// The end of a session behind a cut, where there was one.
 #[tactic(auto, unfolding(crate::specs::meaning::Notes::note_value))]
 fn reap_written(connection: u64, reaped: bool, out: &mut TextWriter) -> Result<(), AllocError>
-    ensures { OnOk result (out.new ≡ out.old ++ tokens_of (note_value (Note.Reap connection reaped))) }
+    ensures { OnOk result
+        (out.new ≡ out.old ++ tokens_of (note_value (Note.Reap connection reaped))) }
 {
     if reaped {
         return numbered(out, "reap", connection);
@@ -142,9 +154,11 @@ fn reap_written(connection: u64, reaped: bool, out: &mut TextWriter) -> Result<(
     with_word(out, "reap", connection, "none")
 }
 
+/// A crash, and whether the server was down already.
 #[tactic(auto, unfolding(crate::specs::meaning::Notes::note_value))]
 fn crash_written(connection: u64, down: bool, out: &mut TextWriter) -> Result<(), AllocError>
-    ensures { OnOk result (out.new ≡ out.old ++ tokens_of (note_value (Note.Crash connection down))) }
+    ensures { OnOk result
+        (out.new ≡ out.old ++ tokens_of (note_value (Note.Crash connection down))) }
 {
     if down {
         return with_word(out, "crash", connection, "down");
@@ -152,6 +166,7 @@ fn crash_written(connection: u64, down: bool, out: &mut TextWriter) -> Result<()
     numbered(out, "crash", connection)
 }
 
+/// An opening, with its incarnation where it was made.
 #[tactic(auto, unfolding(crate::specs::meaning::Notes::note_value))]
 fn up_written(incarnation: Option<u64>, out: &mut TextWriter) -> Result<(), AllocError>
     ensures { OnOk result (out.new ≡ out.old ++ tokens_of (note_value (Note.Up incarnation))) }
@@ -162,6 +177,7 @@ fn up_written(incarnation: Option<u64>, out: &mut TextWriter) -> Result<(), Allo
     }
 }
 
+/// An opening that was stopped, where one was made.
 #[tactic(auto, unfolding(crate::specs::meaning::Notes::note_value))]
 fn upcrash_written(made: bool, out: &mut TextWriter) -> Result<(), AllocError>
     ensures { OnOk result (out.new ≡ out.old ++ tokens_of (note_value (Note.UpCrash made))) }
@@ -186,9 +202,11 @@ impl Writer<NoteRun> for RunWriter {
     }
 }
 
+/// The answers and draws of one call from outside.
 #[tactic(auto, unfolding(crate::specs::meaning::Notes::note_value))]
 fn ran_written(alloc: Global, ran: &OutsideNote, out: &mut TextWriter) -> Result<(), AllocError>
-    ensures { OnOk result (out.new ≡ out.old ++ tokens_of (note_value (Note.Outside (Some ran.now)))) }
+    ensures { OnOk result
+        (out.new ≡ out.old ++ tokens_of (note_value (Note.Outside (Some ran.now)))) }
 {
     begin_word(out, "outside")?;
     LtxidWriter.write(alloc, &ran.ltxid, out)?;
@@ -196,6 +214,7 @@ fn ran_written(alloc: Global, ran: &OutsideNote, out: &mut TextWriter) -> Result
     out.end_array()
 }
 
+/// What calls from outside did, where the server was up.
 #[tactic(auto, unfolding(crate::specs::meaning::Notes::note_value))]
 fn outside_written(
     alloc: Global,
@@ -210,16 +229,17 @@ fn outside_written(
     }
 }
 
-// A word and a number, and the bracket behind them.
+/// A word and a number, and the bracket behind them.
 fn number_ended(out: &mut TextWriter, word: &str, number: u64) -> Result<(), AllocError>
-    ensures { OnOk result (out.new ≡ out.old ++ ending (text_def word.now ∷ whole_def number ∷ [])) }
+    ensures { OnOk result
+        (out.new ≡ out.old ++ ending (text_def word.now ∷ whole_def number ∷ [])) }
 {
     out.text(word)?;
     out.whole(number)?;
     out.end_array()
 }
 
-// A word and a flag, and the bracket behind them.
+/// A word and a flag, and the bracket behind them.
 fn flag_ended(out: &mut TextWriter, word: &str, flag: bool) -> Result<(), AllocError>
     ensures { OnOk result (out.new ≡ out.old ++ ending (text_def word.now ∷ flag_def flag ∷ [])) }
 {
@@ -228,7 +248,7 @@ fn flag_ended(out: &mut TextWriter, word: &str, flag: bool) -> Result<(), AllocE
     out.end_array()
 }
 
-// A word, and the bracket behind it.
+/// A word, and the bracket behind it.
 fn word_ended(out: &mut TextWriter, word: &str) -> Result<(), AllocError>
     ensures { OnOk result (out.new ≡ out.old ++ ending (text_def word.now ∷ [])) }
 {
@@ -236,7 +256,7 @@ fn word_ended(out: &mut TextWriter, word: &str) -> Result<(), AllocError>
     out.end_array()
 }
 
-// What an outcome is told to be, and the bracket behind it.
+/// What an outcome is told to be, and the bracket behind it.
 pub(crate) fn told_ended(told: AskResult, out: &mut TextWriter) -> Result<(), AllocError>
     ensures { OnOk result (out.new ≡ out.old ++ ending (told_values told)) }
 {
@@ -249,6 +269,7 @@ pub(crate) fn told_ended(told: AskResult, out: &mut TextWriter) -> Result<(), Al
     }
 }
 
+/// What was told of an identifier, or that the server was down, and the bracket behind it.
 fn asked_ended(told: Option<AskResult>, out: &mut TextWriter) -> Result<(), AllocError>
     ensures { OnOk result (out.new ≡ out.old ++ ending (asked_values told)) }
 {
@@ -258,6 +279,7 @@ fn asked_ended(told: Option<AskResult>, out: &mut TextWriter) -> Result<(), Allo
     }
 }
 
+/// What was told of an identifier from outside.
 #[tactic(auto, unfolding(crate::specs::meaning::Notes::note_value))]
 fn ask_written(
     alloc: Global,

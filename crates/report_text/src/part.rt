@@ -9,7 +9,7 @@ use json_form::{TextWriter, Writer};
 use std::alloc::{AllocError, Global};
 use svc_values::Listed;
 
-// Begins an object of one member.
+/// Begins an object of one member.
 pub(crate) fn begin_one(out: &mut TextWriter, name: &str) -> Result<(), AllocError>
     ensures { OnOk result (out.new ≡ out.old ++ begin_object ∷ key name.now ∷ []) }
 {
@@ -17,7 +17,7 @@ pub(crate) fn begin_one(out: &mut TextWriter, name: &str) -> Result<(), AllocErr
     out.name(name)
 }
 
-// Begins an array whose first item is this word.
+/// Begins an array whose first item is this word.
 pub(crate) fn begin_word(out: &mut TextWriter, word: &str) -> Result<(), AllocError>
     ensures { OnOk result (out.new ≡ out.old ++ begin_array ∷ string word.now ∷ []) }
 {
@@ -25,7 +25,7 @@ pub(crate) fn begin_word(out: &mut TextWriter, word: &str) -> Result<(), AllocEr
     out.text(word)
 }
 
-// A member that is the array of what each item is written as.
+/// A member that is the array of what each item is written as.
 pub(crate) fn list_member<T: Drop, W: Writer<T>>(
     alloc: Global,
     name: &str,
@@ -40,7 +40,7 @@ pub(crate) fn list_member<T: Drop, W: Writer<T>>(
     out.array_of(alloc, items.as_slice(), writer)
 }
 
-// An array that is one word.
+/// An array that is one word.
 pub(crate) fn lone(out: &mut TextWriter, word: &str) -> Result<(), AllocError>
     ensures { OnOk result (out.new ≡ out.old ++ tokens_of (lone_def word.now)) }
 {
@@ -48,16 +48,17 @@ pub(crate) fn lone(out: &mut TextWriter, word: &str) -> Result<(), AllocError>
     out.end_array()
 }
 
-// An array of a word and a number.
+/// An array of a word and a number.
 pub(crate) fn numbered(out: &mut TextWriter, word: &str, number: u64) -> Result<(), AllocError>
-    ensures { OnOk result (out.new ≡ out.old ++ tokens_of (headed_def word.now (whole_def number ∷ []))) }
+    ensures { OnOk result
+        (out.new ≡ out.old ++ tokens_of (headed_def word.now (whole_def number ∷ []))) }
 {
     begin_word(out, word)?;
     out.whole(number)?;
     out.end_array()
 }
 
-// An object with one text.
+/// An object with one text.
 pub(crate) fn one_text(out: &mut TextWriter, name: &str, text: &str) -> Result<(), AllocError>
     ensures { OnOk result (out.new ≡ out.old ++ tokens_of (one_def name.now (text_def text.now))) }
 {
@@ -66,7 +67,7 @@ pub(crate) fn one_text(out: &mut TextWriter, name: &str, text: &str) -> Result<(
     out.end_object()
 }
 
-// An object with one whole number.
+/// An object with one whole number.
 pub(crate) fn one_whole(out: &mut TextWriter, name: &str, number: u64) -> Result<(), AllocError>
     ensures { OnOk result (out.new ≡ out.old ++ tokens_of (one_def name.now (whole_def number))) }
 {

@@ -33,7 +33,7 @@ impl Writer<Text> for AlertWriter {
     }
 }
 
-// A horizon of 0 is none.
+/// A horizon of 0 is none.
 fn forgotten_written(horizon: u64, out: &mut TextWriter) -> Result<(), AllocError>
     ensures { OnOk result (out.new ≡ out.old ++ named (forgotten_member horizon)) }
 {
@@ -44,13 +44,16 @@ fn forgotten_written(horizon: u64, out: &mut TextWriter) -> Result<(), AllocErro
     out.whole(horizon)
 }
 
+/// The bytes of the disk as hexadecimal digits.
 fn bytes_written(alloc: Global, bytes: &Image, out: &mut TextWriter) -> Result<(), AllocError>
-    ensures { OnOk result (out.new ≡ out.old ++ key (codes "image") ∷ tokens_of (digits bytes.now)) }
+    ensures { OnOk result
+        (out.new ≡ out.old ++ key (codes "image") ∷ tokens_of (digits bytes.now)) }
 {
     out.name("image")?;
     out.octets(alloc, bytes.as_slice())
 }
 
+/// The member with the bytes of the disk, where there are any.
 fn image_written(
     alloc: Global,
     image: &Option<Image>,
@@ -64,6 +67,7 @@ fn image_written(
     }
 }
 
+/// The report as an object, its members in the order of their names.
 fn report_written(alloc: Global, report: &Report, out: &mut TextWriter) -> Result<(), AllocError>
     ensures { OnOk result (out.new ≡ out.old ++ tokens_of (report_value report.now)) }
 {
@@ -80,9 +84,9 @@ fn report_written(alloc: Global, report: &Report, out: &mut TextWriter) -> Resul
     out.end_object()
 }
 
-/// The report as compact JSON (RFC 8259), without a line end, written from the report as it stands: no
-/// JSON value of it is made, and nothing of it is copied. A reader of JSON gets the report's value from it.
-/// The cost is linear in its length.
+/// The report as compact JSON (RFC 8259), without a line end, written from the report as it stands:
+/// no JSON value of it is made, and nothing of it is copied. A reader of JSON gets the report's
+/// value from it. The cost is linear in its length.
 #[tactic(auto, using(crate::proofs::ReportForm::report_form))]
 pub fn report_bytes(alloc: Global, report: &Report) -> Result<Vec<u8>, NoMemory>
     ensures text { IfOk result (λ bytes. bytes.items ≡ compact_text (report_value report.now)) }
@@ -94,8 +98,9 @@ pub fn report_bytes(alloc: Global, report: &Report) -> Result<Vec<u8>, NoMemory>
     Ok(out.into_bytes())
 }
 
-/// The report as a JSON value, read from its text, so that there is one writer of the form. Text and value
-/// are held at once while it is read; `report_bytes` makes no value. The cost is linear in the text's length.
+/// The report as a JSON value, read from its text, so that there is one writer of the form. Text
+/// and value are held at once while it is read; `report_bytes` makes no value. The cost is linear
+/// in the text's length.
 pub fn report_of(alloc: Global, report: &Report) -> Result<Value, NoMemory>
     ensures { IfOk result (λ value. view value ≡ report_value report.now) }
 {

@@ -49,12 +49,14 @@ impl Writer<Outcome> for OutcomeWriter {
     }
 }
 
+/// The member with the error of a request, or null.
 fn failed_member(
     alloc: Global,
     failed: &Option<Failure>,
     out: &mut TextWriter,
 ) -> Result<(), AllocError>
-    ensures { OnOk result (out.new ≡ out.old ++ key (codes "failed") ∷ tokens_of (failed_value failed.now)) }
+    ensures { OnOk result
+        (out.new ≡ out.old ++ key (codes "failed") ∷ tokens_of (failed_value failed.now)) }
 {
     out.name("failed")?;
     failed_written(alloc, failed, out)

@@ -12,6 +12,7 @@ use json_form::{TextWriter, Writer};
 use std::alloc::{AllocError, Global};
 use svc_values::{Change, Name, Operand, Operands, Statement, Test};
 
+/// The word of a test.
 fn test_word(test: Test) -> &'static str
     ensures { result.now ≡ test_word_def test }
 {
@@ -22,6 +23,7 @@ fn test_word(test: Test) -> &'static str
     }
 }
 
+/// The word of a change.
 fn change_word(change: &Change) -> &'static str
     ensures { result.now ≡ change_word_def change.now }
 {
@@ -31,6 +33,7 @@ fn change_word(change: &Change) -> &'static str
     }
 }
 
+/// The operand of a change.
 fn changing(change: &Change) -> &Operand
     ensures { result.now ≡ changing_def change.now }
 {
@@ -39,14 +42,16 @@ fn changing(change: &Change) -> &Operand
     }
 }
 
-// Begins an array of a statement's word and the table that it names.
+/// Begins an array of a statement's word and the table that it names.
 fn begin_statement(out: &mut TextWriter, word: &str, table: &Name) -> Result<(), AllocError>
-    ensures { OnOk result (out.new ≡ out.old ++ begin_array ∷ string word.now ∷ string table.now ∷ []) }
+    ensures { OnOk result
+        (out.new ≡ out.old ++ begin_array ∷ string word.now ∷ string table.now ∷ []) }
 {
     begin_word(out, word)?;
     out.text(table.as_str())
 }
 
+/// A row that is put in.
 #[tactic(auto, unfolding(crate::specs::meaning::Calls::statement_value))]
 fn insert_written(
     alloc: Global,
@@ -54,13 +59,15 @@ fn insert_written(
     values: &Operands,
     out: &mut TextWriter,
 ) -> Result<(), AllocError>
-    ensures { OnOk result (out.new ≡ out.old ++ tokens_of (statement_value (Statement.Insert table.now values.now))) }
+    ensures { OnOk result
+        (out.new ≡ out.old ++ tokens_of (statement_value (Statement.Insert table.now values.now))) }
 {
     begin_statement(out, "insert", table)?;
     out.array_of(alloc, values.as_slice(), &OperandWriter)?;
     out.end_array()
 }
 
+/// A column of one row that is changed.
 #[tactic(auto, unfolding(crate::specs::meaning::Calls::statement_value))]
 fn update_written(
     alloc: Global,
@@ -70,8 +77,9 @@ fn update_written(
     change: &Change,
     out: &mut TextWriter,
 ) -> Result<(), AllocError>
-    ensures { OnOk result (out.new
-        ≡ out.old ++ tokens_of (statement_value (Statement.Update table.now key.now column.now change.now))) }
+    ensures { OnOk result
+        (out.new ≡ out.old ++ tokens_of
+        (statement_value (Statement.Update table.now key.now column.now change.now))) }
 {
     begin_statement(out, "update", table)?;
     OperandWriter.write(alloc, key, out)?;
@@ -81,6 +89,7 @@ fn update_written(
     out.end_array()
 }
 
+/// The rows that meet a test.
 #[tactic(auto, unfolding(crate::specs::meaning::Calls::statement_value))]
 fn select_written(
     alloc: Global,
@@ -90,8 +99,9 @@ fn select_written(
     operand: &Operand,
     out: &mut TextWriter,
 ) -> Result<(), AllocError>
-    ensures { OnOk result (out.new
-        ≡ out.old ++ tokens_of (statement_value (Statement.Select table.now column.now test operand.now))) }
+    ensures { OnOk result
+        (out.new ≡ out.old ++ tokens_of
+        (statement_value (Statement.Select table.now column.now test operand.now))) }
 {
     begin_statement(out, "select", table)?;
     out.text(column.as_str())?;
@@ -100,7 +110,7 @@ fn select_written(
     out.end_array()
 }
 
-// A statement on the row of a key.
+/// A statement on the row of a key.
 fn keyed_written(
     alloc: Global,
     word: &str,
@@ -116,26 +126,32 @@ fn keyed_written(
     out.end_array()
 }
 
+/// The number of rows.
 #[tactic(auto, unfolding(crate::specs::meaning::Calls::statement_value))]
 fn count_written(table: &Name, out: &mut TextWriter) -> Result<(), AllocError>
-    ensures { OnOk result (out.new ≡ out.old ++ tokens_of (statement_value (Statement.Count table.now))) }
+    ensures { OnOk result
+        (out.new ≡ out.old ++ tokens_of (statement_value (Statement.Count table.now))) }
 {
     begin_statement(out, "count", table)?;
     out.end_array()
 }
 
+/// The sum of a column.
 #[tactic(auto, unfolding(crate::specs::meaning::Calls::statement_value))]
 fn sum_written(table: &Name, column: &Name, out: &mut TextWriter) -> Result<(), AllocError>
-    ensures { OnOk result (out.new ≡ out.old ++ tokens_of (statement_value (Statement.Sum table.now column.now))) }
+    ensures { OnOk result
+        (out.new ≡ out.old ++ tokens_of (statement_value (Statement.Sum table.now column.now))) }
 {
     begin_statement(out, "sum", table)?;
     out.text(column.as_str())?;
     out.end_array()
 }
 
+/// An operand that is shown.
 #[tactic(auto, unfolding(crate::specs::meaning::Calls::statement_value))]
 fn show_written(alloc: Global, operand: &Operand, out: &mut TextWriter) -> Result<(), AllocError>
-    ensures { OnOk result (out.new ≡ out.old ++ tokens_of (statement_value (Statement.Show operand.now))) }
+    ensures { OnOk result
+        (out.new ≡ out.old ++ tokens_of (statement_value (Statement.Show operand.now))) }
 {
     begin_word(out, "show")?;
     OperandWriter.write(alloc, operand, out)?;

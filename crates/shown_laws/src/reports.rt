@@ -1,4 +1,5 @@
-//! What the lines of `Whole` say of the report of every whole run. Each law is the clause of a function with nothing to run.
+//! What the lines of `Whole` say of the report of every whole run. Each law is the clause of a
+//! function with nothing to run.
 ghost use Rattle.shown_laws.specs.AnswersTold.{ReportsAnswerCalls, ReportsServeCalls};
 ghost use Rattle.shown_laws.specs.ReportsTold.{ReportsListSessions, ReportsListShowings, ReportsListOutcomes, ReportsTakeReplies, ReportsAreOrdered};
 ghost use Rattle.shown_laws.specs.TurnReports.{ReportsTurnsHaveClients, ReportsTurnsAreRight, ReportsTurnsHaveRequests};
@@ -6,8 +7,8 @@ ghost use Rattle.shown_laws.specs.WholeLines.{LinesMakeWhole};
 ghost use Rattle.shown_laws.specs.Identified.{ReportsIdentifyCalls};
 ghost use Rattle.shown_laws.specs.WholeRuns.{RunsAreWhole};
 
-/// The steps of each client, cut by the sessions of its reports: each report lists the sessions that its part acquired, the outcomes that it took,
-/// and the calls that it was shown.
+/// The steps of each client, cut by the sessions of its reports: each report lists the sessions
+/// that its part acquired, the outcomes that it took, and the calls that it was shown.
 pub fn reports_list_parts()
     ensures sessions { ReportsListSessions }
     ensures showings { ReportsListShowings }
@@ -26,8 +27,9 @@ pub fn reports_take_replies()
     crate::whole::replies_are_taken();
 }
 
-/// The reports of each client are the copies of its requests, in the order of its script, each further copy exactly where it follows. Each shows all
-/// calls of its request, or failed and shows fewer.
+/// The reports of each client are the copies of its requests, in the order of its script, each
+/// further copy exactly where it follows. Each shows all calls of its request, or failed and shows
+/// fewer.
 pub fn reports_are_ordered()
     ensures { ReportsAreOrdered }
 {
@@ -35,7 +37,8 @@ pub fn reports_are_ordered()
     crate::laws::steps_are_told();
 }
 
-/// Each call of each report was answered, by a reply to that call of its script or by an outcome that the report has.
+/// Each call of each report was answered, by a reply to that call of its script or by an outcome
+/// that the report has.
 pub fn reports_answer_calls()
     ensures { ReportsAnswerCalls }
 {
@@ -43,8 +46,8 @@ pub fn reports_answer_calls()
     crate::whole::calls_are_answered();
 }
 
-/// Each call of each report was served: by a reply to that call of its script, or, where it is a commit without a statement, by an outcome of an
-/// identifier in the list of its transaction.
+/// Each call of each report was served: by a reply to that call of its script, or, where it is a
+/// commit without a statement, by an outcome of an identifier in the list of its transaction.
 pub fn reports_serve_calls()
     ensures { ReportsServeCalls }
 {
@@ -52,8 +55,9 @@ pub fn reports_serve_calls()
     crate::whole::calls_are_served();
 }
 
-/// Each session in which a request began was acquired by one of the clients. A turn is right for the submission in whose part the step lies by which
-/// its session was acquired, and none was acquired by a step that is of no submission.
+/// Each session in which a request began was acquired by one of the clients. A turn is right for
+/// the submission in whose part the step lies by which its session was acquired, and none was
+/// acquired by a step that is of no submission.
 pub fn reports_own_turns()
     ensures clients { ReportsTurnsHaveClients }
     ensures right { ReportsTurnsAreRight }
@@ -77,8 +81,9 @@ pub fn lines_make_whole()
     ensures { LinesMakeWhole }
 {}
 
-/// The clause `Whole` holds of the report of every whole run: each request is shown its script's calls in order, by what sessions of its own
-/// served or by outcomes of its identifiers, and what a session served since a Begin is what the request sent that had the session.
+/// The clause `Whole` holds of the report of every whole run: each request is shown its script's
+/// calls in order, by what sessions of its own served or by outcomes of its identifiers, and what a
+/// session served since a Begin is what the request sent that had the session.
 pub fn runs_are_whole()
     ensures { RunsAreWhole }
 {

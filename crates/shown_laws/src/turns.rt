@@ -1,5 +1,6 @@
-//! What the notes and the served items of a run tell of turns: what each session served since its last Begin, and that the calls fit the script of
-//! the request. Each law is the clause of a function with nothing to run.
+//! What the notes and the served items of a run tell of turns: what each session served since its
+//! last Begin, and that the calls fit the script of the request. Each law is the clause of a
+//! function with nothing to run.
 ghost use Rattle.shown_laws.specs.AcquiredTold.{StepsAcquire};
 ghost use Rattle.shown_laws.specs.HeldTurns.{RunsHaveRightTurns, FinishesHaveRightTurns};
 ghost use Rattle.shown_laws.specs.OwnTurns.{OwnTurnsAreRight, TurnsAreOnWire};
@@ -13,14 +14,15 @@ ghost use Rattle.shown_laws.specs.TurnsRight.{RunsTellRight, FinishesTellRight, 
 ghost use Rattle.shown_laws.specs.Unblocked.{serve_unblocked};
 ghost use Rattle.invariant_laws.specs.SameLaws.{HoldsAtEnds, HoldsInRuns};
 
-/// A turn is right that served calls which a request sent in a row of its script: those with the mark are the calls since the last that was shown as
-/// decided, up to the first without it.
+/// A turn is right that served calls which a request sent in a row of its script: those with the
+/// mark are the calls since the last that was shown as decided, up to the first without it.
 pub fn rows_make_turns_right()
     ensures right { RowsMakeTurnsRight }
     ensures marks { ServesMarksFirst }
 {}
 
-/// Each turn that another Begin followed has the calls that the session of a connection had served since the Begin before it.
+/// Each turn that another Begin followed has the calls that the session of a connection had served
+/// since the Begin before it.
 pub fn turns_before_are_told()
     ensures reached { RunsTellOver }
     ensures finishing { FinishesTellOver }
@@ -28,29 +30,34 @@ pub fn turns_before_are_told()
     invariant_laws::kept_laws::runs_keep_invariant();
 }
 
-/// The calls that were sent on a connection since a Begin are of one request, those with the mark first.
+/// The calls that were sent on a connection since a Begin are of one request, those with the mark
+/// first.
 pub fn turns_have_one_owner()
     ensures { TurnsHaveOneOwner }
 {}
 
-/// The calls that a session served since a Begin are those of the frames that it served, in order, where no call with the mark met a block.
+/// The calls that a session served since a Begin are those of the frames that it served, in order,
+/// where no call with the mark met a block.
 pub fn turns_serve_frames()
     ensures own { ServesItsFrames }
     ensures front { ServesAFront }
 {}
 
-/// Where each request begins once on a connection, the calls since the last Begin are all that its request sent there.
+/// Where each request begins once on a connection, the calls since the last Begin are all that its
+/// request sent there.
 pub fn turns_have_all_calls()
     ensures { TurnsHaveAllCalls }
 {}
 
-/// A turn of a connection is right for the request whose calls it served, where what that request sent there is a row of its script.
+/// A turn of a connection is right for the request whose calls it served, where what that request
+/// sent there is a row of its script.
 pub fn own_turns_are_right()
     ensures right { OwnTurnsAreRight }
     ensures wire { TurnsAreOnWire }
 {}
 
-/// Wherever a run of a document whose requests are right has come to, and at its end: no call with the mark met a block on a connection.
+/// Wherever a run of a document whose requests are right has come to, and at its end: no call with
+/// the mark met a block on a connection.
 pub fn marked_calls_meet_no_block()
     ensures reached { HoldsInRuns serve_unblocked }
     ensures run { HoldsAtEnds serve_unblocked }
@@ -59,8 +66,9 @@ pub fn marked_calls_meet_no_block()
     invariant_laws::history_laws::runs_serve();
 }
 
-/// Wherever a run of a document whose requests are right has come to: what the session of a connection served since a Begin is right for the
-/// request that held the connection and sent those calls.
+/// Wherever a run of a document whose requests are right has come to: what the session of a
+/// connection served since a Begin is right for the request that held the connection and sent those
+/// calls.
 pub fn held_turns_are_right()
     ensures reached { RunsHaveRightTurns }
     ensures finishing { FinishesHaveRightTurns }
@@ -71,8 +79,8 @@ pub fn held_turns_are_right()
     marked_calls_meet_no_block();
 }
 
-/// Wherever such a run has come to: each turn that is told, over or not, is right for a request that held its connection, whose calls it served, or
-/// it served none.
+/// Wherever such a run has come to: each turn that is told, over or not, is right for a request
+/// that held its connection, whose calls it served, or it served none.
 pub fn told_turns_are_right()
     ensures reached { RunsTellRight }
     ensures finishing { FinishesTellRight }
@@ -83,13 +91,14 @@ pub fn told_turns_are_right()
     marked_calls_meet_no_block();
 }
 
-/// The session of each connection that is told was acquired by the last step before that was lent it, or took its Hello.
+/// The session of each connection that is told was acquired by the last step before that was lent
+/// it, or took its Hello.
 pub fn sessions_are_acquired_by_steps()
     ensures { StepsAcquire }
 {}
 
-/// At the end of a whole run each of the turns that its report tells is right for a request that held its connection, whose calls it served, or it
-/// served none.
+/// At the end of a whole run each of the turns that its report tells is right for a request that
+/// held its connection, whose calls it served, or it served none.
 pub fn whole_runs_tell_right_turns()
     ensures { WholeRunsTellRight }
 {
@@ -97,8 +106,9 @@ pub fn whole_runs_tell_right_turns()
     told_turns_are_right();
 }
 
-/// Wherever such a run has come to: the session of each connection was acquired by a step of the request that sent last there, and so the request
-/// that sent a Begin which a session served is the one that acquired the session last before. At the end of a whole run each turn that its report
+/// Wherever such a run has come to: the session of each connection was acquired by a step of the
+/// request that sent last there, and so the request that sent a Begin which a session served is the
+/// one that acquired the session last before. At the end of a whole run each turn that its report
 /// tells is right for that request.
 pub fn turns_are_of_acquirers()
     ensures reached { RunsTellOwners }

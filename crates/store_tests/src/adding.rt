@@ -18,7 +18,7 @@ use std::alloc::Global;
 use std::process::Abort;
 use svc_values::{Entry, Ltxid, Name, NoMemory};
 
-// A base of no table and one sequence `s`, which begins at 1.
+/// A base of no table and one sequence `s`, which begins at 1.
 #[tactic(auto, unfolding(commit_log::specs::meaning::Bases::is_base))]
 pub fn one_sequence(rt: &impl Abort, alloc: Global) -> Base
     ensures { IsBase result }
@@ -37,7 +37,7 @@ pub fn one_sequence(rt: &impl Abort, alloc: Global) -> Base
     }
 }
 
-// What the journal says of each session.
+/// What the journal says of each session.
 fn book_of(alloc: Global, journal: &Journal) -> Result<Book, NoMemory>
     ensures { IfOk result (λ book. sessions_in book ≡ sessions_of journal.now) }
 {
@@ -45,7 +45,7 @@ fn book_of(alloc: Global, journal: &Journal) -> Result<Book, NoMemory>
     Book::of_journal(alloc, journal.horizon, entries, journal.blocked.as_slice())
 }
 
-// Whether the commit, which writes no row, may come next.
+/// Whether the commit, which writes no row, may come next.
 fn may_commit(alloc: Global, journal: &Journal, entry: &Entry) -> Result<bool, NoMemory>
     requires { entry.now.writes ≡ [] }
     ensures { IfOk result (λ may. may ≡ true → IsTrue (may_commit_def journal.now entry.now)) }
@@ -57,7 +57,7 @@ fn may_commit(alloc: Global, journal: &Journal, entry: &Entry) -> Result<bool, N
     Ok(book.may_commit(&entry.ltxid))
 }
 
-// Whether the block may come next.
+/// Whether the block may come next.
 fn may_block(alloc: Global, journal: &Journal, x: &Ltxid) -> Result<bool, NoMemory>
     ensures { IfOk result (λ may. may ≡ may_block_def journal.now x.now) }
 {
@@ -65,7 +65,7 @@ fn may_block(alloc: Global, journal: &Journal, x: &Ltxid) -> Result<bool, NoMemo
     Ok(book.may_commit(x))
 }
 
-// Whether a reservation of a sequence whose values end here ends there.
+/// Whether a reservation of a sequence whose values end here ends there.
 fn follows(end: i64, upto: i64) -> bool
     ensures { result ≡ int_eq upto (end +ℤ reservation_size) }
 {
@@ -75,7 +75,7 @@ fn follows(end: i64, upto: i64) -> bool
     }
 }
 
-// Whether the reservation is the next one of the only sequence.
+/// Whether the reservation is the next one of the only sequence.
 #[tactic(auto, unfolding(commit_log::specs::meaning::Rules::may_reserve))]
 fn may_reserve(journal: &Journal, reservation: &Reservation) -> bool
     ensures { result ≡ true → IsTrue (may_reserve_def journal.now reservation.now) }
@@ -89,7 +89,7 @@ fn may_reserve(journal: &Journal, reservation: &Reservation) -> bool
     sequence.name == reservation.name && follows(journal.end_of(sequence), reservation.upto)
 }
 
-// Commits the entry, which writes no row, if it may come next.
+/// Commits the entry, which writes no row, if it may come next.
 pub fn commit_next<D: Disk>(
     alloc: Global,
     log: &mut Log,
@@ -112,7 +112,7 @@ pub fn commit_next<D: Disk>(
     Ok(may)
 }
 
-// Blocks the identifier, if it may be blocked next.
+/// Blocks the identifier, if it may be blocked next.
 pub fn block_next<D: Disk>(
     alloc: Global,
     log: &mut Log,
@@ -134,7 +134,7 @@ pub fn block_next<D: Disk>(
     Ok(may)
 }
 
-// Sets the reservation aside, if it is the next one of the only sequence.
+/// Sets the reservation aside, if it is the next one of the only sequence.
 pub fn reserve_next<D: Disk>(
     log: &mut Log,
     disk: &mut D,

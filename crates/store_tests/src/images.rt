@@ -27,7 +27,8 @@ const OPENED_IN_FORMAT_1: [u8; 53] = [
     0, // the closed gate at 52
 ];
 
-// What a reading of the bytes says: the last opening and the number of entries, or the place of the damage.
+/// What a reading of the bytes says: the last opening and the number of entries, or the place of
+/// the damage.
 fn said(alloc: Global, bytes: &[u8]) -> Result<String, AllocError> {
     let mut disk = MemDisk::of(alloc, bytes)?;
     match Log::read(alloc, &mut disk) {
@@ -109,7 +110,7 @@ fn each_part_of_a_store_is_damaged_at_the_gate_that_lost_its_record(rt: HostRunt
     }
 }
 
-// What a reading says where the byte at this place is one more.
+/// What a reading says where the byte at this place is one more.
 fn expected(place: usize) -> &'static str {
     match place {
         // The magic.
@@ -153,7 +154,7 @@ fn push_number(out: &mut Vec<u8>, number: u8) -> Result<(), AllocError> {
     Ok(())
 }
 
-// The value of a digit, where a letter is one too: a is 10, g is 16.
+/// The value of a digit, where a letter is one too: a is 10, g is 16.
 fn digit_of(byte: u8) -> u8 {
     if byte.is_ascii_digit() {
         byte.wrapping_sub(b'0')
@@ -162,8 +163,9 @@ fn digit_of(byte: u8) -> u8 {
     }
 }
 
-// The bytes of a record that a text describes: a digit is a byte, a digit behind a point is a number of eight bytes (there
-// a letter is a digit too), a letter is a name or a text of that letter, and a dash is nothing.
+/// The bytes of a record that a text describes: a digit is a byte, a digit behind a point is a
+/// number of eight bytes (there a letter is a digit too), a letter is a name or a text of that
+/// letter, and a dash is nothing.
 fn bytes_of(alloc: Global, text: &str) -> Result<Vec<u8>, AllocError> {
     let mut out = Vec::new(alloc);
     let mut is_number = false;
@@ -187,7 +189,7 @@ fn bytes_of(alloc: Global, text: &str) -> Result<Vec<u8>, AllocError> {
     Ok(out)
 }
 
-// A store of records that stand apart in a text, with this gate behind them.
+/// A store of records that stand apart in a text, with this gate behind them.
 fn store_of(alloc: Global, records: &str, gate: u8) -> Result<Vec<u8>, AllocError> {
     let mut bytes = b"TGSTORE1".to_vec(alloc)?;
     for record in records.split_whitespace() {
@@ -304,7 +306,7 @@ fn records_and_what_a_reading_says_of_them(rt: HostRuntime) {
     }
 }
 
-// What a reading says of a store with a line of so many bytes.
+/// What a reading says of a store with a line of so many bytes.
 fn said_of_line(alloc: Global, length: u8) -> Result<String, AllocError> {
     let mut bytes = store_of(alloc, "1.0.0", 1)?;
     push_number(&mut bytes, length.wrapping_add(9))?;
@@ -320,7 +322,8 @@ fn said_of_line(alloc: Global, length: u8) -> Result<String, AllocError> {
 #[test]
 fn the_first_damage_is_told(rt: HostRuntime) {
     let alloc = rt.alloc();
-    // An open gate with nothing behind it, behind records that may come next and behind one that may not.
+    // An open gate with nothing behind it, behind records that may come next and behind one that
+    // may not.
     let whole = store_of(alloc, "1.0.0 2.1", 1).expect(&rt, "memory");
     assert_eq!(rt;
         said(alloc, &whole).expect(&rt, "memory").as_str(),

@@ -1,4 +1,5 @@
-//! A record of each kind, added by its call: its bytes, what a stop in each device call leaves, and what is refused.
+//! A record of each kind, added by its call: its bytes, what a stop in each device call leaves, and
+//! what is refused.
 ghost use Rattle.std.specs.Prelude.{◌≡◌, ◌<◌, [], IfOk, Ok};
 ghost use Rattle.svc_values.specs.Identifiers.{IsLtxid};
 ghost use Rattle.canon_bytes.specs.Entries.{IsMadeEntry};
@@ -12,7 +13,8 @@ use std::alloc::Global;
 use std::process::Abort;
 use svc_values::{Entry, Ltxid, Name, Pieces, Settings, Text, Writes};
 
-// A record that is to be added: a commit or a block, each by the parts of its identifier, a reservation, or a line.
+// A record that is to be added: a commit or a block, each by the parts of its identifier, a
+// reservation, or a line.
 #[derive(Clone, Copy, Debug)]
 enum Next {
     Commit(u8, u8, u8),
@@ -56,7 +58,7 @@ fn ltxid(incarnation: u8, session: u8, number: u8) -> Ltxid
     }
 }
 
-// The commit of an identifier by a lone call, which writes no row.
+/// The commit of an identifier by a lone call, which writes no row.
 fn commit_of(alloc: Global, ltxid: Ltxid) -> Entry
     requires { IsLtxid ltxid }
     ensures made { IsMadeEntry result }
@@ -78,7 +80,7 @@ fn reservation_of(alloc: Global, name: &str, upto: i64) -> Result<Reservation, L
     }
 }
 
-// Adds the line, which may come wherever it likes.
+/// Adds the line, which may come wherever it likes.
 fn alert_next<D: Disk>(
     alloc: Global,
     log: &mut Log,
@@ -95,7 +97,7 @@ fn alert_next<D: Disk>(
     Ok(true)
 }
 
-// Adds the record, if it may come next in the journal of the disk, and says whether it may.
+/// Adds the record, if it may come next in the journal of the disk, and says whether it may.
 fn add<D: Disk>(
     alloc: Global,
     log: &mut Log,
@@ -124,7 +126,7 @@ fn add<D: Disk>(
     }
 }
 
-// How many commits, blocks, reservations and lines a journal has.
+/// How many commits, blocks, reservations and lines a journal has.
 fn counts(journal: &Journal) -> [usize; 4] {
     [
         journal.entries.len(),
@@ -134,7 +136,7 @@ fn counts(journal: &Journal) -> [usize; 4] {
     ]
 }
 
-// So many of the kind at this place of `KINDS`, and none of another.
+/// So many of the kind at this place of `KINDS`, and none of another.
 fn only(place: usize, count: usize) -> [usize; 4]
     requires { place < 4 }
 {
@@ -154,7 +156,8 @@ fn framed(rt: &impl Abort, alloc: Global, payload: &[u8]) -> Vec<u8> {
     bytes
 }
 
-// The bytes that the call of the kind at this place adds, with the closed gate in front of which they came.
+// The bytes that the call of the kind at this place adds, with the closed gate in front of which
+// they came.
 fn added_by(rt: &impl Abort, alloc: Global, place: usize) -> Vec<u8>
     requires { place < 4 }
 {
@@ -180,8 +183,8 @@ fn each_call_adds_the_bytes_of_its_record(rt: HostRuntime) {
     }
 }
 
-// What the journal has after a call that is stopped after so many writes and syncs, and a crash; and whether the log was
-// live behind the call, and how many records it counted.
+/// What the journal has after a call that is stopped after so many writes and syncs, and a crash;
+/// and whether the log was live behind the call, and how many records it counted.
 fn left_by(
     rt: &impl Abort,
     alloc: Global,
@@ -196,6 +199,7 @@ fn left_by(
     Log::create(alloc, &mut disk, &one_sequence(rt, alloc)).expect(rt, "a store");
     let (mut log, journal) = Log::open(alloc, &mut disk, 0).expect(rt, "a store");
     disk.stop_after(Some(stop));
+    // It is stopped before its end, or else done: what is left is looked at.
     let _ = add(alloc, &mut log, &mut disk, &journal, KINDS[place]);
     disk.crash(pick);
     let left = Log::read(alloc, &mut disk).expect(rt, "a journal");
@@ -236,7 +240,8 @@ const TRIED: [(Next, bool); 18] = [
     (Next::Commit(1, 1, 0), false),
     (Next::Commit(2, 1, 0), false),
     (Next::Commit(1, 2, 0), true),
-    // A block of an identifier that did not commit, once, in whichever opening; and then it commits no more.
+    // A block of an identifier that did not commit, once, in whichever opening; and then it commits
+    // no more.
     (Next::Block(1, 1, 0), false),
     (Next::Block(1, 1, 2), false),
     (Next::Block(1, 1, 1), true),

@@ -18,7 +18,7 @@ pub fn no_tables(alloc: Global) -> Base
     }
 }
 
-// Opens the store with this horizon, if an opening may have it.
+/// Opens the store with this horizon, if an opening may have it.
 pub fn open_with<D: Disk>(
     alloc: Global,
     disk: &mut D,

@@ -6,8 +6,8 @@ use commit_log::{Log, LogFault};
 use disk_model::{MemDisk, StopDisk};
 use std::alloc::Global;
 
-// The last opening and the horizon of a store after its second opening, with the horizon 2, which is stopped after so many
-// writes and syncs and then crashed.
+/// The last opening and the horizon of a store after its second opening, with the horizon 2, which
+/// is stopped after so many writes and syncs and then crashed.
 fn opened_by(alloc: Global, stop: u64, pick: u8) -> Result<(u64, u64), LogFault>
     requires { pick < 4 }
 {
@@ -16,6 +16,7 @@ fn opened_by(alloc: Global, stop: u64, pick: u8) -> Result<(u64, u64), LogFault>
     Log::create(alloc, &mut disk, &base)?;
     Log::open(alloc, &mut disk, 0)?;
     disk.stop_after(Some(stop));
+    // It is stopped before its end, or else done: what is left is looked at.
     let _ = open_with(alloc, &mut disk, 2);
     disk.crash(pick);
     let journal = Log::read(alloc, &mut disk)?;

@@ -1,12 +1,13 @@
-//! Records on a disk: that calls succeed, what a stop in each of them leaves, and the bytes of a store.
+//! Records on a disk: that calls succeed, what a stop in each of them leaves, and the bytes of a
+//! store.
 ghost use Rattle.std.specs.Prelude.{◌<◌};
 
 use disk_model::{MemDisk, StopDisk};
 use redo_store::{Redo, RedoFault, Walk};
 use std::alloc::{AllocError, Global};
 
-// The payloads of the records after an append of the byte aa that is stopped after so many writes and syncs and then
-// crashed, each in hexadecimal digits and followed by a comma.
+/// The payloads of the records after an append of the byte aa that is stopped after so many writes
+/// and syncs and then crashed, each in hexadecimal digits and followed by a comma.
 fn left_by(alloc: Global, stop: u64, pick: u8) -> Result<String, RedoFault>
     requires { pick < 4 }
 {
@@ -14,6 +15,7 @@ fn left_by(alloc: Global, stop: u64, pick: u8) -> Result<String, RedoFault>
     Redo::create(&mut disk)?;
     let (mut redo, _) = Redo::open(alloc, &mut disk)?;
     disk.stop_after(Some(stop));
+    // It is stopped before its end, or else done: what is left is looked at.
     let _ = redo.append(&mut disk, &[0xaa]);
     disk.crash(pick);
     let (_, records) = Redo::open(alloc, &mut disk)?;
@@ -59,7 +61,7 @@ const TWO: [u8; 30] = [
     0, // the closed gate at 29
 ];
 
-// What an opening of the bytes says: the records, or the place of the damage.
+/// What an opening of the bytes says: the records, or the place of the damage.
 fn opened(alloc: Global, bytes: &[u8]) -> Result<String, AllocError> {
     let mut disk = MemDisk::of(alloc, bytes)?;
     match Redo::open(alloc, &mut disk) {
@@ -104,7 +106,8 @@ fn bytes_and_what_an_opening_says_of_them(rt: HostRuntime) {
         (b"TGSTORE1\xff\x01", ""),
         // An empty payload.
         (b"TGSTORE1\x01\0\0\0\0\0\0\0\0\0", ","),
-        // Lengths that are too large by one, by much, and by so much that a sum with them would wrap.
+        // Lengths that are too large by one, by much, and by so much that a sum with them would
+        // wrap.
         (b"TGSTORE1\x01\0\0\0\0\0\0\0\x02\xaa\0", "damaged at 8"),
         (b"TGSTORE1\x01\x7f\0\0\0\0\0\0\0\xaa\0", "damaged at 8"),
         (

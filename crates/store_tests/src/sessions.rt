@@ -8,8 +8,8 @@ use std::alloc::Global;
 use std::process::Abort;
 use svc_values::{Entry, Ltxid, NoMemory, Pieces, Settings, Writes};
 
-// The commits of a journal, each with whether its call had no statements: two of the first session of opening 1, and one
-// of that of opening 2.
+// The commits of a journal, each with whether its call had no statements: two of the first session
+// of opening 1, and one of that of opening 2.
 const COMMITS: [(u64, u64, u64, bool); 3] = [(1, 1, 0, true), (1, 1, 1, false), (2, 1, 0, true)];
 
 fn ltxid(incarnation: u64, session: u64, number: u64) -> Ltxid
@@ -22,7 +22,7 @@ fn ltxid(incarnation: u64, session: u64, number: u64) -> Ltxid
     }
 }
 
-// Commits the identifier, if it may commit.
+/// Commits the identifier, if it may commit.
 fn commit_next(book: &mut Book, x: &Ltxid, completed: bool) -> Result<bool, NoMemory>
     requires { IsLtxid x.now }
 {
@@ -33,7 +33,7 @@ fn commit_next(book: &mut Book, x: &Ltxid, completed: bool) -> Result<bool, NoMe
     Ok(true)
 }
 
-// Blocks the identifier, if it may be blocked.
+/// Blocks the identifier, if it may be blocked.
 fn block_next(book: &mut Book, x: &Ltxid) -> Result<bool, NoMemory> {
     if !book.may_commit(x) {
         return Ok(false);
@@ -42,7 +42,7 @@ fn block_next(book: &mut Book, x: &Ltxid) -> Result<bool, NoMemory> {
     Ok(true)
 }
 
-// The book with these commits, in which the first session of opening 1 is blocked then.
+/// The book with these commits, in which the first session of opening 1 is blocked then.
 fn told_one_by_one(alloc: Global) -> Result<Book, NoMemory> {
     let mut book = Book::new(alloc);
     commit_next(&mut book, &ltxid(1, 1, 0), true)?;
@@ -69,7 +69,7 @@ fn told_at_once(rt: &impl Abort, alloc: Global, horizon: u64) -> Book {
     Book::of_journal(alloc, horizon, &entries, &[ltxid(1, 1, 2)]).expect(rt, "memory")
 }
 
-// The state of each of three sessions.
+/// The state of each of three sessions.
 fn states(book: &Book) -> [State; 3] {
     [book.state(1, 1), book.state(1, 2), book.state(2, 1)]
 }
