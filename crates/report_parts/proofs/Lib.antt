@@ -1,0 +1,7 @@
+mod Submitted
+mod Showings
+mod Reaching
+mod Searches
+mod KeptPlain
+mod ClientParts
+mod Putting

@@ -1,0 +1,6 @@
+pub mod Submitting
+pub mod SubmissionViews
+pub mod Cutting
+pub mod PartViews
+pub mod Showing
+pub mod PlainParts

@@ -1,0 +1,396 @@
+//! What the events of a run did to its connections and to the turns of its sessions.
+ghost use Rattle.std.specs.Prelude.{◌≡◌, ◌<◌, ◌∷◌, ◌++◌, is_some, length, reverse, option_and_then, option_map, IfOk, MatchOption, None, OnOk};
+ghost use Rattle.std.specs.Option.{option_copied};
+ghost use Rattle.shown_clauses.specs.meaning.Fronts.{first_item};
+ghost use Rattle.shown_clauses.specs.meaning.Links.{nothing_seen, link_of, link_of_session, add_reply, connected, served_on, stopped_on, linked, after_go};
+ghost use Rattle.shown_clauses.specs.meaning.Steps.{turns_seen};
+ghost use Rattle.report_story.specs.Lines.{as_turns};
+ghost use Rattle.report_story.specs.Passing.{repeated_at};
+ghost use Rattle.report_story.specs.Plain.{plain_item, plain_note};
+ghost use Rattle.report_story.specs.Seeing.{with_links, with_over, connect_stopped as connect_stopped_def, begun_on, called_on, turned, IsPlaceOf, IsTurnTaken, IsTurnOver};
+ghost use Rattle.report_story.specs.Views.{repeated_as};
+
+use crate::change::{Begun, Called, Lent, Replied, Taken, change_all};
+use crate::line::{Line, Repeated};
+use crate::turns::Turn;
+use outage_schedule::{GoNote, Item, Note, Served};
+use std::alloc::Global;
+use std::marker::Model;
+use svc_values::{Call, NoMemory, SessionId};
+
+/// The connections, the newest first, and the turns that another `begin` followed. Each call is linear
+/// in the number of connections.
+#[derive(Drop)]
+pub(crate) struct Seen<'a> {
+    alloc: Global,
+    lines: Vec<Line<'a>>,
+    over: Vec<Turn<'a>>,
+}
+
+impl<'a> Model for Seen<'a> {
+    ghost use Rattle.std.specs.Prelude.{reverse};
+    ghost use Rattle.shown_clauses.specs.meaning.Links.{Seen as AllSeen};
+
+    ghost Value = { AllSeen };
+
+    ghost view = { λ s. record { links = s.lines.items; over = reverse s.over.items } };
+}
+
+/// The connection of this number.
+fn line_of<'b, 'a>(lines: &'b [Line<'a>], connection: u64) -> Option<&'b Line<'a>>
+    ensures { option_copied result ≡ link_of connection lines.now }
+{
+    for line in lines {
+        if line.has_number(connection) {
+            return Some(line);
+        }
+    }
+    None
+}
+
+/// The newest connection of this session.
+fn newest_of<'b, 'a>(lines: &'b [Line<'a>], session: SessionId) -> Option<&'b Line<'a>>
+    ensures { option_copied result ≡ link_of_session session lines.now }
+{
+    for line in lines {
+        if line.has_session(session) {
+            return Some(line);
+        }
+    }
+    None
+}
+
+/// Its place.
+fn place_of(lines: &[Line<'_>], session: SessionId) -> Option<usize>
+    ensures { MatchOption result (link_of_session session lines.now ≡ None) (λ at. IsPlaceOf session lines.now at) }
+{
+    for (at, line) in lines.iter().enumerate() {
+        if line.has_session(session) {
+            return Some(at);
+        }
+    }
+    None
+}
+
+/// Puts a turn last, if there is one.
+fn put_turn<'a>(turns: &mut Vec<Turn<'a>>, turn: Option<Turn<'a>>) -> Result<(), NoMemory>
+    ensures { OnOk result (turns.new.items ≡ turns.old.items ++ as_turns turn.entry) }
+{
+    match turn {
+        Some(turn) => {
+            turns.push(turn)?;
+            Ok(())
+        },
+        None => Ok(()),
+    }
+}
+
+impl<'a> Seen<'a> {
+    /// None yet. It takes no memory.
+    pub(crate) fn new(alloc: Global) -> Seen<'a>
+        ensures { result ≡ nothing_seen }
+    {
+        Seen {
+            alloc,
+            lines: Vec::new(alloc),
+            over: Vec::new(alloc),
+        }
+    }
+
+    /// What the session repeats where it serves a call with the mark now.
+    pub(crate) fn repeated(&self, session: SessionId) -> Option<Repeated>
+        ensures { option_map repeated_as result ≡ repeated_at self.now session }
+    {
+        match newest_of(&self.lines, session) {
+            Some(line) => line.repeated(),
+            None => None,
+        }
+    }
+
+    /// The first reply on the connection of this number that was not taken yet.
+    pub(crate) fn reply_on(&self, connection: u64) -> Option<&'a Served>
+        ensures { option_copied result ≡ option_and_then (λ link. first_item link.replies) (link_of connection self.now.links) }
+    {
+        match line_of(&self.lines, connection) {
+            Some(line) => line.reply(),
+            None => None,
+        }
+    }
+
+    /// The session of the connection of this number.
+    pub(crate) fn session_on(&self, connection: u64) -> Option<SessionId>
+        ensures { result ≡ option_map (λ link. link.session) (link_of connection self.now.links) }
+    {
+        match line_of(&self.lines, connection) {
+            Some(line) => Some(line.session()),
+            None => None,
+        }
+    }
+
+    /// Whether a connection has this number.
+    fn has_line(&self, connection: u64) -> bool
+        ensures { result ≡ is_some (link_of connection self.now.links) }
+    {
+        line_of(&self.lines, connection).is_some()
+    }
+
+    /// A reply was served on the connection of this number, if there is one.
+    fn reply(&mut self, connection: u64, one: &'a Served) -> Result<(), NoMemory>
+        ensures { OnOk result (self.new ≡ with_links self.old (add_reply connection one.now self.old.links)) }
+    {
+        change_all(&mut self.lines, &Replied { connection, one })
+    }
+
+    /// A connection was made.
+    fn put(&mut self, line: Line<'a>) -> Result<(), NoMemory>
+        ensures { OnOk result (self.new ≡ with_links self.old (line.entry ∷ self.old.links)) }
+    {
+        self.lines.insert(0, line)?;
+        Ok(())
+    }
+
+    /// The Connect of a connection was served.
+    fn connect(&mut self, connection: u64, one: &'a Served) -> Result<(), NoMemory>
+        ensures { OnOk result (self.new ≡ with_links self.old (connected connection one.now (link_of connection self.old.links) self.old.links)) }
+    {
+        if self.has_line(connection) {
+            return self.reply(connection, one);
+        }
+        let mut line = Line::new(self.alloc, connection, one.session);
+        line.add_reply(one)?;
+        self.put(line)
+    }
+
+    /// An item of a `serve` of the connection.
+    fn serve_on(&mut self, connection: u64, one: &'a Served) -> Result<(), NoMemory>
+        ensures { OnOk result (self.new ≡ with_links self.old (served_on connection one.now one.now.item self.old.links)) }
+    {
+        match &one.item {
+            Item::Connect => self.connect(connection, one),
+            Item::Call { .. } => self.reply(connection, one),
+            Item::Blocked { .. } => self.reply(connection, one),
+            Item::Outcome { .. } => self.reply(connection, one),
+            Item::Refused { .. } => self.reply(connection, one),
+            Item::Begin { .. } => Ok(()),
+            Item::End => Ok(()),
+            Item::Close => Ok(()),
+            Item::CrashedCall { .. } => Ok(()),
+            Item::CrashedOutcome { .. } => Ok(()),
+        }
+    }
+
+    /// The item that a crash of the connection stopped.
+    fn stop_on(&mut self, connection: u64, one: &'a Served) -> Result<(), NoMemory>
+        ensures { OnOk result (self.new ≡ with_links self.old (stopped_on connection one.now one.now.item self.old.links)) }
+    {
+        match &one.item {
+            Item::Connect => self.connect_stopped(connection, one.session),
+            Item::Call { .. } => Ok(()),
+            Item::Blocked { .. } => Ok(()),
+            Item::Outcome { .. } => Ok(()),
+            Item::Refused { .. } => Ok(()),
+            Item::Begin { .. } => Ok(()),
+            Item::End => Ok(()),
+            Item::Close => Ok(()),
+            Item::CrashedCall { .. } => Ok(()),
+            Item::CrashedOutcome { .. } => Ok(()),
+        }
+    }
+
+    /// The Connect of a connection was stopped.
+    fn connect_stopped(&mut self, connection: u64, session: SessionId) -> Result<(), NoMemory>
+        ensures { OnOk result (self.new ≡ with_links self.old (connect_stopped_def connection session (link_of connection self.old.links) self.old.links)) }
+    {
+        if self.has_line(connection) {
+            return Ok(());
+        }
+        self.put(Line::new(self.alloc, connection, session))
+    }
+
+    /// An item, by the connection that its note names.
+    fn link(&mut self, noted: &Note, one: &'a Served) -> Result<(), NoMemory>
+        ensures { OnOk result (self.new ≡ with_links self.old (linked noted.now self.old.links one.now)) }
+    {
+        match noted {
+            Note::Serve { connection, frame } => {
+                if frame.is_none() {
+                    return Ok(());
+                }
+                self.serve_on(*connection, one)
+            },
+            Note::Crash { connection, down } => {
+                if *down {
+                    return Ok(());
+                }
+                self.stop_on(*connection, one)
+            },
+            Note::Go { .. } => Ok(()),
+            Note::Cut { .. } => Ok(()),
+            Note::Reap { .. } => Ok(()),
+            Note::Up { .. } => Ok(()),
+            Note::UpCrash { .. } => Ok(()),
+            Note::Tick => Ok(()),
+            Note::Outside { .. } => Ok(()),
+            Note::Ask { .. } => Ok(()),
+            Note::Drain { .. } => Ok(()),
+        }
+    }
+
+    /// The turn of the connection at a place, moved out.
+    fn take_turn(&mut self, at: usize) -> Option<Turn<'a>>
+        requires { at < length self.old.links }
+        ensures { IsTurnTaken self.old at (as_turns result) self.new }
+    {
+        let line = &mut self.lines[at];
+        line.take_turn()
+    }
+
+    /// The turn is over.
+    fn end(&mut self, turn: Turn<'a>) -> Result<(), NoMemory>
+        ensures { OnOk result (self.new ≡ with_over self.old turn.entry) }
+    {
+        self.over.push(turn)?;
+        Ok(())
+    }
+
+    /// The turn of the session's newest connection, which is at this place, is over.
+    fn end_at(&mut self, session: SessionId, at: usize) -> Result<(), NoMemory>
+        requires { IsPlaceOf session self.old.links at }
+        ensures { OnOk result (IsTurnOver session self.old self.new) }
+    {
+        match self.take_turn(at) {
+            Some(turn) => {
+                self.end(turn)?;
+                Ok(())
+            },
+            None => Ok(()),
+        }
+    }
+
+    /// The turn that another `begin` of the session follows. One of a session that no connection has is
+    /// a turn that nobody acquired.
+    fn turn_over(&mut self, session: SessionId) -> Result<(), NoMemory>
+        ensures { OnOk result (IsTurnOver session self.old self.new) }
+    {
+        match place_of(&self.lines, session) {
+            Some(at) => self.end_at(session, at),
+            None => self.end(Turn::new(self.alloc, None)),
+        }
+    }
+
+    /// The session served a `begin`.
+    fn begin(&mut self, session: SessionId) -> Result<(), NoMemory>
+        ensures { OnOk result (self.new ≡ begun_on session self.old) }
+    {
+        self.turn_over(session)?;
+        let alloc = self.alloc;
+        change_all(&mut self.lines, &Begun { alloc, session })
+    }
+
+    /// The session served a call.
+    fn call(&mut self, session: SessionId, replay: bool, call: &'a Call) -> Result<(), NoMemory>
+        ensures { OnOk result (self.new ≡ called_on session replay call.now self.old) }
+    {
+        change_all(
+            &mut self.lines,
+            &Called {
+                session,
+                replay,
+                call,
+            },
+        )
+    }
+
+    /// An item, by its session.
+    fn turn(&mut self, one: &'a Served) -> Result<(), NoMemory>
+        ensures { OnOk result (self.new ≡ turned one.now.session one.now.item self.old) }
+    {
+        let session = one.session;
+        match &one.item {
+            Item::Begin { .. } => self.begin(session),
+            Item::Call { replay, call, .. } => self.call(session, *replay, call),
+            Item::Blocked { call } => self.call(session, false, call),
+            Item::CrashedCall { replay, call } => self.call(session, *replay, call),
+            Item::Connect => Ok(()),
+            Item::Outcome { .. } => Ok(()),
+            Item::End => Ok(()),
+            Item::Close => Ok(()),
+            Item::Refused { .. } => Ok(()),
+            Item::CrashedOutcome { .. } => Ok(()),
+        }
+    }
+
+    /// An item at the event of this note.
+    pub(crate) fn serve(&mut self, noted: &Note, one: &'a Served) -> Result<(), NoMemory>
+        ensures { OnOk result (self.new ≡ plain_item noted.now self.old one.now) }
+    {
+        self.link(noted, one)?;
+        self.turn(one)
+    }
+
+    /// A step of a client.
+    fn go(&mut self, client: u64, event: u64, did: GoNote) -> Result<(), NoMemory>
+        ensures { OnOk result (self.new ≡ with_links self.old (after_go client event did self.old.links)) }
+    {
+        match did {
+            GoNote::Lent { connection } => change_all(
+                &mut self.lines,
+                &Lent {
+                    connection,
+                    client,
+                    event,
+                },
+            ),
+            GoNote::Took { connection, .. } => change_all(
+                &mut self.lines,
+                &Taken {
+                    connection,
+                    client,
+                    event,
+                },
+            ),
+            GoNote::Idle => Ok(()),
+            GoNote::Wait => Ok(()),
+            GoNote::NoFrame => Ok(()),
+            GoNote::Early => Ok(()),
+            GoNote::Down => Ok(()),
+            GoNote::Open { .. } => Ok(()),
+            GoNote::Lost { .. } => Ok(()),
+        }
+    }
+
+    /// The note itself, behind the items of its event.
+    pub(crate) fn note(&mut self, event: u64, noted: &Note) -> Result<(), NoMemory>
+        ensures { OnOk result (self.new ≡ with_links self.old (plain_note event noted.now self.old.links)) }
+    {
+        match noted {
+            Note::Go { client, did } => self.go(*client, event, *did),
+            Note::Serve { .. } => Ok(()),
+            Note::Cut { .. } => Ok(()),
+            Note::Reap { .. } => Ok(()),
+            Note::Crash { .. } => Ok(()),
+            Note::Up { .. } => Ok(()),
+            Note::UpCrash { .. } => Ok(()),
+            Note::Tick => Ok(()),
+            Note::Outside { .. } => Ok(()),
+            Note::Ask { .. } => Ok(()),
+            Note::Drain { .. } => Ok(()),
+        }
+    }
+
+    /// All turns, moved out: those that are over, and the last of each connection.
+    pub(crate) fn into_turns(self) -> Result<Vec<Turn<'a>>, NoMemory>
+        ensures { IfOk result (λ turns. reverse turns.items ≡ turns_seen self.entry) }
+    {
+        let Seen {
+            alloc: _,
+            mut lines,
+            over,
+        } = self;
+        let mut turns = over;
+        while let Some(line) = lines.pop() {
+            put_turn(&mut turns, line.into_turn())?;
+        }
+        Ok(turns)
+    }
+}
