@@ -5,5 +5,5 @@ use Rattle.commit_log.specs.declared.journal.Journal.{Journal}
 use Rattle.commit_log.specs.meaning.Journals.{journal_of}
 
 -- where the reading gave a journal
-pub read_so : {read : Result Journal ℕ} {bytes : List ℕ} {journal : Journal} → IfOk read (λ (one : Journal). journal_of bytes ≡ Ok one) → read ≡ Ok journal → journal_of bytes ≡ Ok journal
-read_so {bytes = bytes} reads is = subst (λ (r : Result Journal ℕ). IfOk r (λ (one : Journal). journal_of bytes ≡ Ok one)) is reads
+pub read_so : (read : Result Journal ℕ) (bytes : List ℕ) (journal : Journal) → IfOk read (λ (one : Journal). journal_of bytes ≡ Ok one) → read ≡ Ok journal → journal_of bytes ≡ Ok journal
+read_so read bytes journal reads is = subst (λ (r : Result Journal ℕ). IfOk r (λ (one : Journal). journal_of bytes ≡ Ok one)) is reads
