@@ -31,11 +31,11 @@ begun_of (Err place) journal e = absurd (let none : ⊥ = cc in none)
 begun_of (Ok Empty) journal e = absurd (let none : ⊥ = cc in none)
 begun_of (Ok (Begun other is_opened has_horizon)) journal e = (is_opened, has_horizon, ap (λ (j : Journal). Ok (Begun j is_opened has_horizon)) (let same : other ≡ journal = cc in same))
 
-comes : (b : Bool) (one next : SoFar) → (if b then Some one else None) ≡ Some next → one ≡ next
+pub comes : (b : Bool) (one next : SoFar) → (if b then Some one else None) ≡ Some next → one ≡ next
 comes true one next e = cc
 comes false one next e = absurd (let none : ⊥ = cc in none)
 
-comes_true : (b : Bool) (one next : SoFar) → (if b then Some one else None) ≡ Some next → b ≡ true
+pub comes_true : (b : Bool) (one next : SoFar) → (if b then Some one else None) ≡ Some next → b ≡ true
 comes_true true one next e = refl
 comes_true false one next e = absurd (let none : ⊥ = cc in none)
 
@@ -158,7 +158,7 @@ grown_first payload payloads last e =
 
 -- ---- the first records
 
-halves : (so_far last : SoFar) (place : ℕ) (first rest : List (List ℕ)) → judged so_far place (first ++ rest) ≡ Ok last → (between : SoFar) × (behind : ℕ) × (judged so_far place first ≡ Ok between) × (judged between behind rest ≡ Ok last)
+pub halves : (so_far last : SoFar) (place : ℕ) (first rest : List (List ℕ)) → judged so_far place (first ++ rest) ≡ Ok last → (between : SoFar) × (behind : ℕ) × (judged so_far place first ≡ Ok between) × (judged between behind rest ≡ Ok last)
 halves so_far last place [] rest e = (so_far, place, refl, e)
 halves so_far last place (payload ∷ first) rest e =
     let behind = place + 9 + length payload in

@@ -292,8 +292,11 @@ each_keeps image journal e =
     let sound = sound_on 0 8 Empty (Begun journal begun.0 begun.1) read.records tt read.judges in
     kept_in image (0 + length (spelling_of read.records)) journal begun.0 (omega (arith, records_within image read.records read.are)) sound.0
 
+-- of records that were judged
+pub unset_of : (records : List (List ℕ)) (journal : Journal) (is_opened has_horizon : Bool) → judged Empty 8 records ≡ Ok (Begun journal is_opened has_horizon) → IsUnset has_horizon journal
+unset_of records journal is_opened has_horizon judges = (sound_on 0 8 Empty (Begun journal is_opened has_horizon) records tt judges).1
+
 -- of a journal that was read
 pub unset_in : (image : List ℕ) (journal : Journal) (is_opened has_horizon : Bool) → so_far_of image ≡ Ok (Begun journal is_opened has_horizon) → IsUnset has_horizon journal
 unset_in image journal is_opened has_horizon e =
-    let read = read_of image (Begun journal is_opened has_horizon) e in
-    (sound_on 0 8 Empty (Begun journal is_opened has_horizon) read.records tt read.judges).1
+    let read = read_of image (Begun journal is_opened has_horizon) e in unset_of read.records journal is_opened has_horizon read.judges

@@ -2,6 +2,7 @@ pub mod Steps
 pub mod Growing
 pub mod Fronts
 pub mod Between
+pub mod Trailing
 pub mod KeepingCommits
 pub mod KeepingReservations
 pub mod KeepingJournals

@@ -4,7 +4,7 @@ use Rattle.std.specs.Prelude.{◌||◌, Bool, Result, Ok, Err, OnOk, IsErrOf, If
 use Rattle.redo_store.specs.declared.fault.RedoFault.{RedoFault}
 use Rattle.redo_store.specs.declared.fault.RedoFault.TheVariants as redo_fault
 use Rattle.redo_store.specs.declared.redo.Redo.{Redo}
-use Rattle.redo_store.specs.Redo.{CanAppend, StoreGoesOn}
+use Rattle.redo_store.specs.Redo.{CanAppend, StoreGoesOn, count_of, tail_of}
 use Rattle.disk_model.specs.Disk.{DiskState, LoweredByLess, Lowers, Caused}
 use Rattle.disk_model.proofs.Offered.{caused_for, caused_then}
 use Rattle.commit_log.specs.declared.log.Log.{Log}
@@ -74,6 +74,10 @@ cause_then {T} {U} x r s t u first second =
 
 pub after_no_memory : (r : Result (Unit {0}) RedoFault) (old new : Redo) (disk : DiskState) → r ≡ Err redo_fault.NoMemory → StoreGoesOn r old new disk → CanAppend new disk
 after_no_memory r old new disk is met = subst (λ (a : Result (Unit {0}) RedoFault). StoreGoesOn a old new disk) is met
+
+-- a stop leaves what it knows of its end
+pub stops_so : (r : Result (Unit {0}) RedoFault) (old new : Redo) (disk : DiskState) → r ≡ Err redo_fault.Stopped → StoreGoesOn r old new disk → (count_of new ≡ count_of old) × (tail_of new ≡ tail_of old)
+stops_so r old new disk is met = let goes = subst (λ (a : Result (Unit {0}) RedoFault). StoreGoesOn a old new disk) is met in (goes.1, goes.2)
 
 pub not_damaged : (r : Result (Unit {0}) RedoFault) (old new : Redo) (disk : DiskState) (place : ℕ) → r ≡ Err (redo_fault.Damaged place) → StoreGoesOn r old new disk → ⊥
 not_damaged r old new disk place is met = subst (λ (a : Result (Unit {0}) RedoFault). StoreGoesOn a old new disk) is met

@@ -9,3 +9,7 @@ pub use Rattle.commit_log.proofs.Growing.{has_itself, adds_on, grows_by_none}
 -- a front of a journal's records is a journal, and one between two stores has some of the records that the second has more
 pub use Rattle.commit_log.proofs.Fronts.{fronts_are_journals}
 pub use Rattle.commit_log.proofs.Between.{fronts_are_grown}
+-- a log ends behind the records of its disk
+pub use Rattle.commit_log.proofs.Trailing.{trails_at_end, trails_begun, trails_unset}
+-- one to which an opening was added is ready
+pub use Rattle.commit_log.proofs.Opening.{ready_then}

@@ -1,15 +1,16 @@
 -- What a call that adds a record to a store leaves, and what a crash in it does.
-use Rattle.std.specs.Prelude.{◌≡◌, Bool, true, [], ◌∷◌, IsTrue, OnOk, IsErrOf, Result, Ok}
+use Rattle.std.specs.Prelude.{◌≡◌, ℕ, Bool, true, List, [], ◌∷◌, IsTrue, OnOk, IsErrOf, Result, Ok}
+use Rattle.disk_model.specs.Moment.{MayLeave}
 use Rattle.disk_model.specs.Disk.{DiskState, Meanwhile, Lowers, Caused}
 use Rattle.redo_store.specs.declared.fault.RedoFault.{RedoFault}
 use Rattle.redo_store.specs.declared.fault.RedoFault.TheVariants as fault
 use Rattle.commit_log.specs.declared.journal.Journal.{Journal}
 use Rattle.commit_log.specs.declared.records.Record.{Record}
 use Rattle.commit_log.specs.declared.log.Log.{Log}
-use Rattle.commit_log.specs.meaning.Rules.{may_come}
-use Rattle.commit_log.specs.meaning.Journals.{journal_of}
+use Rattle.commit_log.specs.meaning.Rules.{Begun, may_come}
+use Rattle.commit_log.specs.meaning.Journals.{journal_of, so_far_of}
 use Rattle.commit_log.specs.Growth.{HasAdded, IsGrown}
-use Rattle.commit_log.specs.Logs.{GoesOnFrom}
+use Rattle.commit_log.specs.Logs.{GoesOnFrom, Trails}
 
 -- the record may come next in the journal of the disk, in which the store was opened or not and has a horizon or not
 abbrev pub MayAddTo : (is_opened has_horizon : Bool) → DiskState → Record → Type 0
@@ -29,6 +30,9 @@ pub record AddsTo (is_opened has_horizon : Bool) (answer : Result (Unit {0}) Red
   pub any_moment : Meanwhile old new (IsGrown old.now.seen (added_record ∷ []))
   -- after Ok and NoMemory the log goes on with its disk, where nothing is pending; after Stopped the store is to be opened again
   pub goes_on : GoesOnFrom is_opened has_horizon added_record answer log new
+  -- after Stopped it still knows where the old records end, in whatever a crash then leaves
+  pub trails : IsErrOf answer fault.Stopped → (journal : Journal) → so_far_of old.now.seen ≡ Ok (Begun journal is_opened has_horizon) → (image : List ℕ) → MayLeave new.now image
+      → Trails is_opened has_horizon journal log image
   -- it succeeds only with no stop or one of at least four; with either a quiet disk has no fault
   pub stop : Lowers 4 answer old.stop new.stop
   pub cause : Caused (IsErrOf answer fault.Stopped) old new

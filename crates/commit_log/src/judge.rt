@@ -286,6 +286,13 @@ impl Judge {
         self.is_opened
     }
 
+    // Whether a horizon was stored in the journal.
+    pub fn has_horizon(&self) -> bool
+        ensures { result ≡ self.now.has_horizon }
+    {
+        self.has_horizon
+    }
+
     // The journal. It takes no memory.
     pub fn into_journal(self) -> Journal
         ensures { result ≡ self.journal }

@@ -41,6 +41,6 @@ mod records;
 
 pub use base::{Base, BaseRows, BaseSequence, BaseSequences, BaseTable, BaseTables};
 pub use journal::{Blocks, Entries, Journal, Lines, Ltxids, Reservation};
-pub use log::Log;
+pub use log::{Found, Log};
 pub use records::Record;
 pub use redo_store::RedoFault as LogFault;

@@ -1,16 +1,18 @@
 //! The log: a store that is opened for commits.
-ghost use Rattle.std.specs.Prelude.{◌≡◌, ◌+◌, ◌*◌, ◌<◌, ◌≤◌, ◌^◌, ◌⊎◌, [], ℕ, Bool, length, OnOk, IfOk, IsErrOf, Ok, Err};
+ghost use Rattle.std.specs.Prelude.{◌≡◌, ◌+◌, ◌*◌, ◌<◌, ◌≤◌, ◌^◌, ◌⊎◌, [], ℕ, Bool, length, OnErr, OnOk, IfOk, IfSome, IfNone, IsErrOf, Ok, Err, Some};
 ghost use Rattle.disk_model.specs.Disk.{Meanwhile, IsSettled, SameBytes, Lowers, Caused, OnlyReads};
 ghost use Rattle.redo_store.specs.meaning.Records.{records_of};
-ghost use Rattle.redo_store.specs.Redo.{CanAppend, StoreGoesOn};
+ghost use Rattle.redo_store.specs.Redo.{CanAppend, StoreGoesOn, tail_of};
+ghost use Rattle.redo_store.specs.Walk.{KeepsFront};
 ghost use Rattle.svc_values.specs.Identifiers.{IsLtxid};
 ghost use Rattle.canon_bytes.specs.Entries.{IsMadeEntry};
 ghost use Rattle.commit_log.specs.declared.journal.Journal.{Journal as Held};
+ghost use Rattle.commit_log.specs.declared.records.Record.{Record as Spelled};
 ghost use Rattle.commit_log.specs.declared.records.Record.TheVariants as kept;
 ghost use Rattle.commit_log.specs.Bases.{IsBase};
-ghost use Rattle.commit_log.specs.RecordBytes.{IsMadeRecord};
-ghost use Rattle.commit_log.specs.meaning.Rules.{new_journal};
-ghost use Rattle.commit_log.specs.meaning.Journals.{so_far_of, journal_of, is_opened};
+ghost use Rattle.commit_log.specs.RecordBytes.{FitsRecord, IsMadeRecord};
+ghost use Rattle.commit_log.specs.meaning.Rules.{Begun, new_journal};
+ghost use Rattle.commit_log.specs.meaning.Journals.{so_far_of, journal_of, is_opened, whole_record};
 ghost use Rattle.commit_log.specs.Adding.{record_in, HasAlso, IsOldOrWith};
 ghost use Rattle.commit_log.specs.Adds.{MayAddTo, MayAdd, AddsTo, Adds};
 ghost use Rattle.commit_log.specs.Growth.{HasAdded, IsGrown, horizon_of, first_of_opening, opening_of, with_opening};
@@ -20,11 +22,34 @@ use crate::base::Base;
 use crate::journal::Journal;
 use crate::judge::Judge;
 use crate::judging::judge_all;
-use crate::records::{Adding, made_of};
+use crate::records::{Adding, Record, made_of, record_of};
 use disk_model::Disk;
 use redo_store::{Redo, RedoFault as LogFault, Walk};
 use std::alloc::Global;
-use svc_values::{Entry, Ltxid, Name, Text};
+use svc_values::{Entry, Ltxid, Name, NoMemory, Text};
+
+// The record that these bytes of a journal spell.
+fn known_record(alloc: Global, payload: &[u8]) -> Result<Record, LogFault>
+    requires { (one : Spelled) × (whole_record payload.now ≡ Some one) }
+    ensures exact { IfOk result (λ one. whole_record payload.now ≡ Some one) }
+    ensures fitting { IfOk result FitsRecord }
+    ensures no_memory { OnErr result (IsErrOf result LogFault.NoMemory) }
+{
+    match record_of(alloc, payload) {
+        Ok(Some(record)) => Ok(record),
+        Ok(None) => unreachable!(),
+        Err(NoMemory) => Err(LogFault::NoMemory),
+    }
+}
+
+/// A store that was read, and may be added to.
+#[derive(Drop)]
+pub struct Found {
+    pub log: Log,
+    pub journal: Journal,
+    /// A horizon is stored in it.
+    pub has_horizon: bool,
+}
 
 /// A store that was opened. It holds no record: the journal is handed out at the opening.
 #[derive(Drop)]
@@ -34,7 +59,7 @@ pub struct Log {
 }
 
 impl Log {
-    ghost use Rattle.commit_log.specs.Logs.{is_live, count_of, HasBegun, CanLog};
+    ghost use Rattle.commit_log.specs.Logs.{is_live, count_of, CanAdd, HasBegun, HasReadOn, IsBehind, Trails, CanLog};
     ghost use Rattle.commit_log.specs.InnerOpening.{HasRaised};
 
     /// Whether a record may be added. After `Stopped` it may not, and the store is to be opened again.
@@ -106,6 +131,52 @@ impl Log {
         let (_, judge) = judge_all(alloc, disk)?;
         let is_opened = judge.is_opened();
         Ok((judge.into_journal(), is_opened))
+    }
+
+    /// Reads the journal, and gives the log to go on with behind it, at the cost of one `read`. It changes nothing.
+    pub fn find<D: Disk>(alloc: Global, disk: &mut D) -> Result<Found, LogFault>
+        ensures found { IfOk result (λ found. (is_opened : Bool) × (so_far_of (D.state disk.old).now.seen ≡ Ok (Begun found.journal is_opened found.has_horizon))) }
+        ensures ready { IsSettled (D.state disk.old) → IfOk result (λ found. CanAdd found.log (D.state disk.new)) }
+
+        // The place is the first at which the bytes are no journal.
+        ensures damaged { (place : ℕ) → IsErrOf result (LogFault.Damaged place) → journal_of (D.state disk.old).now.seen ≡ Err place }
+        ensures only_reads { OnlyReads (IsErrOf result LogFault.Stopped) (D.state disk.old) (D.state disk.new) }
+    {
+        let (redo, judge) = judge_all(alloc, disk)?;
+        let has_horizon = judge.has_horizon();
+        Ok(Found {
+            log: Log { alloc, redo },
+            journal: judge.into_journal(),
+            has_horizon,
+        })
+    }
+
+    /// Reads the record behind those where the log ends, also behind a stop, and ends behind it then.
+    ///
+    /// With none more it is live, and goes on with the disk; before that nothing may be added. Time and memory grow with
+    /// the record alone.
+    pub fn next<D: Disk>(&mut self, disk: &mut D) -> Result<Option<Record>, LogFault>
+        requires { IsBehind self.old (D.state disk.old).now.seen }
+        ensures next { (is_opened has_horizon : Bool) (journal : Held) → Trails is_opened has_horizon journal self.old (D.state disk.old).now.seen
+            → IfOk result (λ found. IfSome found (λ one. HasReadOn is_opened has_horizon journal one self.new (D.state disk.old).now.seen)) }
+        ensures fitting { IfOk result (λ found. IfSome found FitsRecord) }
+        ensures rises { IfOk result (λ found. IfSome found (λ _. (tail_of self.old.redo < tail_of self.new.redo) × (tail_of self.new.redo < length (D.state disk.old).now.seen))) }
+
+        // At the end all records were read.
+        ensures end { (is_opened has_horizon : Bool) (journal : Held) → Trails is_opened has_horizon journal self.old (D.state disk.old).now.seen
+            → IfOk result (λ found. IfNone found (so_far_of (D.state disk.old).now.seen ≡ Ok (Begun journal is_opened has_horizon))) }
+        ensures ready { IsSettled (D.state disk.old) → IfOk result (λ found. IfNone found (CanAdd self.new (D.state disk.new))) }
+        ensures stays { IsErrOf result LogFault.Stopped → self.new ≡ self.old }
+        ensures whole { (place : ℕ) → IsErrOf result (LogFault.Damaged place) → ⊥ }
+        ensures only_reads { OnlyReads (IsErrOf result LogFault.Stopped) (D.state disk.old) (D.state disk.new) }
+    {
+        let mut walk = Walk::behind(self.alloc, self.redo.tail(), self.redo.count());
+        let payload = walk.next(disk)?;
+        self.redo = walk.finish();
+        match payload {
+            Some(payload) => Ok(Some(known_record(self.alloc, &payload)?)),
+            None => Ok(None),
+        }
     }
 
     /// Opens the store: reads the journal, stores the horizon where it rises, and adds an opening with the next incarnation,
@@ -229,28 +300,29 @@ impl Log {
         self.add(disk, Adding::Alert(line))
     }
 
-    /// Adds a horizon, in four device calls: the sessions of incarnations below it are forgotten for good.
+    /// Adds a horizon, in four device calls: the sessions of incarnations below it are forgotten for good. The store need not
+    /// have been opened before.
     ///
     /// It takes the memory for the record before the first of them, 17 bytes. The caller sees to it that the horizon may come
     /// next in the journal of the disk.
     pub fn forget<D: Disk>(&mut self, disk: &mut D, horizon: u64) -> Result<(), LogFault>
-        requires ready { CanLog self.old (D.state disk.old) }
-        requires may { MayAdd (D.state disk.old) (kept.Horizon horizon) }
-        ensures { Adds result self.new (D.state disk.old) (D.state disk.new) (kept.Horizon horizon) }
+        requires { CanAdd self.old (D.state disk.old) }
+        ensures { (is_opened has_horizon : Bool) → HasBegun is_opened has_horizon self.old (D.state disk.old) → MayAddTo is_opened has_horizon (D.state disk.old) (kept.Horizon horizon)
+            → AddsTo is_opened has_horizon result self.new (D.state disk.old) (D.state disk.new) (kept.Horizon horizon) }
     {
-        self.add(disk, Adding::Horizon(horizon))
+        self.extend(disk, Adding::Horizon(horizon))
     }
 
-    /// Adds an opening with this incarnation, in four device calls. What a crash left whole goes on so with nothing read.
+    /// Adds an opening with this incarnation, in four device calls. The store need not have been opened before.
     ///
     /// It takes the memory for the record before the first of them, 17 bytes. The caller sees to it that the opening may come
     /// next in the journal of the disk.
     pub fn begin<D: Disk>(&mut self, disk: &mut D, incarnation: u64) -> Result<(), LogFault>
-        requires ready { CanLog self.old (D.state disk.old) }
-        requires may { MayAdd (D.state disk.old) (kept.Opened incarnation) }
-        ensures { Adds result self.new (D.state disk.old) (D.state disk.new) (kept.Opened incarnation) }
+        requires { CanAdd self.old (D.state disk.old) }
+        ensures { (is_opened has_horizon : Bool) → HasBegun is_opened has_horizon self.old (D.state disk.old) → MayAddTo is_opened has_horizon (D.state disk.old) (kept.Opened incarnation)
+            → AddsTo is_opened has_horizon result self.new (D.state disk.old) (D.state disk.new) (kept.Opened incarnation) }
     {
-        self.add(disk, Adding::Opened(incarnation))
+        self.extend(disk, Adding::Opened(incarnation))
     }
 
     // Adds a record that may come next in a store that was opened.
@@ -281,6 +353,7 @@ impl Log {
         ensures added { OnOk result (HasAlso (D.state disk.old).now.seen (record_in adding.entry) (D.state disk.new).now.seen) }
         ensures refused { IsErrOf result LogFault.NoMemory → records_of (D.state disk.new).now.seen ≡ records_of (D.state disk.old).now.seen }
         ensures any_moment { Meanwhile (D.state disk.old) (D.state disk.new) (IsOldOrWith (D.state disk.old).now.seen (record_in adding.entry)) }
+        ensures front { Meanwhile (D.state disk.old) (D.state disk.new) (KeepsFront (tail_of self.old.redo) (D.state disk.old).now.seen) }
         ensures goes_on { StoreGoesOn result self.old.redo self.new.redo (D.state disk.new) }
         ensures stop { Lowers 4 result (D.state disk.old).stop (D.state disk.new).stop }
         ensures cause { Caused (IsErrOf result LogFault.Stopped) (D.state disk.old) (D.state disk.new) }

@@ -74,6 +74,11 @@ module _ (tail : ℕ) (old : List ℕ) (w : IsStore tail old) where
     lengths = w.lengths;
   }
 
+  -- its bytes begin with these records
+  pub begins_so : (n : ℕ) (image : List ℕ) → Torn (tail + 1) n old image → image ≡ (magic ++ spelling_of w.records) ++ w.gate ∷ drop (tail + 1) image
+  unfolding behind_gate
+  begins_so n image torn = (behind_gate n image torn).bytes
+
   pub same_records : (n : ℕ) (image : List ℕ) → Torn (tail + 1) n old image → records_of image ≡ records_of old
   unfolding behind_gate
   same_records n image torn = reads tail image (behind_gate n image torn) ∙ sym (reads tail old w)
@@ -104,6 +109,11 @@ module _ (tail : ℕ) (old : List ℕ) (w : IsStore tail old) where
         sym (take-append-drop tail image)
         ∙ ap (λ (l : List ℕ). l ++ drop tail image) (torn_before tail 1 staged image torn (omega (arith, long)) ∙ before_gate)
         ∙ ap (λ (l : List ℕ). front ++ l) (drop_more image tail 0 (omega (arith, long, torn.no_shorter)) ∙ ap (λ (l : List ℕ). get_or image tail 0 ∷ l) (torn_behind tail 1 staged image torn long ∙ past_gate))
+
+    -- so its bytes begin with the records before it
+    pub begins_still : (image : List ℕ) → Torn tail 1 staged image → image ≡ (magic ++ spelling_of w.records) ++ get_or image tail 0 ∷ (body ++ past)
+    unfolding front
+    begins_still image torn = parts image torn
 
     all_short : All IsShort (w.records ++ payload ∷ [])
     all_short = All-push IsShort w.records payload w.lengths short

@@ -28,10 +28,10 @@ pub record CanAppend (redo : Redo) (disk : DiskState) : Type 0 where
   pub counted : count_of redo ≡ record_count (records_of disk.now.seen)
   pub settled : IsSettled disk
 
--- After an answer the store goes on with its disk. But after Stopped it is not live, and counts as before; and no damage
--- is told.
+-- After an answer the store goes on with its disk. But after Stopped it is not live, and ends and counts as before; and no
+-- damage is told.
 abbrev pub StoreGoesOn : Result (Unit {0}) RedoFault → Redo → Redo → DiskState → Type 0
 StoreGoesOn (Ok done) old new disk = CanAppend new disk
 StoreGoesOn (Err NoMemory) old new disk = CanAppend new disk
-StoreGoesOn (Err Stopped) old new disk = IsFalse (is_live new) × (count_of new ≡ count_of old)
+StoreGoesOn (Err Stopped) old new disk = IsFalse (is_live new) × (count_of new ≡ count_of old) × (tail_of new ≡ tail_of old)
 StoreGoesOn (Err (Damaged place)) old new disk = ⊥

@@ -24,7 +24,7 @@ pub struct Redo {
 impl Redo {
     ghost use Rattle.redo_store.specs.Redo.{is_live, count_of, tail_of, CanAppend, StoreGoesOn};
     ghost use Rattle.redo_store.specs.Gate.{HasRecord, HasClosedGate};
-    ghost use Rattle.redo_store.specs.Walk.{StandsBehind};
+    ghost use Rattle.redo_store.specs.Walk.{StandsBehind, KeepsFront};
 
     /// Whether a record may be added. After `Stopped` it may not, and the store is to be opened again.
     pub fn is_live(&self) -> bool
@@ -151,6 +151,9 @@ impl Redo {
         // same is so of the time since it began, and of what a read gives when it has ended, is `disk_model::laws::leaves`.
         ensures any_moment { Meanwhile (D.state disk.old) (D.state disk.new) (IsOldOrNew (D.state disk.old).now.seen payload.now) }
 
+        // And it leaves the old records where they stood.
+        ensures front { Meanwhile (D.state disk.old) (D.state disk.new) (KeepsFront (tail_of self.old) (D.state disk.old).now.seen) }
+
         // After Ok and NoMemory it goes on with its disk, where nothing is pending; after Stopped it is to be opened again.
         ensures goes_on { StoreGoesOn result self.old self.new (D.state disk.new) }
 
@@ -177,6 +180,9 @@ impl Redo {
         // A crash at any moment of the call leaves the old list of records, or this list with the payload last. That the
         // same is so of the time since it began, and of what a read gives when it has ended, is `disk_model::laws::leaves`.
         ensures any_moment { Meanwhile (D.state disk.old) (D.state disk.new) (IsOldOrNew (D.state disk.old).now.seen (payload_in made.items)) }
+
+        // And it leaves the old records where they stood.
+        ensures front { Meanwhile (D.state disk.old) (D.state disk.new) (KeepsFront (tail_of self.old) (D.state disk.old).now.seen) }
 
         // After Ok and NoMemory it goes on with its disk, where nothing is pending; after Stopped it is to be opened again.
         ensures goes_on { StoreGoesOn result self.old self.new (D.state disk.new) }

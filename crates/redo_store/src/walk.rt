@@ -19,7 +19,7 @@ pub struct Walk {
 }
 
 impl Walk {
-    ghost use Rattle.redo_store.specs.Redo.{CanAppend};
+    ghost use Rattle.redo_store.specs.Redo.{CanAppend, count_of, tail_of};
     ghost use Rattle.redo_store.specs.Walk.{place_of, StandsBehind, HasRead};
 
     /// Reads what the bytes begin with, and stands at the first gate. It takes no memory.
@@ -122,9 +122,12 @@ impl Walk {
         Ok(payloads)
     }
 
-    /// The store to go on with, where the walk stands at the closed gate behind the last record.
+    /// The store to go on with, where the walk stands at the closed gate behind the last record. Where it does not, more
+    /// records stand behind those of that store.
     pub fn finish(self) -> Redo
-        ensures { (disk : DiskState) (done : List (List ℕ)) → HasRead self done disk.now.seen → records_of disk.now.seen ≡ Ok done → IsSettled disk → CanAppend result disk }
+        ensures place { tail_of result ≡ place_of self }
+        ensures count { count_of result ≡ self.count }
+        ensures ready { (disk : DiskState) (done : List (List ℕ)) → HasRead self done disk.now.seen → records_of disk.now.seen ≡ Ok done → IsSettled disk → CanAppend result disk }
     {
         Redo::behind(self.alloc, self.place, self.count)
     }

@@ -27,7 +27,7 @@ returns-clause-ready g c settled =
     let last = c.judge_rest.ensures.only_reads.same.now in
     let same = last ∙ c.begun.ensures.only_reads.same.now ∙ c.begin.ensures.only_reads.same.now in
     let done = h.judged_all.done in
-    c.finish.ensures u done
+    c.finish.ensures.ready u done
     (subst (λ (m : DiskMoment). HasRead c.judge_rest.new.walk done m.seen) (sym last) h.judged_all.read)
     (ap (λ (m : DiskMoment). records_of m.seen) last ∙ h.all)
     (subst (λ (m : DiskMoment). (image : List ℕ) → MayLeave m image → image ≡ m.seen) (sym same) settled)

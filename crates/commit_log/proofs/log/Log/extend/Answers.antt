@@ -4,7 +4,8 @@ use Rattle.commit_log.specs.meaning.Rules.{with_record}
 use Rattle.commit_log.specs.meaning.Journals.{journal_in}
 use Rattle.commit_log.specs.Adding.{record_in, HasAlso, IsOldOrWith}
 use Rattle.commit_log.specs.Growth.{HasAdded, IsGrown}
-use Rattle.commit_log.proofs.Misfits.{on_ok, log_goes_on}
+use Rattle.commit_log.proofs.Misfits.{on_ok, log_goes_on, stops_so}
+use Rattle.commit_log.proofs.Trailing.{trails_then}
 use Rattle.commit_log.proofs.Growing.{comes_to, has_one, still_at, has_no_more, grown_by_one}
 use Rattle.commit_log.proofs.log.Log.extend.Goals as goal
 
@@ -26,6 +27,9 @@ returns g c is_opened has_horizon ready may =
           (λ also append. record { append = append; journal = with_record j one; so_far = comes_to old one j is_opened has_horizon begun comes image also })
           (λ is append. record { append = append; journal = j; so_far = still_at old one j is_opened has_horizon begun comes image (c.put.ensures.refused is) })
           c.put.ensures.added c.put.ensures.goes_on;
+      trails = λ stopped journal so_far.
+          let ends = stops_so c.put.result c.args.self.now.redo c.put.new.self.redo t stopped c.put.ensures.goes_on in
+          trails_then is_opened has_horizon journal c.args.self.now.redo s ready.append so_far c.put.new.self t ends.1 ends.0 c.put.ensures.front;
       stop = c.put.ensures.stop;
       cause = c.put.ensures.cause;
     }

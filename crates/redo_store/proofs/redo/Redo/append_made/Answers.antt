@@ -8,7 +8,7 @@ use Rattle.redo_store.specs.Records.{payload_in, record_count}
 use Rattle.redo_store.specs.Store.{IsStore}
 use Rattle.redo_store.specs.Redo.{StoreGoesOn}
 use Rattle.redo_store.proofs.Gates.{tail_within, few_records, one_more, gate_open, added}
-use Rattle.redo_store.proofs.Appending.{fault_cases, body_written, kept, still_store, gate_written}
+use Rattle.redo_store.proofs.Appending.{fault_cases, body_written, body_keeps, kept, still_store, gate_written, gate_keeps}
 use Rattle.redo_store.proofs.redo.Redo.append_made.Goals as goal
 
 pub returns-in-Err-clause-any_moment : goal.returns-in-Err-clause-any_moment
@@ -37,7 +37,7 @@ returns-in-Err-write_durably-clause-goes_on g c =
     let still = still_store s t tail c.requires.ready.store (payload_in c.args.made.items) c.deref.result.now c.in_default.ensures.written in
     let same_records = kept s t tail c.requires.ready.store (payload_in c.args.made.items) c.deref.result.now c.in_default.ensures.written in
     ⊎_elim
-    (λ failed. subst (λ f. StoreGoesOn (Err f) old new u) (sym (r.stopped failed).0) ((r.stopped failed).1, r.count))
+    (λ failed. subst (λ f. StoreGoesOn (Err f) old new u) (sym (r.stopped failed).0) ((r.stopped failed).1, r.count, r.tail))
     (λ no.
     let same : t ≡ u = sym (c.write_durably-2.ensures.refused (c.in-Err-write_durably.is ∙ ap (λ (f : DiskFault). Err f) no)) in
     subst (λ f. StoreGoesOn (Err f) old new u) (sym (r.no_memory no).0) record {
@@ -93,4 +93,18 @@ returns-clause-goes_on g c =
 pub returns-clause-any_moment : goal.returns-clause-any_moment
 returns-clause-any_moment g c =
     gate_written (g.D.Disk.state c.args.disk.now) (g.D.Disk.state c.write_durably.new.disk) c.args.self.now.tail c.requires.ready.store (payload_in c.args.made.items) c.deref.result.now c.in_default.ensures.written (g.D.Disk.state c.write_durably-2.new.disk)
+    c.in_ok-body.ensures.short (c.deref.ensures.value ∙ c.in_ok-body.ensures.body) c.write_durably.ensures.meanwhile c.write_durably-2.ensures.meanwhile
+
+pub returns-in-Err-clause-front : goal.returns-in-Err-clause-front
+returns-in-Err-clause-front g c =
+    body_keeps (g.D.Disk.state c.args.disk.now) (g.D.Disk.state c.write_durably.new.disk) c.args.self.now.tail c.requires.ready.store (payload_in c.args.made.items) c.deref.result.now c.write_durably.ensures.meanwhile
+
+pub returns-in-Err-write_durably-clause-front : goal.returns-in-Err-write_durably-clause-front
+returns-in-Err-write_durably-clause-front g c =
+    gate_keeps (g.D.Disk.state c.args.disk.now) (g.D.Disk.state c.write_durably.new.disk) c.args.self.now.tail c.requires.ready.store (payload_in c.args.made.items) c.deref.result.now c.in_default.ensures.written (g.D.Disk.state c.write_durably-2.new.disk)
+    c.in_ok-body.ensures.short (c.deref.ensures.value ∙ c.in_ok-body.ensures.body) c.write_durably.ensures.meanwhile c.write_durably-2.ensures.meanwhile
+
+pub returns-clause-front : goal.returns-clause-front
+returns-clause-front g c =
+    gate_keeps (g.D.Disk.state c.args.disk.now) (g.D.Disk.state c.write_durably.new.disk) c.args.self.now.tail c.requires.ready.store (payload_in c.args.made.items) c.deref.result.now c.in_default.ensures.written (g.D.Disk.state c.write_durably-2.new.disk)
     c.in_ok-body.ensures.short (c.deref.ensures.value ∙ c.in_ok-body.ensures.body) c.write_durably.ensures.meanwhile c.write_durably-2.ensures.meanwhile

@@ -31,7 +31,7 @@ returns-clause-ready g c settled =
     let before = c.begin.ensures.only_reads.same.now in
     let last = c.rest.ensures.only_reads.same.now in
     let read : HasRead c.in_ok-walk.walk [] (g.D.Disk.state c.begin.new.disk).now.seen = subst (λ (m : DiskMoment). HasRead c.in_ok-walk.walk [] m.seen) (sym before) c.in_ok-walk.ensures.begun in
-    c.finish-redo.ensures u done
+    c.finish-redo.ensures.ready u done
     (subst (λ (m : DiskMoment). HasRead c.rest.new.self done m.seen) (sym last) (c.in_ok-records.ensures.read [] read))
     (ap (λ (m : DiskMoment). records_of m.seen) last ∙ c.in_ok-records.ensures.records [] read)
     (subst (λ (m : DiskMoment). (image : List ℕ) → MayLeave m image → image ≡ m.seen) (sym (last ∙ before)) settled)
