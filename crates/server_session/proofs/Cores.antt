@@ -115,7 +115,7 @@ may_be_stored core disk entry fits here may writes journal reads =
     subst (λ (j : Journal). IsTrue (may_commit j entry)) same
     (may_beside core.book fits.journal entry fits.book ∙ all_three (nat_le entry.ltxid.incarnation fits.journal.incarnation) (may_note (sessions_in core.book) entry.ltxid) (writes_fit (schemas_of fits.journal.base) entry.writes) within may fit)
 
-tables_after : (core : Core) (journal : Journal) (entry : Entry) (tables : Stored) → core.tables ≡ tables_of journal
+pub tables_after : (core : Core) (journal : Journal) (entry : Entry) (tables : Stored) → core.tables ≡ tables_of journal
     → tables ≡ record { schemas = core.tables.schemas; rows = with_writes core.tables.rows entry.writes } → tables ≡ tables_of (with_record journal (kept.Commit entry))
 tables_after core journal entry tables are is =
     is ∙ (λ i. record { schemas = (are i).schemas; rows = with_writes (are i).rows entry.writes })

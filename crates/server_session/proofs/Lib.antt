@@ -10,6 +10,7 @@ mod Gaining
 mod Halting
 mod Holding
 mod Lifting
+mod OfJournals
 pub mod Offered
 mod Plains
 mod Quiet

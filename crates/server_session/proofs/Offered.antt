@@ -8,3 +8,5 @@ pub use Rattle.server_session.proofs.Gaining.{grown_left}
 pub use Rattle.server_session.proofs.Fronts.{left_grown}
 -- records of one step behind those of another, answered or stopped
 pub use Rattle.server_session.proofs.Gaining.{gained_none, gained_then, halted_then}
+-- a core whose book has forgotten what is below a horizon is of the journal with it
+pub use Rattle.server_session.proofs.OfJournals.{follows_horizon}

@@ -141,7 +141,7 @@ draws_there opening left asked now there none = draws_by_case opening left asked
 
 -- ---- it may be stored
 
-heads : (a b : Sequence) (l m : List Sequence) → a ∷ l ≡ b ∷ m → (a ≡ b) × (l ≡ m)
+pub heads : (a b : Sequence) (l m : List Sequence) → a ∷ l ≡ b ∷ m → (a ≡ b) × (l ≡ m)
 heads a b l m e = (let same : a ≡ b = cc in same, let same : l ≡ m = cc in same)
 
 may_by : (reserved : List Reservation) (name : List ℕ) (upto : ℤ) (s : SeqState) (b : BaseSequence) (rest : List SeqState) (bases : List BaseSequence) (own : Bool) → bytes_eq s.name name ≡ own

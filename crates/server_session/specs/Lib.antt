@@ -3,6 +3,7 @@ pub mod Alone
 pub mod Dealing
 pub mod Desks
 pub mod Fits
+pub mod Following
 pub mod Lives
 pub mod Plain
 pub mod Running

@@ -8,6 +8,7 @@ mod calling;
 mod calls;
 mod commit;
 mod desk;
+mod following;
 mod life;
 mod outcome;
 mod running;
