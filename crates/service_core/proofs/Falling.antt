@@ -1,7 +1,7 @@
 -- What a crash leaves of a service.
 use Rattle.std.proofs.Common.{◌≡◌, ◌∙◌, ◌⊎◌, ◌+◌, ◌≤◌, ℕ, Bool, true, false, refl, sym, ap, subst, inl, inr, List, [], append-nil, arith}
-use Rattle.std.specs.Prelude.{Option, Some, None, Result, Ok, IfSome, is_some, if◌then◌else◌}
-use Rattle.disk_model.specs.Moment.{DiskMoment, MayLeave}
+use Rattle.std.specs.Prelude.{Option, Some, None, Result, Ok, is_some, if◌then◌else◌}
+use Rattle.disk_model.specs.Moment.{MayLeave}
 use Rattle.disk_model.specs.Disk.{DiskState, IsSettled}
 use Rattle.redo_store.specs.Records.{record_count}
 use Rattle.redo_store.specs.Store.{IsStore}
@@ -19,7 +19,6 @@ use Rattle.server_session.specs.Fits.{Fits}
 use Rattle.service_calls.specs.Kept.{Goes, HaveOneBase}
 use Rattle.service_core.specs.declared.notes.Notes.{Notes}
 use Rattle.service_core.specs.Held.{Held}
-use Rattle.service_core.specs.Resting.{Rests}
 use Rattle.service_core.specs.Within.{Within}
 use Rattle.service_core.specs.Seeing.{store_of, StandsDown, Stands, SeesIn}
 use Rattle.service_core.specs.Sound.{HasFaultRoom, HasRoom, IsUp, IsSound, IsSoundWithin, Reads}
@@ -107,18 +106,6 @@ fits_over core old new same settled fits =
       sequences = fits.sequences;
       current = fits.current;
     }
-
--- what is at rest on a disk is so on each that holds the same and may leave the same
-pub still_rests : (grants : Grants) (old new : DiskState) (resting : Option Core) → new.now ≡ old.now → IfSome resting (Rests grants old) → IfSome resting (Rests grants new)
-still_rests grants old new None same rests = tt
-still_rests grants old new (Some core) same rests =
-    let settled : IsSettled new = subst (λ (m : DiskMoment). (image : List ℕ) → MayLeave m image → image ≡ m.seen) (sym same) rests.fits.log.append.settled in
-    record { fits = fits_over core old new (ap (λ (m : DiskMoment). m.seen) same) settled rests.fits; granted = rests.granted }
-
--- what a service that was up shared is at rest behind a crash
-pub rests_fallen : (grants : Grants) (disk end : DiskState) (core : Option Core) (held : Held) (notes : Notes) → IsSound grants disk core held notes → IsFallen disk end → IfSome core (Rests grants end)
-rests_fallen grants disk end None held notes down fall = tt
-rests_fallen grants disk end (Some core) held notes up fall = record { fits = fits_over core disk end (up.fits.log.append.settled end.now.seen fall.left) fall.durable up.fits; granted = up.granted }
 
 pub few_crashes : (grants : Grants) (disk : DiskState) (core : Option Core) (held : Held) (notes : Notes) → IsSound grants disk core held notes → notes.crashes ≤ notes.calls
 few_crashes grants disk None held notes down = down.crashes

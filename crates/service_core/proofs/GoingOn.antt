@@ -25,7 +25,7 @@ use Rattle.commit_log.specs.meaning.Rules.{end_of, sessions_of}
 use Rattle.ltxid_book.specs.meaning.Sessions.{is_forgotten}
 use Rattle.journal_tables.proofs.Offered.{sequences_begin, sequence_names_differ, second_true, both_true}
 use Rattle.server_session.specs.declared.shared.Core.{Core}
-use Rattle.server_session.specs.Fits.{Fits, sequence_in, sequence_of}
+use Rattle.server_session.specs.Fits.{Fits, IsSourceOf, sequence_in, sequence_of}
 use Rattle.service_core.specs.Indexed.{FitBase}
 use Rattle.service_core.specs.Opening.{CanOpen, HasOpened, source_of, stop_of}
 use Rattle.service_core.specs.InnerOpening.{CanGoOn, IsCoreOf, ends_low, state_of}
@@ -74,6 +74,12 @@ same_sequences : (journal : Journal) (sequences : List BaseSequence) → map seq
 same_sequences journal [] = refl
 same_sequences journal (sequence ∷ sequences) = ap (λ rest. sequence_of journal sequence ∷ rest) (same_sequences journal sequences)
 
+pub source_of_is : (journal : Journal) (source : Opening) → source ≡ source_of journal → IsSourceOf source journal
+source_of_is journal source is = record {
+  incarnation = ap (λ (o : Opening). o.incarnation) is;
+  sequences = ap (λ (o : Opening). map sequence_in o.sequences) is ∙ same_sequences journal journal.base.sequences;
+}
+
 -- ---- the core
 
 -- the journal with its opening
@@ -96,7 +102,7 @@ core_fits log journal grants core disk is ready reads keeps current = record {
   reads = reads;
   tables = is.tables;
   book = record { sessions = is.book; blocks = keeps.commits.standing };
-  source = record { incarnation = ap (λ (o : Opening). o.incarnation) is.source; sequences = ap (λ (o : Opening). map sequence_in o.sequences) is.source ∙ same_sequences journal journal.base.sequences };
+  source = source_of_is journal core.source is.source;
   sequences = subst (λ (o : Opening). IsTrue (are_sequences o.sequences)) (sym is.source) (source_is journal keeps.base);
   current = current;
 }

@@ -21,6 +21,7 @@ mod Read
 mod Reopening
 mod Renewing
 mod Replied
+mod Rested
 mod Second
 mod Served
 mod Serves

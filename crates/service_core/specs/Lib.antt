@@ -2,6 +2,7 @@ pub mod Held
 pub mod Indexed
 pub mod InnerHonest
 pub mod InnerOpening
+pub mod Keeping
 pub mod Opening
 pub mod Resting
 pub mod Seeing

@@ -1,64 +1,76 @@
--- What is kept of a service that fell with nothing in flight, and what an opening makes of it that reads nothing.
-use Rattle.std.specs.Prelude.{◌≡◌, ◌+◌, ◌*◌, ◌-◌, ◌≤◌, ◌^◌, ℕ, Bool, true, false, pos, int_lt, List, length, Option, is_some, IfSome, OnOk, IsErrOf, Result, Ok, Err}
+-- What a service keeps beside itself while it is down, and what an opening makes of it.
+use Rattle.std.specs.Prelude.{◌≡◌, ◌+◌, ◌*◌, ◌-◌, ◌^◌, ℕ, Bool, false, pos, int_lt, max, List, [], ◌∷◌, length, Option, is_some, IfSome, IsTrue, OnOk, IsErrOf, Result, Ok, Err}
+use Rattle.disk_model.specs.Moment.{MayLeave}
 use Rattle.disk_model.specs.Disk.{DiskState, Meanwhile, Lowers, Caused}
 use Rattle.redo_store.specs.declared.fault.RedoFault.{RedoFault}
 use Rattle.redo_store.specs.declared.fault.RedoFault.TheVariants as fault
-use Rattle.ltxid_book.specs.Sessions.{sessions_in, after_forgetting}
-use Rattle.mutable_values.specs.declared.grants.Grants.{Grants}
+use Rattle.ltxid_book.specs.Sessions.{sessions_in}
 use Rattle.mutable_values.specs.declared.source.SeqState.{SeqState}
 use Rattle.commit_log.specs.declared.journal.Journal.{Journal}
-use Rattle.commit_log.specs.declared.log.Log.{Log}
 use Rattle.commit_log.specs.declared.records.Record.{Record}
-use Rattle.commit_log.specs.Growth.{HasAdded, IsGrown}
+use Rattle.commit_log.specs.declared.records.Record.TheVariants as kept
+use Rattle.commit_log.specs.Growth.{HasAdded, IsGrown, first_of_opening, opening_of}
 use Rattle.commit_log.specs.Logs.{CanLog}
-use Rattle.commit_log.specs.meaning.Journals.{journal_of}
+use Rattle.commit_log.specs.meaning.Journals.{journal_of, so_far_of}
 use Rattle.server_model.specs.Core.{opening_after}
 use Rattle.server_session.specs.declared.shared.Core.{Core}
-use Rattle.server_session.specs.Fits.{Fits}
+use Rattle.server_session.specs.Following.{IsOfJournal}
+use Rattle.service_core.specs.declared.resting.Resting.{Resting}
+use Rattle.service_core.specs.Keeping.{IsCurrent, Rests, RestsBy}
 use Rattle.service_core.specs.Sound.{IsKept}
 use Rattle.service_core.specs.Within.{Within}
 
--- the core fits the disk as it fell, and keeps for replays what the service does
-pub record Rests (grants : Grants) (disk : DiskState) (core : Core) : Type 0 where
-  pub fits : Fits core disk
-  pub granted : core.grants ≡ grants
-
--- A service is as it has to be, and what is kept beside it is at rest while it is down and was not stopped.
-pub record IsKeptWith (service : Within) (resting : Option Core) : Type 0 where
+-- A service is as it has to be, and what is kept beside it is at rest while it is down.
+pub record IsKeptWith (service : Within) (resting : Option Resting) : Type 0 where
   pub kept : IsKept service
-  pub at_rest : service.notes.is_spent ≡ false → service.notes.is_settled ≡ true → is_some service.core ≡ false → IfSome resting (Rests service.grants service.disk)
-
--- the journal of an image has the known horizon, and the wanted one may come next in it
-pub record MayRise (known horizon : ℕ) (image : List ℕ) : Type 0 where
-  pub journal : Journal
-  pub reads : journal_of image ≡ Ok journal
-  pub known_is : known ≡ journal.horizon
-  pub forgets : horizon ≤ journal.incarnation + 1
-
--- and so may an opening with this incarnation
-pub record MayOpenNext (known horizon incarnation : ℕ) (image : List ℕ) : Type 0 where
-  pub rise : MayRise known horizon image
-  pub follows : incarnation ≡ rise.journal.incarnation + 1
-  pub few : incarnation ≤ 2 ^ 63
+  pub at_rest : service.notes.is_spent ≡ false → is_some service.core ≡ false → IfSome resting (RestsBy service.grants service.disk)
 
 -- what adding these records to a store comes to, each in four device calls
-pub record Extends (records : List Record) (answer : Result (Unit {0}) RedoFault) (log : Log) (old new : DiskState) : Type 0 where
+pub record Extends (records : List Record) (answer : Result (Unit {0}) RedoFault) (old new : DiskState) : Type 0 where
   pub added : OnOk answer (HasAdded old.now.seen records new.now.seen)
-  pub ready : OnOk answer (CanLog log new)
   pub moments : Meanwhile old new (IsGrown old.now.seen records)
   pub stop : Lowers (4 * length records) answer old.stop new.stop
   pub cause : Caused (IsErrOf answer fault.Stopped) old new
   pub whole : (place : ℕ) → answer ≡ Err (fault.Damaged place) → ⊥
 
+-- what is kept behind a stop
+pub record Stays (answer : Result (Unit {0}) RedoFault) (old new : Resting) (end : DiskState) : Type 0 where
+  pub left : IsErrOf answer fault.Stopped → (image : List ℕ) → MayLeave end.now image → Rests image new
+  pub grants : new.core.grants ≡ old.core.grants
+
+-- the horizon is stored, where it has to be
+pub record Raises (horizon : ℕ) (answer : Result (Unit {0}) RedoFault) (old new : Resting) (disk end : DiskState) : Type 0 where
+  pub extends : Extends (first_of_opening horizon (so_far_of disk.now.seen)) answer disk end
+  pub current : OnOk answer (IsCurrent new end)
+  pub stored : OnOk answer (IsTrue new.has_horizon)
+  pub stays : Stays answer old new end
+
+-- and the incarnation after the last
+pub record Begins (answer : Result (Unit {0}) RedoFault) (old new : Resting) (disk end : DiskState) : Type 0 where
+  pub extends : Extends (kept.Opened (old.core.source.incarnation + 1) ∷ []) answer disk end
+  pub ready : OnOk answer (CanLog new.core.log end)
+  pub same : OnOk answer (new.core ≡ record old.core { log = new.core.log })
+  pub stays : Stays answer old new end
+
+-- the core is that of the journal with this horizon, where it is the greater one
+abbrev pub IsRaised : ℕ → List ℕ → Core → Type 0
+IsRaised horizon image core = (journal : Journal) → journal_of image ≡ Ok journal → IsOfJournal core (record journal { horizon = max journal.horizon horizon })
+
+-- both are
+pub record Opens (horizon : ℕ) (answer : Result (Unit {0}) RedoFault) (old new : Resting) (disk end : DiskState) : Type 0 where
+  pub extends : Extends (opening_of horizon (so_far_of disk.now.seen)) answer disk end
+  pub ready : OnOk answer (CanLog new.core.log end)
+  pub core : OnOk answer (IsRaised horizon disk.now.seen new.core)
+  pub stays : Stays answer old new end
+
 -- the reservation of a sequence leaves room for a value behind it
 abbrev pub leaves_room : SeqState → Bool
 leaves_room sequence = int_lt sequence.upto (pos (2 ^ 63 - 1))
 
--- the core of the next opening has the same tables, a book that has forgotten what is below the horizon, and a source that
--- goes on behind the reservations
-pub record IsRenewed (horizon : ℕ) (core again : Core) : Type 0 where
+-- the core of the next opening has the same tables and book, and a source that goes on behind the reservations
+pub record IsRenewed (core again : Core) : Type 0 where
   pub tables : again.tables ≡ core.tables
-  pub book : sessions_in again.book ≡ after_forgetting (sessions_in core.book) horizon
+  pub book : sessions_in again.book ≡ sessions_in core.book
   pub source : again.source ≡ opening_after core.source (core.source.incarnation + 1)
   pub log_is : again.log ≡ core.log
   pub grants_are : again.grants ≡ core.grants

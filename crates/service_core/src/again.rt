@@ -1,88 +1,104 @@
-//! An opening that reads nothing: what the sessions shared before a crash goes on.
-ghost use Rattle.std.specs.Prelude.{◌≡◌, ◌<◌, ◌^◌, All, IfOk, IsErrOf, IsTrue};
-ghost use Rattle.disk_model.specs.Disk.{Meanwhile, LoweredByLess, Caused};
+//! What an opening adds to its store, and what its sessions share from then on.
+ghost use Rattle.std.specs.Prelude.{◌≡◌, ◌+◌, ◌≤◌, ◌<◌, ◌^◌, All, IsTrue, Ok};
+ghost use Rattle.disk_model.specs.Disk.{IsSettled};
 ghost use Rattle.mutable_values.specs.Sources.{are_sequences};
-ghost use Rattle.commit_log.specs.Growth.{IsGrown, opening_of};
-ghost use Rattle.commit_log.specs.Logs.{CanLog};
-ghost use Rattle.commit_log.specs.meaning.Journals.{so_far_of};
+ghost use Rattle.commit_log.specs.declared.journal.Journal.{Journal as Held};
+ghost use Rattle.commit_log.specs.meaning.Journals.{journal_of};
 ghost use Rattle.server_model.specs.Core.{reopened};
-ghost use Rattle.server_session.specs.Fits.{Fits};
-ghost use Rattle.service_core.specs.Opening.{CanOpen, HasOpened, stop_of};
-ghost use Rattle.service_core.specs.Resting.{Extends, IsRenewed, MayOpenNext, leaves_room};
+ghost use Rattle.service_core.specs.Keeping.{IsCurrent, Rests};
+ghost use Rattle.service_core.specs.Opening.{CanOpen};
+ghost use Rattle.service_core.specs.Resting.{Begins, IsRenewed, Opens, Raises, leaves_room};
 
-use commit_log::laws::keeps_journal;
-use commit_log::{Log, LogFault};
+use crate::resting::Resting;
+use commit_log::LogFault;
+use commit_log::laws::raises_horizon;
 use disk_model::Disk;
 use mutable_values::{SeqState, Source};
-use server_model::ServeFault;
 use server_session::Core;
+use std::alloc::Global;
 
-/// Opens the store of a disk for the next incarnation, with the outcomes of all incarnations below
-/// `horizon` forgotten, from what its sessions shared before a crash that left nothing in flight.
-///
-/// It reads nothing, and takes memory for the records of the opening alone. The cost is theirs and the
-/// number of sequences, and where the horizon rises the number of sessions that the book knows.
-pub(crate) fn open_again<D: Disk>(
-    disk: &mut D,
-    mut core: Core,
-    horizon: u64,
-) -> Result<Core, ServeFault>
-    requires fits { Fits core (D.state disk.old) }
-    requires journal { CanOpen horizon (D.state disk.old).now.seen }
-    ensures opened { IfOk result (λ again. HasOpened horizon core.grants (D.state disk.old) again (D.state disk.new)) }
-    ensures any_moment { let old = (D.state disk.old).now.seen in Meanwhile (D.state disk.old) (D.state disk.new) (IsGrown old (opening_of horizon (so_far_of old))) }
-    ensures stop { IsErrOf result ServeFault.Stopped → LoweredByLess (stop_of horizon (D.state disk.old).now.seen) (D.state disk.old).stop (D.state disk.new).stop }
-    ensures cause { Caused (IsErrOf result ServeFault.Stopped) (D.state disk.old) (D.state disk.new) }
-{
-    keeps_journal();
-    let known = core.book.horizon();
-    let incarnation = core.source.incarnation() + 1;
-    match add_opening(&mut core.log, disk, known, horizon, incarnation) {
-        Ok(()) => Ok(renewed(core, horizon)),
-        Err(LogFault::NoMemory) => Err(ServeFault::NoMemory),
-        Err(LogFault::Stopped) => Err(ServeFault::Stopped),
-        Err(LogFault::Damaged(_)) => unreachable!(),
+impl Resting {
+    /// Adds the records of an opening to the store, behind all that stand there: the horizon, where it
+    /// rises or is the first, and then the incarnation. A stop leaves what it knows by then.
+    ///
+    /// It takes the memory for these records, and for those behind the ones that it knew. The cost is
+    /// theirs, and where the horizon rises the number of sessions that the book knows.
+    pub(crate) fn open<D: Disk>(
+        &mut self,
+        alloc: Global,
+        disk: &mut D,
+        horizon: u64,
+    ) -> Result<(), LogFault>
+        requires settled { IsSettled (D.state disk.old) }
+        requires rests { Rests (D.state disk.old).now.seen self.old }
+        requires journal { CanOpen horizon (D.state disk.old).now.seen }
+        ensures { Opens horizon result self.old self.new (D.state disk.old) (D.state disk.new) }
+    {
+        match self.catch_up(alloc, disk) {
+            Ok(()) => self.add_opening(disk, horizon),
+            Err(fault) => Err(fault),
+        }
+    }
+
+    /// Adds the records of an opening to a store of which it knows all.
+    fn add_opening<D: Disk>(&mut self, disk: &mut D, horizon: u64) -> Result<(), LogFault>
+        requires current { IsCurrent self.old (D.state disk.old) }
+        requires journal { CanOpen horizon (D.state disk.old).now.seen }
+        ensures { Opens horizon result self.old self.new (D.state disk.old) (D.state disk.new) }
+    {
+        raises_horizon();
+        match self.raise(disk, horizon) {
+            Ok(()) => self.begin(disk),
+            Err(fault) => Err(fault),
+        }
+    }
+
+    /// Stores the horizon, where it rises or is the first, and forgets what is below it.
+    fn raise<D: Disk>(&mut self, disk: &mut D, horizon: u64) -> Result<(), LogFault>
+        requires current { IsCurrent self.old (D.state disk.old) }
+        requires may { (journal : Held) → journal_of (D.state disk.old).now.seen ≡ Ok journal → horizon ≤ journal.incarnation + 1 }
+        ensures { Raises horizon result self.old self.new (D.state disk.old) (D.state disk.new) }
+    {
+        if !self.is_below(horizon) {
+            return Ok(());
+        }
+        match self.core.log.forget(disk, horizon) {
+            Ok(()) => {
+                self.core.book.forget(horizon);
+                self.has_horizon = true;
+                Ok(())
+            }
+            Err(fault) => Err(fault),
+        }
+    }
+
+    /// Stores the incarnation after the last.
+    fn begin<D: Disk>(&mut self, disk: &mut D) -> Result<(), LogFault>
+        requires current { IsCurrent self.old (D.state disk.old) }
+        requires horizon { IsTrue self.old.has_horizon }
+        requires few { self.old.core.source.incarnation < 2 ^ 63 }
+        ensures { Begins result self.old self.new (D.state disk.old) (D.state disk.new) }
+    {
+        let incarnation = self.core.source.incarnation() + 1;
+        self.core.log.begin(disk, incarnation)
     }
 }
 
-/// Adds the records of an opening: the horizon, where it rises above the known one, and then the
-/// incarnation.
-fn add_opening<D: Disk>(
-    log: &mut Log,
-    disk: &mut D,
-    known: u64,
-    horizon: u64,
-    incarnation: u64,
-) -> Result<(), LogFault>
-    requires ready { CanLog log.old (D.state disk.old) }
-    requires may { MayOpenNext known horizon incarnation (D.state disk.old).now.seen }
-    ensures { Extends (opening_of horizon (so_far_of (D.state disk.old).now.seen)) result log.new (D.state disk.old) (D.state disk.new) }
-{
-    if horizon <= known {
-        return log.begin(disk, incarnation);
-    }
-    match log.forget(disk, horizon) {
-        Ok(()) => log.begin(disk, incarnation),
-        Err(fault) => Err(fault),
-    }
-}
-
-/// What the sessions of the next opening share. It takes no memory.
-fn renewed(core: Core, horizon: u64) -> Core
+/// What the sessions of the next opening share. It takes no memory, and costs the number of sequences.
+pub(crate) fn renewed(core: Core) -> Core
     requires few { core.source.incarnation < 2 ^ 63 }
     requires sequences { IsTrue (are_sequences core.source.sequences) }
     requires room { All (λ sequence. IsTrue (leaves_room sequence)) core.source.sequences }
-    ensures { IsRenewed horizon core result }
+    ensures { IsRenewed core result }
 {
     let Core {
         tables,
-        mut book,
+        book,
         source,
         log,
         grants,
         ..
     } = core;
-    book.forget(horizon);
     let incarnation = source.incarnation() + 1;
     let mut sequences = source.into_sequences();
     for sequence in sequences.iter_mut() {

@@ -53,6 +53,7 @@ impl<D: StopDisk> OneService<D> {
                 Ok(answer_of(verdict))
             }
             Err(ServeFault::Stopped) => {
+                self.resting = None;
                 self.held.clear();
                 self.notes.is_settled = false;
                 Err(ServeFault::Stopped)

@@ -6,12 +6,13 @@ ghost use Rattle.service_core.specs.Seeing.{LeavesIn, SeesIn, bytes_in, state_in
 ghost use Rattle.service_core.specs.Shipping.{Fell};
 
 use crate::one::OneService;
+use crate::resting::put_to_rest;
 use disk_model::StopDisk;
 
 impl<D: StopDisk> OneService<D> {
     /// Ends it as a crash does: all connections end, and of what a stopped call stored the disk
     /// leaves what the pick's remainder by 4 says. What its sessions shared is kept for the next
-    /// opening where nothing was in flight.
+    /// opening, where no call was stopped in which it changed.
     pub fn fall(&mut self, pick: u8)
         requires live { self.old.notes.is_spent ≡ false }
         requires few { self.old.notes.calls < 2 ^ 48 }
@@ -21,7 +22,7 @@ impl<D: StopDisk> OneService<D> {
         ensures fell { Fell self.old self.new }
     {
         self.disk.crash(pick % 4);
-        self.resting = self.core.take();
+        put_to_rest(&mut self.core, &mut self.resting);
         self.held.clear();
         self.notes.is_settled = true;
         self.notes.is_opened = false;

@@ -11,6 +11,7 @@ mod notes;
 mod one;
 mod opening;
 mod outside;
+mod resting;
 mod service;
 mod serving;
 mod shipping;

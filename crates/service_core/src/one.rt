@@ -8,6 +8,7 @@ ghost use Rattle.service_core.specs.Shipping.{SetsStop, Stays};
 
 use crate::connections::Connections;
 use crate::notes::Notes;
+use crate::resting::Resting;
 use disk_model::{Disk, StopDisk};
 use mutable_values::Grants;
 use server_session::Core;
@@ -22,8 +23,8 @@ pub struct OneService<D: StopDisk> {
     pub(crate) disk: D,
     pub(crate) grants: Grants,
     pub(crate) core: Option<Core>,
-    /// While it is down: what its sessions shared, if it fell with nothing in flight.
-    pub(crate) resting: Option<Core>,
+    /// While it is down: what its sessions shared, or an opening read, if it is kept.
+    pub(crate) resting: Option<Resting>,
     pub(crate) held: Connections,
     pub(crate) notes: Notes,
     /// The columns by which the tables of each opening are indexed.

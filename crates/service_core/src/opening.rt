@@ -1,18 +1,20 @@
 //! A new opening of a store.
-ghost use Rattle.std.specs.Prelude.{◌≡◌, IfOk, IfSome, IsErrOf, IsTrue, map};
+ghost use Rattle.std.specs.Prelude.{◌≡◌, IfOk, IfSome, IsErrOf, IsTrue, Ok, map};
 ghost use Rattle.std.specs.List.{list_all};
-ghost use Rattle.disk_model.specs.Disk.{Meanwhile, IsSettled, LoweredByLess, Caused};
+ghost use Rattle.disk_model.specs.Disk.{Meanwhile, IsSettled, LoweredByLess, Caused, OnlyReads};
 ghost use Rattle.table_store.specs.Given.{is_index_of};
 ghost use Rattle.commit_log.specs.meaning.Bases.{is_sequence, schemas_of};
-ghost use Rattle.commit_log.specs.meaning.Journals.{so_far_of};
+ghost use Rattle.commit_log.specs.declared.journal.Journal.{Journal as Held};
+ghost use Rattle.commit_log.specs.meaning.Journals.{journal_of, so_far_of};
 ghost use Rattle.commit_log.specs.Growth.{IsGrown, opening_of};
 ghost use Rattle.service_core.specs.Indexed.{FitBase};
 ghost use Rattle.service_core.specs.Opening.{CanOpen, HasOpened, source_of as source_def, stop_of};
 ghost use Rattle.service_core.specs.InnerOpening.{CanGoOn, IsCoreOf, ends_low, state_of};
-ghost use Rattle.service_core.specs.Resting.{Rests};
+ghost use Rattle.service_core.specs.Keeping.{RestsBy};
 
-use crate::again::open_again;
-use commit_log::laws::keeps_journal;
+use crate::again::renewed;
+use crate::resting::Resting;
+use commit_log::laws::{keeps_journal, raises_horizon};
 use commit_log::{BaseSequence, Journal, Log, LogFault};
 use disk_model::Disk;
 use journal_tables::indexed_tables_of;
@@ -27,22 +29,23 @@ use table_store::IndexOf;
 /// Opens the store of a disk for the next incarnation, with the outcomes of all incarnations below
 /// `horizon` forgotten: what its sessions share.
 ///
-/// What a crash left at rest goes on, at the cost of `open_again`. With nothing at rest it reads the
-/// whole store, n log n for n rows and entries, and keeps no entry: the tables, the book and the source
-/// of values are those that the journal says. Each sequence goes on behind its last reservation.
+/// What is kept of it goes on, at the cost of the records behind those that it knows and of the number
+/// of sequences. With nothing kept the whole store is read, n log n for n rows and entries, and no
+/// entry is kept. A stop in the records that the opening adds leaves what was read.
 pub(crate) fn open<D: Disk>(
     alloc: Global,
     disk: &mut D,
-    resting: Option<Core>,
+    resting: &mut Option<Resting>,
     horizon: u64,
     grants: Grants,
     indexes: &[IndexOf],
 ) -> Result<Core, ServeFault>
     requires settled { IsSettled (D.state disk.old) }
-    requires resting { IfSome resting (Rests grants (D.state disk.old)) }
+    requires resting { IfSome resting.old (RestsBy grants (D.state disk.old)) }
     requires journal { CanOpen horizon (D.state disk.old).now.seen }
     requires indexes { FitBase indexes.now (D.state disk.old).now.seen }
     ensures opened { IfOk result (λ core. HasOpened horizon grants (D.state disk.old) core (D.state disk.new)) }
+    ensures kept { IsErrOf result ServeFault.Stopped → IfSome resting.new (RestsBy grants (D.state disk.new)) }
 
     // A crash at any moment of the call leaves the old records, or these with the horizon, if it is stored, or with
     // all that the opening adds.
@@ -52,12 +55,63 @@ pub(crate) fn open<D: Disk>(
     ensures stop { IsErrOf result ServeFault.Stopped → LoweredByLess (stop_of horizon (D.state disk.old).now.seen) (D.state disk.old).stop (D.state disk.new).stop }
     ensures cause { Caused (IsErrOf result ServeFault.Stopped) (D.state disk.old) (D.state disk.new) }
 {
-    if let Some(core) = resting {
-        return open_again(disk, core, horizon);
-    }
     keeps_journal();
-    match Log::open(alloc, disk, horizon) {
-        Ok((log, journal)) => Ok(core_of(alloc, log, journal, grants, indexes)?),
+    raises_horizon();
+    let mut kept = kept_or_read(alloc, disk, resting.take(), grants, indexes)?;
+    match kept.open(alloc, disk, horizon) {
+        Ok(()) => Ok(renewed(kept.core)),
+        Err(LogFault::NoMemory) => Err(ServeFault::NoMemory),
+        Err(LogFault::Stopped) => {
+            *resting = Some(kept);
+            Err(ServeFault::Stopped)
+        }
+        Err(LogFault::Damaged(_)) => unreachable!(),
+    }
+}
+
+/// What is kept, and with nothing kept what the whole store says.
+fn kept_or_read<D: Disk>(
+    alloc: Global,
+    disk: &mut D,
+    resting: Option<Resting>,
+    grants: Grants,
+    indexes: &[IndexOf],
+) -> Result<Resting, ServeFault>
+    requires settled { IsSettled (D.state disk.old) }
+    requires resting { IfSome resting (RestsBy grants (D.state disk.old)) }
+    requires journal { (journal : Held) × (journal_of (D.state disk.old).now.seen ≡ Ok journal) }
+    requires indexes { FitBase indexes.now (D.state disk.old).now.seen }
+    ensures rests { IfOk result (RestsBy grants (D.state disk.old)) }
+    ensures only_reads { OnlyReads (IsErrOf result ServeFault.Stopped) (D.state disk.old) (D.state disk.new) }
+{
+    match resting {
+        Some(kept) => Ok(kept),
+        None => read_whole(alloc, disk, grants, indexes),
+    }
+}
+
+/// What the whole store says.
+fn read_whole<D: Disk>(
+    alloc: Global,
+    disk: &mut D,
+    grants: Grants,
+    indexes: &[IndexOf],
+) -> Result<Resting, ServeFault>
+    requires settled { IsSettled (D.state disk.old) }
+    requires journal { (journal : Held) × (journal_of (D.state disk.old).now.seen ≡ Ok journal) }
+    requires indexes { FitBase indexes.now (D.state disk.old).now.seen }
+    ensures rests { IfOk result (RestsBy grants (D.state disk.old)) }
+    ensures only_reads { OnlyReads (IsErrOf result ServeFault.Stopped) (D.state disk.old) (D.state disk.new) }
+{
+    keeps_journal();
+    match Log::find(alloc, disk) {
+        Ok(found) => {
+            let core = core_of(alloc, found.log, found.journal, grants, indexes)?;
+            Ok(Resting {
+                core,
+                has_horizon: found.has_horizon,
+            })
+        }
         Err(LogFault::NoMemory) => Err(ServeFault::NoMemory),
         Err(LogFault::Stopped) => Err(ServeFault::Stopped),
         Err(LogFault::Damaged(_)) => unreachable!(),

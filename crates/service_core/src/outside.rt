@@ -160,6 +160,7 @@ impl<D: StopDisk> OneService<D> {
                 Ok(OutsideNote { ltxid, runs })
             }
             Err(ServeFault::Stopped) => {
+                self.resting = None;
                 self.held.clear();
                 self.notes.is_settled = false;
                 Err(ServeFault::Stopped)

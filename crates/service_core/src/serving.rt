@@ -107,6 +107,7 @@ impl<D: StopDisk> OneService<D> {
                 Ok(told)
             }
             Err(ServeFault::Stopped) => {
+                self.resting = None;
                 self.held.clear();
                 self.notes.is_settled = false;
                 Err(ServeFault::Stopped)

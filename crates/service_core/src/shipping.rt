@@ -8,6 +8,7 @@ ghost use Rattle.service_core.specs.Shipping.{AreBehind, FailedRead, StandsAt, c
 ghost use Rattle.service_core.specs.Sound.{HasFaultRoom, IsKept, Reads};
 
 use crate::one::OneService;
+use crate::resting::put_to_rest;
 use disk_model::{Disk, StopDisk};
 use redo_store::{RedoFault, Walk};
 use server_model::ServeFault;
@@ -62,7 +63,7 @@ impl<D: StopDisk> OneService<D> {
         match Walk::behind(alloc, place, from).rest(&mut self.disk) {
             Ok(payloads) => Ok(payloads),
             Err(RedoFault::Stopped) => {
-                self.core = None;
+                put_to_rest(&mut self.core, &mut self.resting);
                 self.held.clear();
                 self.notes.is_settled = false;
                 Err(ServeFault::Stopped)
@@ -81,8 +82,7 @@ impl<D: StopDisk> OneService<D> {
         requires live { self.old.notes.is_spent ≡ false }
         ensures { self.new ≡ halted self.old }
     {
-        self.core = None;
-        self.resting = None;
+        put_to_rest(&mut self.core, &mut self.resting);
         self.held.clear();
         self.notes.is_settled = false;
     }
@@ -98,6 +98,7 @@ impl<D: StopDisk> OneService<D> {
         ensures lost { D.state result ≡ self.old.disk }
     {
         self.unanswer();
+        self.resting = None;
         mem::replace(&mut self.disk, disk)
     }
 }

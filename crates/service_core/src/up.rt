@@ -16,7 +16,8 @@ use std::alloc::Global;
 
 impl<D: StopDisk> OneService<D> {
     /// Opens the store for the next incarnation, and forgets the outcomes of all incarnations below
-    /// `horizon`. The cost is that of `open`.
+    /// `horizon`. The cost is that of `open`: where it was open before, that of the records since the
+    /// last ones that it knows.
     pub fn reopen(&mut self, alloc: Global, horizon: u64) -> Result<(), ServeFault>
         requires live { self.old.notes.is_spent ≡ false }
         requires few { self.old.notes.calls < 2 ^ 48 }
@@ -33,11 +34,10 @@ impl<D: StopDisk> OneService<D> {
         raises_horizon();
         self.notes.kept = self.disk.left();
         self.notes.calls += 1;
-        let resting = self.resting.take();
         match open(
             alloc,
             &mut self.disk,
-            resting,
+            &mut self.resting,
             horizon,
             self.grants,
             &self.indexes,

@@ -14,7 +14,7 @@ invariant_of-result-2 g c = record {
   kept = λ live.
       let disk = g.D.Disk.state c.args.disk in
       subst (λ (h : Held). IsDown disk h first_notes) (sym c.new.ensures) (made_soundly disk c.args.grants c.requires.begins (g.met.D.Disk.reads_now c.args.disk));
-  at_rest = λ live settled down. tt;
+  at_rest = λ live down. tt;
 }
 
 pub returns-clause-seen : goal.returns-clause-seen

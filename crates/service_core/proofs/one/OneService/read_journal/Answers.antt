@@ -10,7 +10,7 @@ use Rattle.service_core.specs.Sound.{IsDown}
 use Rattle.service_core.specs.Within.{Within}
 use Rattle.service_core.proofs.Read.{answered_same, looked_from, looks, looks_soundly, is_lost, lost_from, loses_soundly, loses}
 use Rattle.service_core.proofs.Faulty.{none_counted}
-use Rattle.service_core.proofs.Falling.{still_rests}
+use Rattle.service_core.proofs.Rested.{still_rests}
 use Rattle.service_core.proofs.one.OneService.read_journal.Goals as goal
 
 pub invariant_of-self : goal.invariant_of-self
@@ -19,7 +19,7 @@ invariant_of-self g c = record {
       let old : Within = record { grants = c.self.inside.grants; disk = g.D.Disk.state c.self.inside.disk; core = c.self.inside.core; held = c.self.inside.held; notes = c.self.inside.notes } in
       let new = g.D.Disk.state c.read.new.disk in
       looks_soundly old new (answered_same c.in-Ok.journal _ old.disk new c.in-Ok.ensures.only_reads) (c.self.invariant.kept live);
-  at_rest = λ live settled down. still_rests c.self.inside.grants (g.D.Disk.state c.self.inside.disk) (g.D.Disk.state c.read.new.disk) c.self.inside.resting (c.in-Ok.ensures.only_reads.same.now) (c.self.invariant.at_rest live settled down);
+  at_rest = λ live down. still_rests c.self.inside.grants (g.D.Disk.state c.self.inside.disk) (g.D.Disk.state c.read.new.disk) c.self.inside.resting (c.in-Ok.ensures.only_reads.same.now) (c.self.invariant.at_rest live down);
 }
 
 pub returns-in-Ok-clause-looked : goal.returns-in-Ok-clause-looked
@@ -37,7 +37,7 @@ invariant_of-self-in-Err-Stopped g c = record {
       let new = g.D.Disk.state c.read.new.disk in
       let lost = is_lost _ old.disk new (ap Err c.in-Err-Stopped.field-0-is) c.in-Err-Stopped.ensures.only_reads (g.met.D.Disk.reads_now c.read.new.disk) in
       subst (λ (h : Held). IsDown new h (called old.notes)) (sym c.clear.ensures) (loses_soundly old new (c.self.invariant.kept live) lost);
-  at_rest = λ live settled down. tt;
+  at_rest = λ live down. tt;
 }
 
 pub returns-in-Err-Stopped-clause-looked : goal.returns-in-Err-Stopped-clause-looked

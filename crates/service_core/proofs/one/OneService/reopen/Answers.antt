@@ -1,11 +1,9 @@
-use Rattle.std.proofs.Common.{◌≡◌, ◌∙◌, ◌<◌, ◌^◌, Bool, Option, true, false, refl, sym, ap, subst}
-use Rattle.std.specs.Prelude.{Err, IfSome, is_some}
+use Rattle.std.proofs.Common.{◌≡◌, ◌∙◌, ◌<◌, ◌^◌, Bool, true, false, refl, sym, ap, subst}
+use Rattle.std.specs.Prelude.{Err, is_some}
 use Rattle.server_model.specs.declared.fault.ServeFault.{ServeFault}
 use Rattle.server_model.specs.declared.fault.ServeFault.TheVariants as fault
 use Rattle.server_model.specs.ServiceCalls.{MayForget, Opened, StoppedOpening}
 use Rattle.service_calls.specs.Kept.{Goes, HaveOneBase}
-use Rattle.server_session.specs.declared.shared.Core.{Core}
-use Rattle.service_core.specs.Resting.{Rests}
 use Rattle.service_core.specs.Seeing.{LeavesIn, SeesIn, bytes_in, state_in}
 use Rattle.service_core.specs.Opening.{stop_of}
 use Rattle.service_core.specs.Shipping.{Broke, GrewBy}
@@ -24,8 +22,7 @@ open-requires-clause-resting g c =
     let old : Within = record { grants = c.self.inside.grants; disk = g.D.Disk.state c.self.inside.disk; core = c.self.inside.core; held = c.self.inside.held; notes = c.self.inside.notes } in
     let live = ap (λ (w : Within). w.notes.is_spent) c.self.view_is ∙ c.requires.live in
     let off : is_some old.core ≡ false = ap (λ (w : Within). is_some w.core) c.self.view_is ∙ c.requires.down.0 in
-    let settled : old.notes.is_settled ≡ true = ap (λ (w : Within). w.notes.is_settled) c.self.view_is ∙ c.requires.down.1 in
-    subst (λ (o : Option Core). IfSome o (Rests old.grants old.disk)) (sym c.take-resting.ensures.value) (c.self.invariant.at_rest live settled off)
+    c.self.invariant.at_rest live off
 
 pub invariant_of-self : goal.invariant_of-self
 invariant_of-self g c = record {
@@ -36,7 +33,7 @@ invariant_of-self g c = record {
       let off : is_some old.core ≡ false = ap (λ (w : Within). is_some w.core) c.self.view_is ∙ c.requires.down.0 in
       let settled : old.notes.is_settled ≡ true = ap (λ (w : Within). w.notes.is_settled) c.self.view_is ∙ c.requires.down.1 in
       opens_soundly old new c.in-Ok.core c.left-self-inside.result c.args.horizon c.keeps_journal.ensures.keeps off settled (c.self.invariant.kept live) opening;
-  at_rest = λ live settled down. absurd (let clash : ◌≡◌ {A = Bool} true false = down in cc);
+  at_rest = λ live down. absurd (let clash : ◌≡◌ {A = Bool} true false = down in cc);
 }
 
 pub returns-in-Ok-clause-opened : goal.returns-in-Ok-clause-opened
@@ -61,7 +58,7 @@ invariant_of-self-in-Err-Stopped g c = record {
       let off : is_some old.core ≡ false = ap (λ (w : Within). is_some w.core) c.self.view_is ∙ c.requires.down.0 in
       let settled : old.notes.is_settled ≡ true = ap (λ (w : Within). w.notes.is_settled) c.self.view_is ∙ c.requires.down.1 in
       halts_soundly old new c.left-self-inside.result c.args.horizon (stop_of c.args.horizon old.disk.now.seen) c.raises_horizon.ensures off settled (c.self.invariant.kept live) halted;
-  at_rest = λ live settled down. absurd (let clash : ◌≡◌ {A = Bool} false true = settled in cc);
+  at_rest = λ live down. c.in-Err-Stopped.ensures.kept (ap Err c.in-Err-Stopped.field-0-is);
 }
 
 pub returns-in-Err-Stopped-clause-opened : goal.returns-in-Err-Stopped-clause-opened

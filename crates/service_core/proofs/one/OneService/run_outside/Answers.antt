@@ -27,7 +27,7 @@ invariant_of-self g c = record {
       let is_up : old.core ≡ Some c.in-Some.core = sym c.in-Some.ensures.value in
       let session_is : c.new-session.result ≡ made_session c.in-Some.core old.notes = c.new-session.ensures.seen ∙ ap begins c.next_ltxid-ltxid.ensures.next in
       runs_soundly old c.in-Some.core is_up (c.self.invariant.kept live) c.args.now c.new-session.result session_is c.next_ltxid-ltxid.new.made c.next_ltxid-ltxid.ensures.counted end c.args.calls.now c.in-Ok.runs c.begin_and_run.new.core c.begin_and_run.new.session c.in-Ok.ensures;
-  at_rest = λ live settled down. absurd (let clash : ◌≡◌ {A = Bool} true false = down in cc);
+  at_rest = λ live down. absurd (let clash : ◌≡◌ {A = Bool} true false = down in cc);
 }
 
 pub returns-in-Ok-clause-ran : goal.returns-in-Ok-clause-ran
@@ -59,7 +59,7 @@ invariant_of-self-in-Err-Stopped g c = record {
       let session_is : c.new-session.result ≡ made_session c.in-Some.core old.notes = c.new-session.ensures.seen ∙ ap begins c.next_ltxid-ltxid.ensures.next in
       let halted = subst (λ (f : ServeFault). RunsFrom c.args.now c.args.calls.now (Err f) c.new-session.result c.in-Some.core old.disk c.begin_and_run.new.session c.begin_and_run.new.core end) c.in-Err-Stopped.field-0-is c.in-Err-Stopped.ensures in
       halts_soundly old c.in-Some.core is_up (c.self.invariant.kept live) c.args.now c.new-session.result session_is c.next_ltxid-ltxid.new.made c.next_ltxid-ltxid.ensures.counted end halted (g.met.D.Disk.reads_now c.begin_and_run.new.disk) c.take.new.self c.take.ensures.after c.clear.new.self c.clear.ensures;
-  at_rest = λ live settled down. absurd (let clash : ◌≡◌ {A = Bool} false true = settled in cc);
+  at_rest = λ live down. tt;
 }
 
 pub returns-in-Err-Stopped-clause-ran : goal.returns-in-Err-Stopped-clause-ran

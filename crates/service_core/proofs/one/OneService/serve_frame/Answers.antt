@@ -46,7 +46,7 @@ invariant_of-self g c = record {
       let taken = c.take_session-session.ensures in
       let is_up : old.core ≡ Some c.in-Some.core = sym c.in-Some.ensures.value in
       serves_soundly old c.in-Some.core is_up (c.self.invariant.kept live) c.take_session-session.new.held c.take_session-session.new.made c.args.connection c.args.now frame session c.left-self-inside.result c.left-self-inside.ensures taken end c.serve.new.core c.put_back.new.held c.in-Ok.told c.serve.new.self c.put_back.ensures c.in-Ok.ensures.served;
-  at_rest = λ live settled down. absurd (let clash : ◌≡◌ {A = Bool} true false = down in cc);
+  at_rest = λ live down. absurd (let clash : ◌≡◌ {A = Bool} true false = down in cc);
 }
 
 pub returns-in-Ok-clause-served : goal.returns-in-Ok-clause-served
@@ -96,7 +96,7 @@ invariant_of-self-in-Err-Stopped g c = record {
       let stopped = subst (λ (f : ServeFault). Serves (served_as frame c.args.now) (1 + sequences_in frame) (Err f) session c.in-Some.core old.disk c.serve.new.self c.serve.new.core end) c.in-Err-Stopped.field-0-is c.in-Err-Stopped.ensures.served in
       let is_up : old.core ≡ Some c.in-Some.core = sym c.in-Some.ensures.value in
       stops_soundly old c.in-Some.core is_up (c.self.invariant.kept live) c.take_session-session.new.held c.take_session-session.new.made c.args.connection c.args.now frame session c.left-self-inside.result c.left-self-inside.ensures taken end stopped (g.met.D.Disk.reads_now c.serve.new.disk) c.take.new.self c.take.ensures.after c.clear.new.self c.clear.ensures;
-  at_rest = λ live settled down. absurd (let clash : ◌≡◌ {A = Bool} false true = settled in cc);
+  at_rest = λ live down. tt;
 }
 
 pub returns-in-Err-Stopped-clause-served : goal.returns-in-Err-Stopped-clause-served

@@ -1,4 +1,4 @@
-use Rattle.std.proofs.Common.{◌≡◌, ◌∙◌, ◌≤◌, sym, ap, subst, Bool, true, false}
+use Rattle.std.proofs.Common.{◌≡◌, ◌∙◌, ◌≤◌, sym, ap, subst}
 use Rattle.disk_model.specs.Disk.{DiskState}
 use Rattle.service_core.specs.Shipping.{halted}
 use Rattle.service_core.specs.Sound.{IsSoundWithin}
@@ -17,8 +17,5 @@ invariant_of-self g c = record {
       subst (λ (w : Within). IsSoundWithin (record w { disk = g.D.Disk.state c.replace.new.dest })) {x = halted old} (sym {a = held} same)
       (subst (λ (d : DiskState). IsSoundWithin (record (halted old) { disk = d })) (sym disk)
       (taken_soundly old (g.D.Disk.state c.args.disk) c.requires.journals.0 c.requires.journals.1 c.requires.room crashes (g.met.D.Disk.reads_now c.args.disk)));
-  at_rest = λ live settled down.
-      let held : Within = record { grants = c.self.inside.grants; disk = g.D.Disk.state c.self.inside.disk; core = c.self.inside.core; held = c.self.inside.held; notes = c.self.inside.notes } in
-      let same : held ≡ halted c.args.self.now = c.self.view_is ∙ c.unanswer.ensures in
-      absurd (let clash : ◌≡◌ {A = Bool} false true = sym (ap (λ (w : Within). w.notes.is_settled) same) ∙ settled in cc);
+  at_rest = λ live down. tt;
 }

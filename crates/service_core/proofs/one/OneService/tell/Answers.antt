@@ -21,7 +21,7 @@ invariant_of-self g c = record {
       let end = g.D.Disk.state c.tell_outcome.new.disk in
       let is_up : old.core ≡ Some c.in-Some.core = sym c.in-Some.ensures.value in
       asks_soundly old c.in-Some.core is_up (c.self.invariant.kept live) c.args.x.now end c.tell_outcome.new.core c.in-Ok.verdict c.answer_of.result c.answer_of.ensures.answer c.answer_of.ensures.told c.in-Ok.ensures;
-  at_rest = λ live settled down. absurd (let clash : ◌≡◌ {A = Bool} true false = down in cc);
+  at_rest = λ live down. absurd (let clash : ◌≡◌ {A = Bool} true false = down in cc);
 }
 
 pub returns-in-Ok-clause-asked : goal.returns-in-Ok-clause-asked
@@ -50,7 +50,7 @@ invariant_of-self-in-Err-Stopped g c = record {
       let is_up : old.core ≡ Some c.in-Some.core = sym c.in-Some.ensures.value in
       let stopped = subst (λ (f : ServeFault). Tells c.args.x.now (Err f) c.in-Some.core old.disk c.tell_outcome.new.core end) c.in-Err-Stopped.field-0-is c.in-Err-Stopped.ensures in
       halts_soundly old c.in-Some.core is_up (c.self.invariant.kept live) c.args.x.now end stopped (g.met.D.Disk.reads_now c.tell_outcome.new.disk) c.take.new.self c.take.ensures.after c.clear.new.self c.clear.ensures;
-  at_rest = λ live settled down. absurd (let clash : ◌≡◌ {A = Bool} false true = settled in cc);
+  at_rest = λ live down. tt;
 }
 
 pub returns-in-Err-Stopped-clause-asked : goal.returns-in-Err-Stopped-clause-asked
