@@ -5,8 +5,9 @@ use Rattle.std.proofs.lemmas.Bool.Decides.{nat_tests}
 use Rattle.svc_values.specs.declared.entry.Ltxid.{Ltxid}
 use Rattle.svc_values.specs.meaning.Identifiers.{same_ltxid}
 use Rattle.run_clauses.specs.meaning.Tried.{holds, ids_differ}
+use Rattle.identifier_sets.proofs.Offered.{same_symm}
 use Rattle.entry_check.specs.Once.{known_in}
-use Rattle.entry_check.proofs.Sets.{same_symm, are_one}
+use Rattle.entry_check.proofs.Sets.{are_one}
 
 -- one more identifier
 pub known_cons : (p : Ltxid → Bool) (x : Ltxid) (ids : List Ltxid) → known_in p (x ∷ ids) ≡ cond (p x) 1 0 + known_in p ids

@@ -6,8 +6,8 @@ use Rattle.svc_values.specs.declared.entry.Entry.{Entry}
 use Rattle.svc_values.specs.meaning.Identifiers.{same_ltxid}
 use Rattle.run_clauses.specs.meaning.Tried.{holds, ids_differ}
 use Rattle.run_clauses.specs.meaning.Once.{count_in, entries_differ}
+use Rattle.identifier_sets.proofs.Offered.{same_symm}
 use Rattle.entry_check.specs.Once.{known_in, ids_of}
-use Rattle.entry_check.proofs.Sets.{same_symm}
 use Rattle.entry_check.proofs.Counting.{known_swap}
 
 pub holds_entry : (entries : List Entry) (x : Ltxid) → list_any (λ entry. same_ltxid x entry.ltxid) entries ≡ holds (ids_of entries) x

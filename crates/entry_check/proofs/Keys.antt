@@ -1,17 +1,10 @@
--- Keys of two and of three numbers.
+-- Sessions as keys of two numbers.
 use Rattle.std.proofs.Common.{◌≡◌, ℕ, List, [], ◌∷◌, map, Bool, eqb, ◌&&◌, ◌||◌, refl, ap}
 use Rattle.svc_values.specs.Keys.{is_key}
 use Rattle.svc_values.specs.declared.entry.Ltxid.{Ltxid}
-use Rattle.svc_values.specs.meaning.Identifiers.{same_ltxid, is_of_session}
-use Rattle.run_clauses.specs.meaning.Tried.{holds}
+use Rattle.svc_values.specs.meaning.Identifiers.{is_of_session}
 use Rattle.run_clauses.specs.meaning.Sessions.{is_foreign}
-use Rattle.entry_check.specs.Ids.{key_of, ltxid_at, same_key, session_at}
-
--- ---- keys
-
-pub key_holds : (keys : List (ℕ × ℕ × ℕ)) (x : Ltxid) → is_key same_key keys (key_of x) ≡ holds (map ltxid_at keys) x
-key_holds [] x = refl
-key_holds (key ∷ keys) x = ap (λ b. same_ltxid x (ltxid_at key) || b) (key_holds keys x)
+use Rattle.entry_check.specs.Ids.{session_at}
 
 abbrev pub same_pair : ℕ × ℕ → ℕ × ℕ → Bool
 same_pair a b = eqb a.0 b.0 && eqb a.1 b.1

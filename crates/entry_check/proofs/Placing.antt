@@ -14,10 +14,11 @@ use Rattle.outage_schedule.specs.declared.document.Document.{Document}
 use Rattle.outage_schedule.specs.declared.report.Report.{Report}
 use Rattle.run_clauses.specs.meaning.Tried.{holds, tried_fits}
 use Rattle.run_clauses.specs.meaning.Once.{entries_in, entries_differ, entries_tried_once, once}
-use Rattle.entry_check.specs.Ids.{same_key, key_of, as_list}
+use Rattle.identifier_sets.specs.Keys.{same_key, key_of}
+use Rattle.identifier_sets.proofs.Offered.{same_symm}
+use Rattle.entry_check.specs.Ids.{as_list}
 use Rattle.entry_check.specs.Once.{known_in, ids_of}
 use Rattle.entry_check.specs.InnerPlaces.{Finds}
-use Rattle.entry_check.proofs.Sets.{same_symm}
 use Rattle.entry_check.proofs.Entries.{count_known, differ_as_ids}
 
 -- where `Once` holds, identifiers of entries differ

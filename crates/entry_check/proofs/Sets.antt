@@ -1,25 +1,19 @@
 -- Lists of identifiers that differ, and the sets that they are.
-use Rattle.std.proofs.Common.{◌≡◌, ◌+◌, List, [], ◌∷◌, ◌++◌, Bool, true, false, not, ◌&&◌, ◌||◌, refl, sym, ap, ◌∙◌}
+use Rattle.std.proofs.Common.{◌≡◌, List, [], ◌∷◌, ◌++◌, Bool, true, false, not, ◌&&◌, ◌||◌, refl, sym, ap, ◌∙◌}
 use Rattle.std.proofs.Math.Path.{fun_ext}
-use Rattle.std.specs.Bool.{Decides, one_answer}
 use Rattle.std.specs.List.{list_any}
 use Rattle.std.proofs.lemmas.List.Folds.{list_any-append}
 use Rattle.svc_values.specs.declared.entry.Ltxid.{Ltxid}
 use Rattle.svc_values.specs.meaning.Identifiers.{same_ltxid}
 use Rattle.svc_values.specs.SameLaws.{same_ltxid_decides}
 use Rattle.run_clauses.specs.meaning.Tried.{holds, ids_differ}
+use Rattle.identifier_sets.proofs.Offered.{same_symm}
 
 pub same_self : (x : Ltxid) → same_ltxid x x ≡ true
 same_self x = (same_ltxid_decides x x).1 refl
 
 pub are_one : (x y : Ltxid) → same_ltxid x y ≡ true → x ≡ y
 are_one x y = (same_ltxid_decides x y).0
-
-flipped : (x y : Ltxid) → Decides (same_ltxid y x) (x ≡ y)
-flipped x y = let d = same_ltxid_decides y x in (λ h. sym (d.0 h), λ e. d.1 (sym e))
-
-pub same_symm : (x y : Ltxid) → same_ltxid x y ≡ same_ltxid y x
-same_symm x y = one_answer (same_ltxid x y) (same_ltxid y x) (same_ltxid_decides x y) (flipped x y)
 
 -- ---- identifiers that differ from those met before
 

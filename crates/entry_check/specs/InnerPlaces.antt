@@ -4,7 +4,8 @@ use Rattle.svc_values.specs.Keys.{value_of}
 use Rattle.svc_values.specs.declared.entry.Ltxid.{Ltxid}
 use Rattle.svc_values.specs.declared.entry.Entry.{Entry}
 use Rattle.run_clauses.specs.meaning.Once.{entries_in}
-use Rattle.entry_check.specs.Ids.{same_key, key_of, as_list}
+use Rattle.identifier_sets.specs.Keys.{same_key, key_of}
+use Rattle.entry_check.specs.Ids.{as_list}
 
 -- beside each key is the place of the only entry of its identifier
 abbrev pub Finds : List ((ℕ × ℕ × ℕ) × ℕ) → List Entry → Type 0

@@ -5,8 +5,8 @@ ghost use Rattle.run_clauses.specs.meaning.Tried.{holds, ids_differ};
 ghost use Rattle.entry_check.specs.Ids.{ids_in};
 
 use crate::gather::IdAt;
-use crate::ids::Ids;
 use crate::place::Place;
+use identifier_sets::Ids;
 use std::alloc::Global;
 use svc_values::NoMemory;
 

@@ -6,7 +6,6 @@ mod copies;
 mod found;
 mod gather;
 mod granting;
-mod ids;
 mod known;
 mod once;
 mod outside;

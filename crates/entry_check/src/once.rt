@@ -10,11 +10,11 @@ ghost use Rattle.entry_check.specs.Once.{known_in, copies_known, most_of as most
 use crate::copies::{CopiesFault, JudgesCopies, fault_of_scripts};
 use crate::found::set_of;
 use crate::gather::{IdAt, ids_of_entries, ids_of_lists};
-use crate::ids::Ids;
 use crate::outside::{OutsideSessions, outside_sessions};
 use crate::place::{Part, Place, pointer_to};
 use crate::requests::fault_of_requests;
 use crate::tried::{EndsRight, HasLists, HasOne, known_in as count_known};
+use identifier_sets::Ids;
 use json_form::Pointer;
 use outage_schedule::{Document, Ltxids, Report, Request, RequestReport};
 use std::alloc::Global;

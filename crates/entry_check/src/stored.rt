@@ -4,7 +4,7 @@ ghost use Rattle.std.specs.Option.{option_map};
 ghost use Rattle.run_clauses.specs.meaning.Once.{entries_differ, entries_in};
 ghost use Rattle.entry_check.specs.Ids.{as_list};
 
-use crate::ids::{Key, key_of};
+use identifier_sets::{Key, key_of};
 use std::alloc::Global;
 use std::marker::Model;
 use svc_values::{Entry, KeyMap, Ltxid, NoMemory};

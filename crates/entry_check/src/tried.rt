@@ -1,13 +1,12 @@
 //! The lists of identifiers that a request tried, and the entries among them.
 ghost use Rattle.std.specs.Prelude.{◌≡◌, ◌<◌, ◌^◌, is_none, length, filter, drop};
 ghost use Rattle.std.specs.List.{list_all};
-ghost use Rattle.svc_values.specs.meaning.Identifiers.{same_ltxid};
 ghost use Rattle.run_clauses.specs.meaning.Tried.{holds, has_its_lists};
 ghost use Rattle.entry_check.specs.Once.{is_end as is_end_def, known_in as known_in_def, first_of, may_end as may_end_def, ends_right as ends_right_def, ended_right as ended_right_def, over_behind as over_behind_def, at_most_one};
 
-use crate::ids::Ids;
 use crate::place::Part;
 use crate::requests::JudgesRequest;
+use identifier_sets::{Ids, is_same};
 use outage_schedule::{Failure, Ltxids, RequestReport, ShownCall};
 use svc_values::{Ltxid, ends_committed, ends_transaction};
 
@@ -84,13 +83,6 @@ pub(crate) fn list_at(lists: &[Ltxids], at: usize) -> &[Ltxid]
         Some(ids) => ids.as_slice(),
         None => &[],
     }
-}
-
-/// Whether two identifiers are one.
-fn is_same(one: &Ltxid, other: &Ltxid) -> bool
-    ensures { result ≡ same_ltxid one.now other.now }
-{
-    one == other
 }
 
 /// Whether an identifier is among these. Linear.

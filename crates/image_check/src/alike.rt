@@ -1,21 +1,13 @@
 //! What is the same as far as a report prints it.
 ghost use Rattle.std.specs.Prelude.{◌≡◌, ◌≤◌, ◌++◌, length, take, drop};
 ghost use Rattle.std.specs.Cmp.Lexicographic.{pointwise};
-ghost use Rattle.svc_values.specs.meaning.Identifiers.{same_ltxid as same_ltxid_def};
 ghost use Rattle.svc_values.specs.meaning.Same.{same_bool as same_bool_def, same_call, same_answers, same_draws};
 ghost use Rattle.run_clauses.specs.meaning.Comparing.{same_base as same_base_def, same_printed_rows};
 
 use commit_log::{Base, BaseSequence, BaseTable};
 use equality_laws::tests_equality;
+use identifier_sets::is_same;
 use svc_values::{Answers, Call, Column, Draws, Entry, Ltxid, Piece, Row, Text};
-
-fn is_same(one: &Ltxid, other: &Ltxid) -> bool
-    ensures { result ≡ same_ltxid_def one.now other.now }
-{
-    one.incarnation == other.incarnation
-        && one.session == other.session
-        && one.number == other.number
-}
 
 fn same_bool(one: bool, other: bool) -> bool
     ensures { result ≡ same_bool_def one other }

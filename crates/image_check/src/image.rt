@@ -66,7 +66,9 @@ fn is_grown(before: &Journal, report: &Report, journal: &Journal) -> bool
 /// Whether the journal's tables are those that the report prints.
 fn has_tables(alloc: Global, report: &Report, journal: Journal) -> Result<bool, NoMemory>
     requires { IsUsable journal }
-    ensures { IfOk result (λ has. has ≡ pointwise same_report_table report.now.tables (printed_tables journal.base (tables_def journal))) }
+    ensures { IfOk result (λ has. has
+        ≡ pointwise same_report_table report.now.tables
+        (printed_tables journal.base (tables_def journal))) }
 {
     let Journal { base, entries, .. } = journal;
     let tables = tables_of(alloc, base, entries.as_slice())?;
@@ -87,7 +89,8 @@ fn is_after(
     journal: Journal,
 ) -> Result<bool, NoMemory>
     requires { IsUsable journal }
-    ensures { IfOk result (λ is. is ≡ (follows before.now report.now journal && (journal.horizon == report.now.forgotten))) }
+    ensures { IfOk result (λ is. is
+        ≡ (follows before.now report.now journal && (journal.horizon == report.now.forgotten))) }
 {
     if !has_horizon(report, &journal) {
         return Ok(false);

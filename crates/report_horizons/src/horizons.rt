@@ -92,7 +92,8 @@ impl OpeningsAt {
 
     /// The incarnation that goes on ends.
     fn end(&mut self) -> Result<(), NoMemory>
-        ensures is { OnOk result (openings_as self.new ≡ after_note (openings_as self.old) (note.Crash 0 false)) }
+        ensures is { OnOk result (openings_as self.new
+            ≡ after_note (openings_as self.old) (note.Crash 0 false)) }
         ensures tick { self.new.tick ≡ self.old.tick }
     {
         let Some(incarnation) = self.running else {
@@ -109,7 +110,8 @@ impl OpeningsAt {
     /// Goes on behind a note.
     fn follow(&mut self, note: &Note) -> Result<(), NoMemory>
         requires { self.old.tick < 2 ^ 63 }
-        ensures is { OnOk result (openings_as self.new ≡ after_note (openings_as self.old) note.now) }
+        ensures is { OnOk result (openings_as self.new
+            ≡ after_note (openings_as self.old) note.now) }
         ensures tick { self.new.tick ≤ self.old.tick + 1 }
     {
         match note {
@@ -137,7 +139,8 @@ impl OpeningsAt {
 
     /// The horizon that a note wants at its event, if it is that of an opening.
     fn wanted_at(&self, retention: u64, event: u64, note: &Note) -> Option<WantedAt>
-        ensures { as_list (option_map wanted_as result) ≡ wanted_at_def retention event (openings_as self.now) note.now }
+        ensures { as_list (option_map wanted_as result)
+            ≡ wanted_at_def retention event (openings_as self.now) note.now }
     {
         let Note::Up {
             incarnation: Some(_),
@@ -159,7 +162,8 @@ fn wanted_by(
     notes: &[Note],
 ) -> Result<Vec<WantedAt>, NoMemory>
     requires { first.tick ≡ 0 }
-    ensures { IfOk result (λ all. all_wanted all.items ≡ wanted_from retention 1 (openings_as first) notes.now) }
+    ensures { IfOk result (λ all. all_wanted all.items
+        ≡ wanted_from retention 1 (openings_as first) notes.now) }
 {
     let mut all = Vec::new(alloc);
     let mut openings = first;
@@ -182,7 +186,8 @@ pub fn wanted_in(
     notes: &[Note],
 ) -> Result<Vec<WantedAt>, NoMemory>
     requires { last ≤ 2 ^ 63 }
-    ensures { IfOk result (λ all. all_wanted all.items ≡ wanted_from retention 1 (first_opening opened last) notes.now) }
+    ensures { IfOk result (λ all. all_wanted all.items
+        ≡ wanted_from retention 1 (first_opening opened last) notes.now) }
 {
     let first = OpeningsAt::first(alloc, opened, last)?;
     wanted_by(alloc, first, retention, notes)

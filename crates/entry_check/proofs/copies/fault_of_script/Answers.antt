@@ -1,4 +1,4 @@
-use Rattle.std.proofs.Common.{◌∙◌, ◌&&◌, ◌+◌, true, List, sym, ap, arith, take, drop, length}
+use Rattle.std.proofs.Common.{◌∙◌, ◌&&◌, ◌+◌, List, sym, ap, arith, take, drop, length}
 use Rattle.std.specs.Prelude.{is_none}
 use Rattle.std.specs.List.{list_all}
 use Rattle.std.proofs.Common.{length-drop}

@@ -1,4 +1,4 @@
-use Rattle.std.proofs.Common.{◌+◌, List, drop, true, false, sym, ap, ◌∙◌}
+use Rattle.std.proofs.Common.{◌+◌, List, drop, sym, ap, ◌∙◌}
 use Rattle.svc_values.specs.declared.entry.Ltxid.{Ltxid}
 use Rattle.run_clauses.specs.meaning.Tried.{holds}
 use Rattle.entry_check.specs.Ids.{ids_in}
@@ -18,9 +18,9 @@ loop-one-preserved c =
     let i = c.loop-one.one-index in
     let rest = ids_in (drop (i + 1) all) in
     let old = c.loop-one.ids in
-    let added = c.in_ok-add.ensures in
+    let added = c.in_ok-add.ensures.held in
     record {
-      rest = sym (differ_on old c.add.new.self _ rest (sym c.has.ensures ∙ c.if-has.false) added)
+      rest = sym (differ_on old c.add.new.self _ rest (sym c.has.ensures.held ∙ c.if-has.false) added)
           ∙ ap (differ_from (holds old)) (sym (first_left all i _ c.loop-one-test.true))
           ∙ c.loop-one.invariant.rest;
       met = met_more all i _ old c.add.new.self c.loop-one-test.true added c.loop-one.invariant.met;
