@@ -1,9 +1,4 @@
-mod Keyed
-mod Lists
 mod Marks
-mod Counted
-mod Merging
-mod CommitsAt
 mod ToldIn
 mod BlocksOn
 mod StoredLines

@@ -7,8 +7,9 @@ use Rattle.svc_values.specs.declared.entry.Entry.{Entry}
 use Rattle.svc_values.specs.meaning.Identifiers.{same_ltxid}
 use Rattle.svc_values.specs.SameLaws.{same_ltxid_decides}
 use Rattle.run_clauses.specs.meaning.Outcomes.{completed_of}
-use Rattle.stored_check.specs.Keys.{key_of, same_key, mark_of, or_else, first_of}
-use Rattle.stored_check.proofs.Keyed.{same_symm}
+use Rattle.identifier_sets.specs.Keys.{key_of, same_key}
+use Rattle.identifier_sets.proofs.Offered.{same_symm}
+use Rattle.stored_check.specs.Keys.{mark_of, or_else, first_of}
 
 -- ---- one entry
 

@@ -5,7 +5,7 @@ use Rattle.std.specs.Prelude.{Option, Some, None, is_none, is_some}
 use Rattle.std.proofs.lemmas.Bool.{eqb-true}
 use Rattle.std.specs.List.{list_all}
 use Rattle.svc_values.specs.declared.entry.Ltxid.{Ltxid}
-use Rattle.svc_values.specs.declared.entry.Entry.{Entry}
+use Rattle.svc_values.specs.declared.entry.SessionId.{SessionId}
 use Rattle.svc_values.specs.meaning.Identifiers.{session_of}
 use Rattle.ltxid_book.specs.meaning.Journal.{is_blocked}
 use Rattle.outage_schedule.specs.declared.item.Item.{Item}
@@ -14,7 +14,6 @@ use Rattle.outage_schedule.specs.declared.document.Document.{Document}
 use Rattle.outage_schedule.specs.declared.report.Report.{Report}
 use Rattle.run_clauses.specs.meaning.Before.{journal_before}
 use Rattle.run_clauses.specs.meaning.Moments.{Happened, HappenedAt, ServedItem, RanOutside, Asked, moments}
-use Rattle.run_clauses.specs.meaning.EntryEvents.{StoredEntry, stored_before}
 use Rattle.run_clauses.specs.meaning.Horizons.{Wanted, raised, last_horizon}
 use Rattle.run_clauses.specs.meaning.Outcomes.{completed_of}
 use Rattle.run_clauses.specs.meaning.Images.{image_fits}
@@ -32,13 +31,13 @@ marks_same known k completed blocked =
     let two : (λ x. is_blocked known.blocked x) ≡ (λ x. is_blocked k.blocked x) = fun_ext blocked in
     (λ i. record { completed = one i; blocked = two i })
 
--- how far sessions and the horizon have come, by these lists
-abbrev pub timing_by : List Entry → List StoredEntry → ℕ → List Wanted → Timing
-timing_by image all horizon openings = record { next = λ event x. stored_before image all (session_of x) event; horizon = λ event. raised horizon openings event }
+-- how far sessions and the horizon have come, by these numbers
+abbrev pub timing_by : (SessionId → ℕ → ℕ) → ℕ → List Wanted → Timing
+timing_by numbers horizon openings = record { next = λ event x. numbers (session_of x) event; horizon = λ event. raised horizon openings event }
 
-pub timing_same : (image image' : List Entry) (all all' : List StoredEntry) (horizon horizon' : ℕ) (openings openings' : List Wanted)
-    → image ≡ image' → all ≡ all' → horizon ≡ horizon' → openings ≡ openings' → timing_by image all horizon openings ≡ timing_by image' all' horizon' openings'
-timing_same image image' all all' horizon horizon' openings openings' one two three four = (λ i. timing_by (one i) (two i) (three i) (four i))
+pub timing_same : (numbers numbers' : SessionId → ℕ → ℕ) (horizon horizon' : ℕ) (openings openings' : List Wanted)
+    → ((session : SessionId) (event : ℕ) → numbers session event ≡ numbers' session event) → horizon ≡ horizon' → openings ≡ openings' → timing_by numbers horizon openings ≡ timing_by numbers' horizon' openings'
+timing_same numbers numbers' horizon horizon' openings openings' one two three = (λ i. timing_by (λ session event. one session event i) (two i) (three i))
 
 -- ---- answers
 

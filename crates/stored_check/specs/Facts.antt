@@ -17,7 +17,7 @@ use Rattle.run_clauses.specs.meaning.Horizons.{raised}
 use Rattle.run_clauses.specs.meaning.Outcomes.{completed_of, outcome_of, is_told, is_uncommitted, says_forgotten, is_forgotten}
 use Rattle.run_clauses.specs.meaning.Stored.{Kept}
 use Rattle.stored_check.specs.Keys.{mark_of}
-use Rattle.stored_check.specs.Commits.{all_stored}
+use Rattle.entry_events.specs.Numbering.{before}
 use Rattle.report_horizons.specs.Horizons.{all_wanted}
 use Rattle.stored_check.specs.declared.known.Known.{Known}
 use Rattle.stored_check.specs.declared.answers.Times.{Times}
@@ -58,7 +58,7 @@ pub record Timing : Type 0 where
 
 abbrev pub timing_in : Times → Timing
 timing_in times = record {
-  next = λ event x. stored_before times.image.now (all_stored times.stored.items) (session_of x) event;
+  next = λ event x. before times.numbers (session_of x) event;
   horizon = λ event. raised times.horizon (all_wanted times.openings.items) event;
 }
 

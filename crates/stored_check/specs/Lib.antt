@@ -1,6 +1,4 @@
 pub mod Keys
-pub mod Moments
-pub mod Commits
 pub mod Facts
 pub mod Told
 pub mod Blocking

@@ -1,33 +1,32 @@
 //! What was answered at events, beside the journal.
 ghost use Rattle.std.specs.Prelude.{◌≡◌, is_none};
 ghost use Rattle.std.specs.List.{list_all};
-ghost use Rattle.stored_check.specs.Moments.{happened_as, moments_as};
+ghost use Rattle.report_moments.specs.Views.{happened_as, moments_as};
 ghost use Rattle.stored_check.specs.Facts.{marks_in, timing_in, is_answer as is_answer_def, is_item_right as is_item_right_def, is_right_at as is_right_at_def, is_right};
 
 use crate::known::Known;
-use crate::moments::{Moment, What};
 use crate::place::Place;
-use crate::stored::{StoredAt, stored_before};
 use crate::told::{is_rightly_forgotten, is_told, is_uncommitted};
+use entry_events::Numbers;
 use outage_schedule::{AskResult, Item};
 use report_horizons::{WantedAt, raised};
-use svc_values::{Entry, Ltxid};
+use report_moments::{Moment, What};
+use svc_values::Ltxid;
 
-/// When entries were stored, beside those of an image, and how the horizon rises.
+/// When entries were stored, and how the horizon rises.
 #[derive(Drop)]
-pub(crate) struct Times<'a> {
-    pub(crate) image: &'a [Entry],
-    pub(crate) stored: Vec<StoredAt>,
+pub(crate) struct Times {
+    pub(crate) numbers: Numbers,
     pub(crate) horizon: u64,
     pub(crate) openings: Vec<WantedAt>,
 }
 
-impl Times<'_> {
+impl Times {
     /// The number of the session's next identifier before an event.
     fn next_at(&self, event: u64, ltxid: &Ltxid) -> u64
         ensures { result ≡ (timing_in self.now).next event ltxid.now }
     {
-        stored_before(self.image, self.stored.as_slice(), ltxid, event)
+        self.numbers.before(&ltxid.session_of(), event)
     }
 
     /// The horizon before an event.
@@ -39,14 +38,9 @@ impl Times<'_> {
 }
 
 /// Whether it is answered as the journal has it.
-fn is_answer(
-    known: &Known,
-    times: &Times<'_>,
-    event: u64,
-    ltxid: &Ltxid,
-    answer: &AskResult,
-) -> bool
-    ensures { result ≡ is_answer_def (marks_in known.now) (timing_in times.now) event ltxid.now answer.now }
+fn is_answer(known: &Known, times: &Times, event: u64, ltxid: &Ltxid, answer: &AskResult) -> bool
+    ensures { result
+        ≡ is_answer_def (marks_in known.now) (timing_in times.now) event ltxid.now answer.now }
 {
     let horizon = times.horizon_before(event);
     let next = times.next_at(event, ltxid);
@@ -56,7 +50,7 @@ fn is_answer(
 }
 
 /// Whether what an item answered is right.
-fn is_item_right(known: &Known, times: &Times<'_>, event: u64, item: &Item) -> bool
+fn is_item_right(known: &Known, times: &Times, event: u64, item: &Item) -> bool
     ensures { result ≡ is_item_right_def (marks_in known.now) (timing_in times.now) event item.now }
 {
     match item {
@@ -69,8 +63,9 @@ fn is_item_right(known: &Known, times: &Times<'_>, event: u64, item: &Item) -> b
 }
 
 /// Whether what was answered at a moment is right.
-fn is_right_at(known: &Known, times: &Times<'_>, moment: &Moment<'_>) -> bool
-    ensures { result ≡ is_right_at_def (marks_in known.now) (timing_in times.now) moment.now.event (happened_as moment.now.what) }
+fn is_right_at(known: &Known, times: &Times, moment: &Moment<'_>) -> bool
+    ensures { result ≡ is_right_at_def (marks_in known.now) (timing_in times.now)
+        moment.now.event (happened_as moment.now.what) }
 {
     match &moment.what {
         What::Asked { ltxid, told } => is_answer(known, times, moment.event, ltxid, told),
@@ -80,17 +75,14 @@ fn is_right_at(known: &Known, times: &Times<'_>, moment: &Moment<'_>) -> bool
 }
 
 /// The first moment at which the journal has it otherwise. For each question it is linear in the
-/// entries and in the openings.
-pub(crate) fn wrong_answer(
-    known: &Known,
-    times: &Times<'_>,
-    moments: &[Moment<'_>],
-) -> Option<Place>
-    ensures { is_none result ≡ list_all (is_right (marks_in known.now) (timing_in times.now)) (moments_as moments.now) }
+/// openings, and it takes the logarithm of the number of entries.
+pub(crate) fn wrong_answer(known: &Known, times: &Times, moments: &[Moment<'_>]) -> Option<Place>
+    ensures { is_none result
+        ≡ list_all (is_right (marks_in known.now) (timing_in times.now)) (moments_as moments.now) }
 {
     for moment in moments {
         if !is_right_at(known, times, moment) {
-            return Some(moment.place);
+            return Some(Place::of(moment.at));
         }
     }
     None

@@ -7,14 +7,14 @@ ghost use Rattle.svc_values.specs.meaning.Identifiers.{same_ltxid};
 ghost use Rattle.ltxid_book.specs.meaning.Journal.{is_blocked};
 ghost use Rattle.run_clauses.specs.meaning.Blocks.{Blocks, answered_if as answered_if_def, answered_by_item, answered_at, answered_in as answered_def, blocks_answered, after_answer, is_done as is_done_def, blocks_in_order};
 ghost use Rattle.run_clauses.specs.meaning.Outcomes.{is_uncommitted as is_uncommitted_def};
+ghost use Rattle.report_moments.specs.Views.{happened_as, moments_as};
 ghost use Rattle.stored_check.specs.Blocking.{answered_as, all_answered, is_first, IsAt};
 ghost use Rattle.stored_check.specs.Keys.{as_list};
-ghost use Rattle.stored_check.specs.Moments.{happened_as, moments_as};
 
-use crate::ids::{Ids, is_same};
-use crate::moments::{Moment, What};
 use crate::told::is_uncommitted;
+use identifier_sets::{Ids, is_same};
 use outage_schedule::{AskResult, Item};
+use report_moments::{Moment, What};
 use std::alloc::Global;
 use svc_values::{Ltxid, NoMemory};
 
@@ -28,7 +28,8 @@ pub(crate) struct AnsweredAt {
 
 /// What an answer tells of a block.
 fn answered_if(ltxid: &Ltxid, answer: &AskResult) -> Option<AnsweredAt>
-    ensures { as_list (option_map answered_as result) ≡ answered_if_def (is_uncommitted_def answer.now) ltxid.now }
+    ensures { as_list (option_map answered_as result)
+        ≡ answered_if_def (is_uncommitted_def answer.now) ltxid.now }
 {
     if !is_uncommitted(answer) {
         return None;
@@ -82,7 +83,8 @@ pub(crate) fn answered_in(
 
 /// The set of the identifiers that were answered.
 fn ids_of(alloc: Global, answered: &[AnsweredAt]) -> Result<Ids, NoMemory>
-    ensures { IfOk result (λ ids. (x : Id) → is_blocked ids x ≡ list_any (λ one. same_ltxid one.ltxid x) (all_answered answered.now)) }
+    ensures { IfOk result (λ ids. (x : Id) → is_blocked ids x
+        ≡ list_any (λ one. same_ltxid one.ltxid x) (all_answered answered.now)) }
 {
     let mut ids = Ids::new(alloc);
     for one in answered {
@@ -109,7 +111,8 @@ pub(crate) fn first_unanswered(
     answered: &[AnsweredAt],
     blocked: &[Ltxid],
 ) -> Result<Option<usize>, NoMemory>
-    ensures { IfOk result (λ place. is_none place ≡ blocks_answered (all_answered answered.now) blocked.now) }
+    ensures { IfOk result (λ place. is_none place
+        ≡ blocks_answered (all_answered answered.now) blocked.now) }
 {
     let ids = ids_of(alloc, answered)?;
     Ok(first_other(&ids, blocked))
@@ -164,7 +167,8 @@ impl Blocking<'_> {
 
     /// Goes on behind an answer.
     fn follow(&mut self, one: &AnsweredAt) -> Result<(), NoMemory>
-        ensures { OnOk result ((blocks : Blocks) → IsAt self.old blocks → IsAt self.new (after_answer blocks (answered_as one.now))) }
+        ensures { OnOk result ((blocks : Blocks) → IsAt self.old blocks
+            → IsAt self.new (after_answer blocks (answered_as one.now))) }
     {
         if self.done.has(&one.ltxid) {
             return Ok(());
@@ -200,7 +204,9 @@ pub(crate) fn first_disordered(
     answered: &[AnsweredAt],
     blocked: &[Ltxid],
 ) -> Result<Option<usize>, NoMemory>
-    ensures { IfOk result (λ place. (before : List Id) → ((x : Id) → is_blocked done x ≡ is_blocked before x) → is_none place ≡ blocks_in_order before (all_answered answered.now) blocked.now) }
+    ensures { IfOk result (λ place. (before : List Id)
+        → ((x : Id) → is_blocked done x ≡ is_blocked before x)
+        → is_none place ≡ blocks_in_order before (all_answered answered.now) blocked.now) }
 {
     let mut blocking = Blocking {
         done,

@@ -4,7 +4,7 @@ ghost use Rattle.svc_values.specs.declared.entry.Ltxid.{Ltxid as Id};
 ghost use Rattle.run_clauses.specs.meaning.Outcomes.{completed_of};
 ghost use Rattle.stored_check.specs.Keys.{mark_of, first_of, or_else};
 
-use crate::ids::{Key, key_of};
+use identifier_sets::{Key, key_of};
 use std::alloc::Global;
 use std::marker::Model;
 use svc_values::{Entry, KeyMap, Ltxid, NoMemory};
@@ -37,7 +37,8 @@ impl Completed {
 
     /// Adds an entry, where none of its identifier is there.
     fn add(&mut self, entry: &Entry) -> Result<(), NoMemory>
-        ensures { OnOk result ((x : Id) → mark_of self.new x ≡ first_of (mark_of self.old x) entry.now x) }
+        ensures { OnOk result ((x : Id) → mark_of self.new x
+            ≡ first_of (mark_of self.old x) entry.now x) }
     {
         let key = key_of(&entry.ltxid);
         if self.marks.has(&key) {
@@ -49,7 +50,8 @@ impl Completed {
 
     /// Adds entries, in their order.
     fn add_all(&mut self, entries: &[Entry]) -> Result<(), NoMemory>
-        ensures { OnOk result ((x : Id) → mark_of self.new x ≡ or_else (mark_of self.old x) (completed_of entries.now x)) }
+        ensures { OnOk result ((x : Id) → mark_of self.new x
+            ≡ or_else (mark_of self.old x) (completed_of entries.now x)) }
     {
         for entry in entries {
             self.add(entry)?;
@@ -63,7 +65,8 @@ impl Completed {
         before: &[Entry],
         entries: &[Entry],
     ) -> Result<Completed, NoMemory>
-        ensures { IfOk result (λ all. (x : Id) → mark_of all x ≡ completed_of (before.now ++ entries.now) x) }
+        ensures { IfOk result (λ all. (x : Id) → mark_of all x
+            ≡ completed_of (before.now ++ entries.now) x) }
     {
         let mut all = Completed {
             marks: KeyMap::new(alloc),

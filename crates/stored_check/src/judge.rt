@@ -4,65 +4,48 @@ ghost use Rattle.std.specs.List.{list_all};
 ghost use Rattle.doc_reader.specs.Keeping.{IsDocument};
 ghost use Rattle.run_clauses.specs.meaning.Before.{journal_before as journal_def};
 ghost use Rattle.run_clauses.specs.meaning.Moments.{moments as moments_def};
-ghost use Rattle.run_clauses.specs.meaning.EntryEvents.{stored_entries};
 ghost use Rattle.run_clauses.specs.meaning.Stored.{kept_by, stored as stored_def};
-ghost use Rattle.stored_check.specs.Commits.{all_stored};
+ghost use Rattle.report_moments.specs.Views.{moments_as};
 ghost use Rattle.stored_check.specs.Facts.{marks_in, has_no_entry, timing_in, timing_of};
 ghost use Rattle.stored_check.specs.Judging.{is_told_right, are_blocks, is_stored_right};
-ghost use Rattle.stored_check.specs.Moments.{moments_as};
 
 use crate::answers::{Times, wrong_answer};
 use crate::blocks::{answered_in, first_disordered, first_unanswered};
-use crate::commits::commits_in;
 use crate::known::{Known, set_of};
-use crate::moments::{Moment, moments_of};
 use crate::opened::{last_incarnation, was_opened};
 use crate::place::{Place, pointer_to};
-use crate::stored::{StoredAt, stored_at};
 use before_run::journal_before;
 use commit_log::Journal;
+use entry_events::Numbers;
 use image_check::image_fits;
 use json_form::Pointer;
 use outage_schedule::{Document, Report};
 use report_horizons::wanted_in;
+use report_moments::{Moment, moments_of};
 use std::alloc::Global;
 use svc_values::{Ltxid, NoMemory};
 
-/// The entries of a report, each with the event at which it was stored.
-fn stored_in(
-    alloc: Global,
-    report: &Report,
-    moments: &[Moment<'_>],
-) -> Result<Vec<StoredAt>, NoMemory>
-    requires { moments_as moments.now ≡ moments_def report.now }
-    ensures { IfOk result (λ all. all_stored all.items ≡ stored_entries report.now) }
-{
-    let entries = report.entries.as_slice();
-    let commits = commits_in(alloc, entries, moments)?;
-    stored_at(alloc, entries, commits.as_slice())
-}
-
 /// When entries were stored and what horizons were wanted.
-fn times_of<'a>(
+fn times_of(
     alloc: Global,
     document: &Document,
     report: &Report,
-    before: &'a Journal,
+    before: &Journal,
     moments: &[Moment<'_>],
-) -> Result<Times<'a>, NoMemory>
+) -> Result<Times, NoMemory>
     requires document { IsDocument document.now }
     requires before { before.now ≡ journal_def document.now }
     requires moments { moments_as moments.now ≡ moments_def report.now }
     ensures { IfOk result (λ times. timing_in times ≡ timing_of (kept_by document.now report.now)) }
 {
-    let stored = stored_in(alloc, report, moments)?;
+    let image = before.entries.as_slice();
+    let numbers = Numbers::of(alloc, image, report, moments)?;
     let opened = was_opened(alloc, document)?;
     let last = last_incarnation(document, before);
     let retention = document.service.retention;
     let openings = wanted_in(alloc, opened, last, retention, report.notes.as_slice())?;
     Ok(Times {
-        image: before.entries.as_slice(),
-        stored,
+        numbers,
         horizon: before.horizon,
         openings,
     })
@@ -71,11 +54,13 @@ fn times_of<'a>(
 /// The first outcome, answer or horizon that was told otherwise than the journal has it.
 fn wrong_told(
     known: &Known,
-    times: &Times<'_>,
+    times: &Times,
     report: &Report,
     moments: &[Moment<'_>],
 ) -> Option<Place>
-    ensures { is_none result ≡ is_told_right (marks_in known.now) (timing_in times.now) report.now (moments_as moments.now) }
+    ensures { is_none result
+        ≡ is_told_right (marks_in known.now) (timing_in times.now) report.now
+        (moments_as moments.now) }
 {
     let outcome = known.wrong_outcome(report.clients.as_slice());
     if outcome.is_some() {
@@ -95,7 +80,8 @@ fn wrong_told(
 
 /// The first blocked identifier that is an entry's.
 fn blocked_entry(known: &Known, before: &[Ltxid], blocked: &[Ltxid]) -> Option<Place>
-    ensures { is_none result ≡ list_all (has_no_entry (marks_in known.now)) (before.now ++ blocked.now) }
+    ensures { is_none result
+        ≡ list_all (has_no_entry (marks_in known.now)) (before.now ++ blocked.now) }
 {
     if known.first_entry(before).is_some() {
         return Some(Place::AllBlocked);
@@ -121,7 +107,8 @@ fn wrong_order(
     blocked: &[Ltxid],
     moments: &[Moment<'_>],
 ) -> Result<Option<Place>, NoMemory>
-    ensures { IfOk result (λ place. is_none place ≡ are_blocks before.now blocked.now (moments_as moments.now)) }
+    ensures { IfOk result (λ place. is_none place
+        ≡ are_blocks before.now blocked.now (moments_as moments.now)) }
 {
     let answered = answered_in(alloc, moments)?;
     if let Some(at) = first_unanswered(alloc, answered.as_slice(), blocked)? {
@@ -142,7 +129,9 @@ fn wrong_block(
     blocked: &[Ltxid],
     moments: &[Moment<'_>],
 ) -> Result<Option<Place>, NoMemory>
-    ensures { IfOk result (λ place. is_none place ≡ (list_all (has_no_entry (marks_in known.now)) (before.now ++ blocked.now) && are_blocks before.now blocked.now (moments_as moments.now))) }
+    ensures { IfOk result (λ place. is_none place
+        ≡ (list_all (has_no_entry (marks_in known.now)) (before.now ++ blocked.now)
+        && are_blocks before.now blocked.now (moments_as moments.now))) }
 {
     let place = blocked_entry(known, before, blocked);
     if place.is_some() {
@@ -193,8 +182,8 @@ fn stored(alloc: Global, document: &Document, report: &Report) -> Result<Option<
 
 /// Judges `Stored` of a report of a document: `None` exactly where each outcome that was told is the stored
 /// one, and else the place at fault. For a report of size m it takes m log m, and besides for each outcome that
-/// was answered at an event the entries and the openings of the run, for each opening the incarnations
-/// that ended before it, and for each commit that a crash stopped the entries.
+/// was answered at an event the openings of the run, for each opening the incarnations that ended before
+/// it, and for each commit that a crash stopped the entries.
 pub fn judge_stored(
     alloc: Global,
     document: &Document,

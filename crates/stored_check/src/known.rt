@@ -9,9 +9,9 @@ ghost use Rattle.stored_check.specs.Keys.{mark_of};
 ghost use Rattle.stored_check.specs.Facts.{marks_in, has_entry as has_entry_def, has_block as has_block_def, is_stored as is_stored_def, are_stored, has_no_entry};
 
 use crate::completed::Completed;
-use crate::ids::Ids;
 use crate::place::Place;
 use commit_log::Journal;
+use identifier_sets::Ids;
 use outage_schedule::{Outcome, Report, RequestReport, Transcript};
 use std::alloc::Global;
 use svc_values::{Ltxid, NoMemory};
@@ -49,7 +49,8 @@ fn has_block(blocked: &Ids, outcome: &Outcome) -> bool
 
 /// Puts identifiers into a set.
 fn add_all(ids: &mut Ids, more: &[Ltxid]) -> Result<(), NoMemory>
-    ensures { OnOk result ((x : Id) → is_blocked ids.new x ≡ (is_blocked ids.old x || is_blocked more.now x)) }
+    ensures { OnOk result ((x : Id) → is_blocked ids.new x
+        ≡ (is_blocked ids.old x || is_blocked more.now x)) }
 {
     for ltxid in more {
         ids.add(ltxid)?;
@@ -68,7 +69,8 @@ pub(crate) fn set_of(alloc: Global, all: &[Ltxid]) -> Result<Ids, NoMemory>
 
 /// The set of both.
 fn set_of_both(alloc: Global, before: &[Ltxid], more: &[Ltxid]) -> Result<Ids, NoMemory>
-    ensures { IfOk result (λ ids. (x : Id) → is_blocked ids x ≡ is_blocked (before.now ++ more.now) x) }
+    ensures { IfOk result (λ ids. (x : Id) → is_blocked ids x
+        ≡ is_blocked (before.now ++ more.now) x) }
 {
     let mut ids = set_of(alloc, before)?;
     add_all(&mut ids, more)?;
@@ -78,8 +80,10 @@ fn set_of_both(alloc: Global, before: &[Ltxid], more: &[Ltxid]) -> Result<Ids, N
 impl Known {
     /// What a report adds to the journal before it. n log n.
     pub(crate) fn of(alloc: Global, before: &Journal, report: &Report) -> Result<Known, NoMemory>
-        ensures completed { IfOk result (λ known. (x : Id) → mark_of known.completed x ≡ completed_of (before.now.entries ++ report.now.entries) x) }
-        ensures blocked { IfOk result (λ known. (x : Id) → is_blocked known.blocked x ≡ is_blocked (before.now.blocked ++ report.now.blocked) x) }
+        ensures completed { IfOk result (λ known. (x : Id) → mark_of known.completed x
+            ≡ completed_of (before.now.entries ++ report.now.entries) x) }
+        ensures blocked { IfOk result (λ known. (x : Id) → is_blocked known.blocked x
+            ≡ is_blocked (before.now.blocked ++ report.now.blocked) x) }
     {
         let entries = before.entries.as_slice();
         let completed = Completed::of(alloc, entries, report.entries.as_slice())?;
@@ -132,7 +136,8 @@ impl Known {
 
     /// The first outcome that a client was told and that is not the stored one. n log n.
     pub(crate) fn wrong_outcome(&self, clients: &[Transcript]) -> Option<Place>
-        ensures { is_none result ≡ list_all (list_all (are_stored (marks_in self.now))) clients.now }
+        ensures { is_none result
+            ≡ list_all (list_all (are_stored (marks_in self.now))) clients.now }
     {
         for (client, transcript) in clients.iter().enumerate() {
             if let Some(place) = self.wrong_of_client(transcript.as_slice(), client) {

@@ -4,15 +4,11 @@
 
 mod answers;
 mod blocks;
-mod commits;
 mod completed;
-mod ids;
 mod judge;
 mod known;
-mod moments;
 mod opened;
 mod place;
-mod stored;
 mod told;
 
 pub use judge::judge_stored;

@@ -2,6 +2,7 @@
 ghost use Rattle.std.specs.Prelude.{◌≡◌, is_none, IfOk};
 
 use json_form::{DocCode, DocFault, Pointer};
+use report_moments::At;
 use std::alloc::Global;
 use svc_values::NoMemory;
 
@@ -20,6 +21,16 @@ pub(crate) enum Place {
     AllBlocked,
     Blocked(usize),
     Image,
+}
+
+impl Place {
+    /// The place of a moment.
+    pub(crate) fn of(at: At) -> Place {
+        match at {
+            At::Note(number) => Place::Note(number),
+            At::Served(number) => Place::Served(number),
+        }
+    }
 }
 
 /// The fault of an item of a member's array.

@@ -1,7 +1,8 @@
 use Rattle.std.proofs.Common.{◌≡◌, ◌∙◌, true, false, cond, sym, ap, ℕ, List, Bool}
 use Rattle.std.specs.Prelude.{is_some, Some}
 use Rattle.svc_values.specs.Keys.{value_of}
-use Rattle.stored_check.specs.Keys.{same_key, mark_of, first_of}
+use Rattle.identifier_sets.specs.Keys.{same_key}
+use Rattle.stored_check.specs.Keys.{mark_of, first_of}
 use Rattle.stored_check.proofs.Marks.{kept_first, put_first}
 use Rattle.stored_check.proofs.completed.Completed.add.Goals as goal
 

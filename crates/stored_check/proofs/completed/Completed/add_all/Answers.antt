@@ -1,6 +1,6 @@
 use Rattle.std.proofs.Common.{◌∙◌, ◌+◌, drop}
+use Rattle.report_moments.proofs.Offered.{left_is}
 use Rattle.stored_check.specs.Keys.{mark_of}
-use Rattle.stored_check.proofs.Lists.{left_is}
 use Rattle.stored_check.proofs.Marks.{more_first}
 use Rattle.stored_check.proofs.completed.Completed.add_all.Goals as goal
 

@@ -1,0 +1,6 @@
+mod CommitsAt
+mod Counted
+pub mod Offered
+mod Ranks
+mod Runs
+mod Timed

@@ -1,9 +1,0 @@
-use Rattle.std.proofs.Common.{◌∙◌}
-use Rattle.svc_values.specs.meaning.Identifiers.{same_session}
-use Rattle.run_clauses.specs.meaning.EntryEvents.{Commit}
-use Rattle.stored_check.specs.Commits.{commit_as}
-use Rattle.stored_check.proofs.Counted.{counted}
-use Rattle.stored_check.proofs.commits.commits_by.Goals as goal
-
-pub returns : goal.returns
-returns c = c.count_of.ensures ∙ counted (λ (commit : Commit). same_session commit.session c.args.session.now) commit_as c.args.before.now

@@ -1,7 +1,0 @@
-use Rattle.std.proofs.Common.{◌≡◌, ◌++◌, drop}
-use Rattle.run_clauses.specs.meaning.EntryEvents.{stored_at}
-use Rattle.stored_check.specs.Commits.{commits_as, all_stored}
-use Rattle.stored_check.proofs.stored.stored_at.Given as goal
-
-abbrev pub invariant-loop-at : goal.invariant-loop-at
-invariant-loop-at l = all_stored l.all.items ++ stored_at (drop l.at l.entries) (commits_as (drop l.at l.commits)) ≡ stored_at l.entries (commits_as l.commits)
