@@ -1,0 +1,5 @@
+mod Tests
+mod Pushed
+mod Flagged
+mod Going
+mod Steps
