@@ -1,0 +1,5 @@
+mod Standing
+mod Rising
+mod Telling
+mod Looping
+mod Placing
