@@ -1,0 +1,5 @@
+mod Firsts
+mod Giving
+mod Searching
+mod WaysGiven
+mod WaysTaken
