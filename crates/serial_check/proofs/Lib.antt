@@ -2,7 +2,6 @@ mod Courses
 mod FreshPlaces
 mod FreshSteps
 mod Lists
-mod MoreDraws
 mod Named
 mod PrintedTables
 mod Replayed

@@ -12,4 +12,4 @@ mod transaction;
 
 pub use fresh::judge_fresh;
 pub use printed::are_printed;
-pub use serial::judge_serial;
+pub use serial::{judge_serial, names_of};

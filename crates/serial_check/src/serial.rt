@@ -17,8 +17,8 @@ use std::alloc::Global;
 use svc_values::{Entry, Names, NoMemory};
 use table_store::Tables;
 
-/// The names of sequences.
-fn names_of(alloc: Global, sequences: &BaseSequences) -> Result<Names, NoMemory>
+/// The names of sequences, in order. Linear.
+pub fn names_of(alloc: Global, sequences: &BaseSequences) -> Result<Names, NoMemory>
     ensures { IfOk result (λ names. names ≡ map sequence_name sequences.now) }
 {
     let mut names = Vec::new(alloc);

@@ -4,11 +4,12 @@ ghost use Rattle.table_txn.specs.Transactions.{shape_of};
 ghost use Rattle.serial_check.specs.meaning.Places.{pieces_course};
 ghost use Rattle.serial_check.specs.Replaying.{HasCourse};
 
-use crate::again::Rerun;
+use crate::again::goes_on;
 use crate::place;
+use calls_again::Going;
 use json_form::Pointer;
 use std::alloc::Global;
-use svc_values::{Names, NoMemory, Piece, Settings, Writes};
+use svc_values::{Names, NoMemory, Piece, Settings, TryCopy, Writes};
 use table_store::Tables;
 
 /// What an entry's pieces come to: what they wrote, or the place where they are no transaction.
@@ -39,16 +40,17 @@ pub(crate) fn run_again(
             place: place::entry(alloc, n)?,
         });
     }
-    let mut rerun = Rerun::new(alloc, settings)?;
+    let settings = settings.copy(alloc)?;
+    let mut going = Going::new(alloc, settings);
     for (p, piece) in pieces.iter().enumerate() {
         let is_last = p + 1 == pieces.len();
-        if !rerun.goes_on(alloc, tables, names, piece, is_last)? {
+        if !goes_on(&mut going, alloc, tables, names, piece, is_last)? {
             return Ok(Ended::Failed {
                 place: place::piece(alloc, n, p)?,
             });
         }
     }
     Ok(Ended::Whole {
-        writes: rerun.into_writes(),
+        writes: going.end(alloc),
     })
 }

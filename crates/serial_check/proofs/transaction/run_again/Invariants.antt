@@ -10,6 +10,6 @@ use Rattle.serial_check.proofs.transaction.run_again.Given as goal
 abbrev pub invariant-loop-p : goal.invariant-loop-p
 invariant-loop-p l = record {
   so_far : pieces_course (shape_of l.tables l.names) l.tables.rows l.settings l.n 0 l.pieces
-      ≡ course_left (shape_of l.tables l.names) (with_writes l.tables.rows l.rerun.txn.writes) l.rerun.settings l.n l.p (drop l.p l.pieces);
-  fits : IsTrue (writes_fit l.tables.schemas l.rerun.txn.writes);
+      ≡ course_left (shape_of l.tables l.names) (with_writes l.tables.rows l.going.writes) l.going.settings l.n l.p (drop l.p l.pieces);
+  fits : IsTrue (writes_fit l.tables.schemas l.going.writes);
 }

@@ -1,0 +1,2 @@
+mod MoreDraws
+mod Ran
