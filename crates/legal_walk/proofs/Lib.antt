@@ -1,0 +1,12 @@
+mod Blocking
+mod Counting
+mod Drawing
+mod Goings
+mod Judged
+mod Keyed
+mod Looping
+mod Pieces
+mod SamePieces
+mod Served
+mod Stepping
+mod Verdicts

@@ -1,0 +1,10 @@
+pub mod Beside
+pub mod Counts
+pub mod Going
+pub mod Items
+pub mod Judging
+pub mod Moving
+pub mod Starting
+pub mod Stored
+pub mod Trying
+pub mod Walks

@@ -1,0 +1,89 @@
+//! Whether a call that was served is right, and what comes of it.
+ghost use Rattle.std.specs.Prelude.{◌≡◌, ◌&&◌, IsTrue, IfOk, OnOk};
+ghost use Rattle.svc_values.specs.meaning.Endings.{ends_committed as ends_committed_def};
+ghost use Rattle.svc_values.specs.meaning.Fitting.{writes_fit};
+ghost use Rattle.stmt_meaning.specs.meaning.Meaning.{Meant};
+ghost use Rattle.server_model.specs.meaning.Base.{Base};
+ghost use Rattle.server_model.specs.meaning.Legal.{answers_hold, is_free, stores};
+ghost use Rattle.server_model.specs.meaning.Walk.{Walk, ends as ends_def, if_commits, with_call};
+ghost use Rattle.legal_walk.specs.Beside.{Beside, Moves};
+ghost use Rattle.legal_walk.specs.Going.{Goes};
+ghost use Rattle.legal_walk.specs.Judging.{ended_if, is_free_at, stores_with};
+ghost use Rattle.legal_walk.specs.Moving.{performed_as};
+
+use crate::performed::Performed;
+use crate::service::Service;
+use crate::storing::{ends, is_entry_of, must_be_free};
+use crate::telling::is_told_so;
+use calls_again::Going;
+use svc_values::{Answer, Answers, Ltxid, NoMemory, ends_committed};
+
+impl Service<'_> {
+    /// Whether a commit or a conflict, where this call came to one, came under an identifier that
+    /// is not blocked.
+    fn is_free(&self, next: &Ltxid, answers: &[Answer]) -> bool
+        ensures { result ≡ is_free_at self.now.blocked next.now answers.now }
+    {
+        !must_be_free(answers) || !self.blocked.has(next)
+    }
+
+    /// Whether a call that was answered as committed stores the entry that comes next.
+    fn stores(&self, next: &Ltxid, going: &Going, performed: &Performed<'_>) -> bool
+        ensures { result ≡ stores_with next.now going.now performed.entry.now.answers.now
+            performed.entry.now.call.now self.now.ledger.left }
+    {
+        if !ends_committed(performed.answers) {
+            return true;
+        }
+        match self.ledger.first() {
+            Some(entry) => is_entry_of(entry, next, going, performed.call.is_lone_commit()),
+            None => false,
+        }
+    }
+
+    /// Whether a call that means these answers was told as it has to be, and stores what it has to:
+    /// all of the test of a call but its draws. `going` is its transaction with the call last.
+    pub(crate) fn is_right(
+        &self,
+        going: &Going,
+        performed: &Performed<'_>,
+        answers: Answers,
+    ) -> Result<bool, NoMemory>
+        ensures { IfOk result (λ right. (base : Base) (walk : Walk) (meant : Meant)
+            → Beside base walk self.now → answers ≡ meant.answers
+            → Goes self.now.tables.schemas
+            (with_call walk (performed_as performed.entry.now) meant) going.now
+            → right ≡ (answers_hold walk (performed_as performed.entry.now) meant
+            && (is_free walk (performed_as performed.entry.now)
+            && stores walk (performed_as performed.entry.now) meant))) }
+    {
+        let replay = performed.replay;
+        if !is_told_so(&self.tables, going, replay, answers, performed.answers)? {
+            return Ok(false);
+        }
+        let next = self.next_of(&performed.session);
+        if !self.is_free(&next, performed.answers) {
+            return Ok(false);
+        }
+        Ok(self.stores(&next, going, performed))
+    }
+
+    /// The transaction of a session behind a call with these answers: the next one, where they end
+    /// it. A commit stores what was written.
+    pub(crate) fn settle(&mut self, mut going: Going, answers: &[Answer]) -> Result<Going, NoMemory>
+        requires { IsTrue (writes_fit self.old.tables.schemas going.writes) }
+        ensures after { IfOk result (λ after. after ≡ ended_if (ends_def answers.now) going) }
+        ensures moves { OnOk result (Moves self.old
+            (λ walk. if_commits (ends_committed_def answers.now) walk going.writes) self.new) }
+    {
+        if !ends(answers) {
+            return Ok(going);
+        }
+        let writes = going.end(self.alloc);
+        if !ends_committed(answers) {
+            return Ok(going);
+        }
+        self.commit(&writes)?;
+        Ok(going)
+    }
+}
