@@ -6,9 +6,9 @@ use Rattle.std.specs.Option.{option_map_or}
 use Rattle.std.proofs.lemmas.List.{map-append}
 use Rattle.outage_schedule.specs.declared.document.Document.{Document}
 use Rattle.outage_schedule.specs.declared.report.Report.{Report}
-use Rattle.shown_clauses.specs.meaning.Fronts.{front_from, front_of, rest_from, rest_of, first_from, first_of}
+use Rattle.shown_clauses.specs.meaning.Fronts.{front_from, front_of, rest_from, rest_of, first_from, first_of, first_item}
 use Rattle.shown_clauses.specs.meaning.KeptDraws.{parts, parts_from as all_parts_from, parts_if, has_marked, is_step_of, shown_before, shown_since, draws_shown}
-use Rattle.shown_clauses.specs.meaning.Parts.{Counted, acquires, counted_from, is_acquired_by, Part, parts_from, parts_of}
+use Rattle.shown_clauses.specs.meaning.Parts.{Counted, acquires, counted_from, is_acquired_by, Part, parts_from, parts_of, left_from, left_of}
 use Rattle.shown_clauses.specs.meaning.Showings.{showing_at}
 use Rattle.shown_clauses.specs.meaning.Steps.{Step, steps, steps_of}
 use Rattle.shown_clauses.specs.meaning.Submissions.{Submission, submissions_by_client}
@@ -70,6 +70,17 @@ steps_of_plain client (step ∷ all) = by (step.client == client) refl (steps_of
     by : (b : Bool) → (step.client == client) ≡ b → steps_of client (map plain_step all) ≡ map plain_step (steps_of client all) → steps_of client (map plain_step (step ∷ all)) ≡ map plain_step (steps_of client (step ∷ all))
     by true is rest = rw is (ap (λ (rest : List Step). plain_step step ∷ rest) rest)
     by false is rest = rw is rest
+
+first_item_plain : (xs : List Counted) → option_map step_in (first_item (map plain_counted xs)) ≡ option_map plain_step (option_map step_in (first_item xs))
+first_item_plain [] = refl
+first_item_plain (x ∷ xs) = refl
+
+left_from_plain : (submissions : List Submission) (before : ℕ) (xs : List Counted) → left_from before submissions (map plain_counted xs) ≡ option_map plain_step (left_from before submissions xs)
+left_from_plain [] before xs = ap (λ (left : List Counted). option_map step_in (first_item left)) (rest_plain before xs) ∙ first_item_plain (rest_of (is_acquired_by before) xs)
+left_from_plain (one ∷ submissions) before xs = left_from_plain submissions (before + length one.copy.sessions) xs
+
+pub left_plain : (submissions : List Submission) (steps : List Step) → left_of submissions (map plain_step steps) ≡ option_map plain_step (left_of submissions steps)
+left_plain submissions steps = ap (left_from 0 submissions) (counted_plain 0 steps) ∙ left_from_plain submissions 0 (counted_from 0 steps)
 
 all_plain : (lists : List (List Submission)) (client : ℕ) (all : List Step) → all_parts_from client (map plain_step all) lists ≡ map plain_part (all_parts_from client all lists)
 all_plain [] client all = refl

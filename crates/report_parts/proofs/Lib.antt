@@ -5,3 +5,5 @@ mod Searches
 mod KeptPlain
 mod ClientParts
 mod Putting
+mod Lefts
+pub mod Offered

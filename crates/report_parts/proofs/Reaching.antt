@@ -106,11 +106,11 @@ on_all steps at start before upto past within on =
 
 -- ---- a bound on what is counted
 
-abbrev Below : ℕ → List Counted → Type 0
+abbrev pub Below : ℕ → List Counted → Type 0
 Below most [] = Unit {0}
 Below most (one ∷ counted) = (one.acquired ≤ most) × Below most counted
 
-counted_below : (most before : ℕ) (steps : List Step) → before + length steps ≤ most → Below most (counted_from before steps)
+pub counted_below : (most before : ℕ) (steps : List Step) → before + length steps ≤ most → Below most (counted_from before steps)
 counted_below most before [] within = tt
 counted_below most before (step ∷ steps) within = by (acquires step) (λ next upto. counted_below most next steps upto)
   where
@@ -143,7 +143,7 @@ rest_from_same most a b same true x [] below = refl
 rest_from_same most a b same true x (y ∷ xs) below =
     rest_from_same most a b same (nat_le y.acquired a) y xs below.1 ∙ ap (λ t. rest_from (is_acquired_by b) t y xs) (test_same most a b y.acquired same below.0)
 
-rest_same : (most a b : ℕ) → min a most ≡ min b most → (xs : List Counted) → Below most xs → rest_of (is_acquired_by a) xs ≡ rest_of (is_acquired_by b) xs
+pub rest_same : (most a b : ℕ) → min a most ≡ min b most → (xs : List Counted) → Below most xs → rest_of (is_acquired_by a) xs ≡ rest_of (is_acquired_by b) xs
 rest_same most a b same [] below = refl
 rest_same most a b same (x ∷ xs) below =
     rest_from_same most a b same (nat_le x.acquired a) x xs below.1 ∙ ap (λ t. rest_from (is_acquired_by b) t x xs) (test_same most a b x.acquired same below.0)

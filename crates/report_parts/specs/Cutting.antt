@@ -3,6 +3,7 @@ use Rattle.std.specs.Prelude.{◌≡◌, ℕ, ◌+◌, ◌≤◌, cond, List, []
 use Rattle.shown_clauses.specs.meaning.Fronts.{front_of, rest_of}
 use Rattle.shown_clauses.specs.meaning.Parts.{Counted, acquires, counted_from, is_acquired_by}
 use Rattle.shown_clauses.specs.meaning.Steps.{Step}
+use Rattle.shown_clauses.specs.meaning.Submissions.{Submission}
 
 abbrev pub step_in : Counted → Step
 step_in counted = counted.step
@@ -11,6 +12,11 @@ step_in counted = counted.step
 abbrev pub acquired_in : ℕ → List Step → ℕ
 acquired_in before [] = before
 acquired_in before (step ∷ steps) = acquired_in (before + cond (acquires step) 1 0) steps
+
+-- how many sessions these submissions have
+abbrev pub sessions_in : List Submission → ℕ
+sessions_in [] = 0
+sessions_in (one ∷ submissions) = length one.copy.sessions + sessions_in submissions
 
 -- Of steps before which so many sessions were acquired, the first ones up to that many.
 pub record IsReach (steps : List Step) (before upto len after : ℕ) : Type 0 where

@@ -40,7 +40,10 @@ fn put_client<'a>(
     reports: &'a [RequestReport],
     mine: &[Step<'a>],
 ) -> Result<(), NoMemory>
-    ensures { OnOk result (map part_as parts.new.items ≡ map part_as parts.old.items ++ parts_of_def (flat_map submissions_of_def (copies_of script.now reports.now)) (map step_as mine.now)) }
+    ensures { OnOk result (map part_as parts.new.items
+        ≡ map part_as parts.old.items
+        ++ parts_of_def (flat_map submissions_of_def (copies_of script.now reports.now))
+        (map step_as mine.now)) }
 {
     let made = submissions_of(alloc, script, reports)?;
     put_parts(parts, alloc, made.all.as_slice(), mine)
@@ -55,7 +58,11 @@ fn put_client_at<'a>(
     number: u64,
     steps: &[Step<'a>],
 ) -> Result<(), NoMemory>
-    ensures { OnOk result (map part_as parts.new.items ≡ map part_as parts.old.items ++ parts_of_def (flat_map submissions_of_def (copies_of client.now.requests reports.now)) (steps_of_def number (map step_as steps.now))) }
+    ensures { OnOk result (map part_as parts.new.items
+        ≡ map part_as parts.old.items
+        ++ parts_of_def
+        (flat_map submissions_of_def (copies_of client.now.requests reports.now))
+        (steps_of_def number (map step_as steps.now))) }
 {
     let mine = steps_of(alloc, number, steps)?;
     put_client(
@@ -75,7 +82,9 @@ fn all_parts<'a>(
     transcripts: &'a [Transcript],
     steps: &[Step<'a>],
 ) -> Result<Vec<Part<'a>>, NoMemory>
-    ensures { IfOk result (λ parts. map part_as parts.items ≡ parts_from 1 (map step_as steps.now) (map (flat_map submissions_of_def) (copies_by_client clients.now transcripts.now))) }
+    ensures { IfOk result (λ parts. map part_as parts.items
+        ≡ parts_from 1 (map step_as steps.now)
+        (map (flat_map submissions_of_def) (copies_by_client clients.now transcripts.now))) }
 {
     let mut parts = Vec::new(alloc);
     for (place, client) in clients.iter().enumerate() {
@@ -101,7 +110,8 @@ fn parts_in<'a>(
     steps: &[Step<'a>],
 ) -> Result<Vec<Part<'a>>, NoMemory>
     requires { map step_as steps.now ≡ map plain_step (steps_def report.now) }
-    ensures { IfOk result (λ found. map part_as found.items ≡ map plain_part (parts document.now report.now)) }
+    ensures { IfOk result (λ found. map part_as found.items
+        ≡ map plain_part (parts document.now report.now)) }
 {
     if !has_marked(report.served.as_slice()) {
         return Ok(Vec::new(alloc));
@@ -118,7 +128,8 @@ fn brought_all<'a>(
     parts: &[Part<'a>],
     repeated: &[Option<Repeated>],
 ) -> Result<Vec<&'a [Draw]>, NoMemory>
-    ensures { IfOk result (λ kept. map (λ draws. draws.now) kept.items ≡ map (brought_def (map part_as parts.now)) (map (option_map repeated_as) repeated.now)) }
+    ensures { IfOk result (λ kept. map (λ draws. draws.now) kept.items
+        ≡ map (brought_def (map part_as parts.now)) (map (option_map repeated_as) repeated.now)) }
 {
     let mut kept = Vec::new(alloc);
     for one in repeated {
@@ -136,7 +147,8 @@ pub fn kept_draws<'a>(
     report: &'a Report,
 ) -> Result<Vec<&'a [Draw]>, NoMemory>
     requires { IsTold report.now }
-    ensures { IfOk result (λ kept. map (λ draws. draws.now) kept.items ≡ kept_of document.now report.now) }
+    ensures { IfOk result (λ kept. map (λ draws. draws.now) kept.items
+        ≡ kept_of document.now report.now) }
 {
     let story = story_of(alloc, report)?;
     let parts = parts_in(alloc, document, report, story.steps.as_slice())?;

@@ -10,6 +10,6 @@ mod submitting;
 
 pub use kept::kept_draws;
 pub use looking::ends_decided;
-pub use parts::{Part, parts_of, steps_of};
+pub use parts::{Part, left_of, parts_of, steps_of};
 pub use showing::{is_showing, shows};
 pub use submitting::{Submission, Submissions, submissions_of};

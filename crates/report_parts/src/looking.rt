@@ -39,14 +39,16 @@ fn has_step(steps: &[Step<'_>], event: u64) -> bool
 
 /// Whether the step shows a call before this event.
 fn shows_before(step: &Step<'_>, event: u64) -> bool
-    ensures { result ≡ (is_some (showing_at (step_as step.now)) && nat_lt (step_as step.now).event event) }
+    ensures { result
+        ≡ (is_some (showing_at (step_as step.now)) && nat_lt (step_as step.now).event event) }
 {
     shows(step) && step.event < event
 }
 
 /// How many of the steps do.
 fn count_before(steps: &[Step<'_>], event: u64) -> usize
-    ensures { result ≡ length (filter (λ step. is_some (showing_at (step_as step)) && nat_lt (step_as step).event event) steps.now) }
+    ensures { result ≡ length (filter (λ step.
+        is_some (showing_at (step_as step)) && nat_lt (step_as step).event event) steps.now) }
 {
     steps
         .iter()
@@ -63,7 +65,8 @@ fn shown_before(steps: &[Step<'_>], event: u64) -> usize
 
 /// The first part with a step of this event.
 fn part_with<'b, 'a>(parts: &'b [Part<'a>], event: u64) -> Option<&'b Part<'a>>
-    ensures { option_map part_as (option_copied result) ≡ first_of (is_step_of event) (map part_as parts.now) }
+    ensures { option_map part_as (option_copied result)
+        ≡ first_of (is_step_of event) (map part_as parts.now) }
 {
     for part in parts {
         if has_step(part.steps.as_slice(), event) {
@@ -157,7 +160,8 @@ fn shown_draws<'a>(part: &Part<'a>, acquired: u64, place: usize) -> &'a [Draw]
 
 /// The draws of the call that a served item repeats. Linear in the steps of all parts.
 pub(crate) fn brought<'a>(parts: &[Part<'a>], repeated: &Option<Repeated>) -> &'a [Draw]
-    ensures { result.now ≡ brought_def (map part_as parts.now) (option_map repeated_as repeated.now) }
+    ensures { result.now
+        ≡ brought_def (map part_as parts.now) (option_map repeated_as repeated.now) }
 {
     let Some(one) = repeated else {
         return &[];

@@ -1,7 +1,7 @@
 //! Which steps are a request's.
-ghost use Rattle.std.specs.Prelude.{◌≡◌, ◌≤◌, ◌<◌, ◌+◌, ◌^◌, ◌==◌, ◌++◌, cond, drop, filter, length, map, min, take, IfOk, OnOk};
-ghost use Rattle.shown_clauses.specs.meaning.Parts.{acquires as acquires_def, parts_of as parts_of_def};
-ghost use Rattle.report_parts.specs.Cutting.{IsReach};
+ghost use Rattle.std.specs.Prelude.{◌≡◌, ◌≤◌, ◌<◌, ◌+◌, ◌^◌, ◌==◌, ◌++◌, cond, drop, filter, length, map, min, option_map, slice_get, take, IfOk, OnOk};
+ghost use Rattle.shown_clauses.specs.meaning.Parts.{acquires as acquires_def, left_of as left_of_def, parts_of as parts_of_def};
+ghost use Rattle.report_parts.specs.Cutting.{IsReach, sessions_in};
 ghost use Rattle.report_parts.specs.PartViews.{part_as};
 ghost use Rattle.report_parts.specs.SubmissionViews.{submission_as};
 ghost use Rattle.report_story.specs.Views.{step_as};
@@ -100,7 +100,8 @@ fn part_of<'a>(
     submission: Submission<'a>,
     steps: &[Step<'a>],
 ) -> Result<Part<'a>, NoMemory>
-    ensures { IfOk result (λ part. part_as part ≡ record { submission = submission_as submission.entry; steps = map step_as steps.now }) }
+    ensures { IfOk result (λ part. part_as part
+        ≡ record { submission = submission_as submission.entry; steps = map step_as steps.now }) }
 {
     let steps = Vec::from_slice(alloc, steps)?;
     Ok(Part { submission, steps })
@@ -129,7 +130,9 @@ pub(crate) fn put_parts<'a>(
     submissions: &[Submission<'a>],
     mine: &[Step<'a>],
 ) -> Result<(), NoMemory>
-    ensures { OnOk result (map part_as parts.new.items ≡ map part_as parts.old.items ++ parts_of_def (map submission_as submissions.now) (map step_as mine.now)) }
+    ensures { OnOk result (map part_as parts.new.items
+        ≡ map part_as parts.old.items
+        ++ parts_of_def (map submission_as submissions.now) (map step_as mine.now)) }
 {
     let mut from = 0;
     let mut acquired = 0;
@@ -153,9 +156,41 @@ pub fn parts_of<'a>(
     submissions: &[Submission<'a>],
     mine: &[Step<'a>],
 ) -> Result<Vec<Part<'a>>, NoMemory>
-    ensures { IfOk result (λ parts. map part_as parts.items ≡ parts_of_def (map submission_as submissions.now) (map step_as mine.now)) }
+    ensures { IfOk result (λ parts. map part_as parts.items
+        ≡ parts_of_def (map submission_as submissions.now) (map step_as mine.now)) }
 {
     let mut parts = Vec::new(alloc);
     put_parts(&mut parts, alloc, submissions, mine)?;
     Ok(parts)
+}
+
+/// How many sessions the submissions have, counted no further than `most`.
+fn sessions_up_to(submissions: &[Submission<'_>], most: usize) -> usize
+    requires { most < 2 ^ 63 }
+    ensures { result ≡ min (sessions_in (map submission_as submissions.now)) most }
+{
+    let mut upto = 0;
+    for submission in submissions {
+        upto = further(upto, submission.copy.sessions.as_slice().len(), most);
+    }
+    upto
+}
+
+/// The step at a place, and none past the end.
+fn step_at<'a>(steps: &[Step<'a>], place: usize) -> Option<Step<'a>>
+    ensures { result ≡ slice_get steps.now place }
+{
+    match steps.get(place) {
+        Some(step) => Some(*step),
+        None => None,
+    }
+}
+
+/// The first of a client's steps that is of none of these submissions, since it acquires a session of
+/// none. Linear.
+pub fn left_of<'a>(submissions: &[Submission<'_>], mine: &[Step<'a>]) -> Option<Step<'a>>
+    ensures { option_map step_as result ≡ left_of_def (map submission_as submissions.now) (map step_as mine.now) }
+{
+    let upto = sessions_up_to(submissions, mine.len());
+    step_at(mine, reach(mine, 0, upto).len)
 }

@@ -42,7 +42,12 @@ impl<'a> Model for Submitting<'a> {
 
     ghost Value = { Put };
 
-    ghost view = { λ s. record { script = s.script.now; last = option_map last_as s.last; over = s.over; found = map submission_as s.found.items } };
+    ghost view = { λ s. record {
+      script = s.script.now;
+      last = option_map last_as s.last;
+      over = s.over;
+      found = map submission_as s.found.items;
+    } };
 }
 
 /// A request of a script, and those behind it.
@@ -53,7 +58,8 @@ struct First<'a> {
 }
 
 fn first_of(script: &[Request]) -> Option<First<'_>>
-    ensures { MatchOption result (script.now ≡ []) (λ first. script.now ≡ first.request.now ∷ first.behind.now) }
+    ensures { MatchOption result (script.now ≡ [])
+        (λ first. script.now ≡ first.request.now ∷ first.behind.now) }
 {
     if script.is_empty() {
         return None;
@@ -99,7 +105,8 @@ impl<'a> Submitting<'a> {
         allowed: u64,
         copy: &'a RequestReport,
     ) -> Result<(), NoMemory>
-        ensures { OnOk result (self.new ≡ with_copy_of self.old script.now request.now allowed copy.now) }
+        ensures { OnOk result (self.new
+            ≡ with_copy_of self.old script.now request.now allowed copy.now) }
     {
         self.found.push(Submission { request, copy })?;
         self.script = script;
@@ -171,8 +178,10 @@ pub fn submissions_of<'a>(
     script: &'a [Request],
     reports: &'a [RequestReport],
 ) -> Result<Submissions<'a>, NoMemory>
-    ensures all { IfOk result (λ made. map submission_as made.all.items ≡ flat_map submissions_of_def (copies_of script.now reports.now)) }
-    ensures order { IfOk result (λ made. made.is_in_order ≡ is_in_script_order script.now reports.now) }
+    ensures all { IfOk result (λ made. map submission_as made.all.items
+        ≡ flat_map submissions_of_def (copies_of script.now reports.now)) }
+    ensures order { IfOk result (λ made. made.is_in_order
+        ≡ is_in_script_order script.now reports.now) }
 {
     let put = put_all(alloc, script, reports)?;
     let is_in_order = put.is_complete();

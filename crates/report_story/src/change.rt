@@ -54,6 +54,7 @@ impl<'a> Change<'a> for Replied<'a> {
 pub(crate) struct Begun {
     pub(crate) alloc: Global,
     pub(crate) session: SessionId,
+    pub(crate) event: u64,
 }
 
 impl<'a> Change<'a> for Begun {
@@ -61,7 +62,7 @@ impl<'a> Change<'a> for Begun {
 
     fn apply(&self, line: &mut Line<'a>) -> Result<(), NoMemory> {
         if line.has_session(self.session) {
-            line.begin(self.alloc);
+            line.begin(self.alloc, self.event);
         }
         Ok(())
     }
@@ -71,6 +72,7 @@ impl<'a> Change<'a> for Begun {
 #[derive(Clone, Copy)]
 pub(crate) struct Called<'a> {
     pub(crate) session: SessionId,
+    pub(crate) event: u64,
     pub(crate) replay: bool,
     pub(crate) call: &'a Call,
 }
@@ -80,7 +82,7 @@ impl<'a> Change<'a> for Called<'a> {
 
     fn apply(&self, line: &mut Line<'a>) -> Result<(), NoMemory> {
         if line.has_session(self.session) {
-            return line.add_call(self.replay, self.call);
+            return line.add_call(self.event, self.replay, self.call);
         }
         Ok(())
     }

@@ -3,6 +3,7 @@
 #![tactic(auto)]
 
 mod change;
+mod finding;
 mod line;
 mod passing;
 mod seen;

@@ -39,7 +39,14 @@ impl<'a> Model for Line<'a> {
 
     ghost Value = { Link };
 
-    ghost view = { λ l. record { connection = l.connection; session = l.session; replies = map (λ one. one.now) l.replies.items; ended = 0; acquired = option_map acquired_as l.acquired; turn = l.turn } };
+    ghost view = { λ l. record {
+      connection = l.connection;
+      session = l.session;
+      replies = map (λ one. one.now) l.replies.items;
+      ended = 0;
+      acquired = option_map acquired_as l.acquired;
+      turn = l.turn;
+    } };
 }
 
 /// Whether the reply is a Hello.
@@ -95,7 +102,8 @@ impl<'a> Line<'a> {
 
     /// A reply was served on it.
     pub(crate) fn add_reply(&mut self, one: &'a Served) -> Result<(), NoMemory>
-        ensures { OnOk result (self.new ≡ record self.old { replies = self.old.replies ++ one.now ∷ [] }) }
+        ensures { OnOk result (self.new
+            ≡ record self.old { replies = self.old.replies ++ one.now ∷ [] }) }
     {
         self.replies.push_back(one)?;
         Ok(())
@@ -119,19 +127,24 @@ impl<'a> Line<'a> {
         }
     }
 
-    /// Its session served a `begin`.
-    pub(crate) fn begin(&mut self, alloc: Global)
+    /// Its session served a `begin` at an event.
+    pub(crate) fn begin(&mut self, alloc: Global, event: u64)
         ensures { self.new ≡ turn_begun self.old }
     {
-        self.turn = Some(Turn::new(alloc, self.acquired));
+        self.turn = Some(Turn::new(alloc, event, self.acquired));
     }
 
-    /// Its session served a call.
-    pub(crate) fn add_call(&mut self, replay: bool, call: &'a Call) -> Result<(), NoMemory>
+    /// Its session served a call at an event.
+    pub(crate) fn add_call(
+        &mut self,
+        event: u64,
+        replay: bool,
+        call: &'a Call,
+    ) -> Result<(), NoMemory>
         ensures { OnOk result (self.new ≡ call_served replay call.now self.old) }
     {
         match &mut self.turn {
-            Some(turn) => turn.add(replay, call),
+            Some(turn) => turn.add(event, replay, call),
             None => Ok(()),
         }
     }

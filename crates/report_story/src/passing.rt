@@ -34,7 +34,13 @@ impl<'a> Model for Passing<'a> {
 
     ghost Value = { Passed };
 
-    ghost view = { λ p. record { event = p.event; seen = p.seen; steps = map step_as p.steps.items; repeated = map (option_map repeated_as) p.repeated.items; left = p.left.now } };
+    ghost view = { λ p. record {
+      event = p.event;
+      seen = p.seen;
+      steps = map step_as p.steps.items;
+      repeated = map (option_map repeated_as) p.repeated.items;
+      left = p.left.now;
+    } };
 }
 
 /// Whether the item is a call with the mark.
@@ -77,7 +83,8 @@ struct First<'a> {
 }
 
 fn first_of(items: &[Served]) -> Option<First<'_>>
-    ensures { MatchOption result (items.now ≡ []) (λ first. items.now ≡ first.one.now ∷ first.behind.now) }
+    ensures { MatchOption result (items.now ≡ [])
+        (λ first. items.now ≡ first.one.now ∷ first.behind.now) }
 {
     if items.is_empty() {
         return None;
@@ -90,7 +97,8 @@ fn first_of(items: &[Served]) -> Option<First<'_>>
 
 /// The session of a Hello.
 fn greeted(taken: Option<&Served>) -> Option<SessionId>
-    ensures { result ≡ greeted_def (is_hello_def (option_copied taken.entry)) (option_copied taken.entry) }
+    ensures { result
+        ≡ greeted_def (is_hello_def (option_copied taken.entry)) (option_copied taken.entry) }
 {
     let Some(one) = taken else {
         return None;
@@ -162,7 +170,10 @@ impl<'a> Passing<'a> {
     /// A step of a client.
     #[tactic(auto, using(crate::proofs::Pushed::step_pushed))]
     fn push_step(&mut self, client: u64, did: GoNote) -> Result<(), NoMemory>
-        ensures { OnOk result (self.new ≡ record self.old { steps = self.old.steps ++ step_by self.old.seen.links self.old.event client did ∷ [] }) }
+        ensures { OnOk result (self.new ≡ record self.old {
+          steps = self.old.steps
+              ++ step_by self.old.seen.links self.old.event client did ∷ [];
+        }) }
     {
         let taken = reply_of(&self.seen, did);
         let session = session_of(&self.seen, did, taken);
@@ -209,7 +220,8 @@ impl<'a> Passing<'a> {
 
     /// The first item that is left is of this event.
     fn serve_one(&mut self, noted: &Note, first: First<'a>) -> Result<(), NoMemory>
-        ensures { OnOk result (self.new ≡ with_one noted.now self.old first.entry.one.now first.entry.behind.now) }
+        ensures { OnOk result (self.new
+            ≡ with_one noted.now self.old first.entry.one.now first.entry.behind.now) }
     {
         let repeated = repeated_by(&self.seen, first.one);
         self.seen.serve(noted, first.one)?;

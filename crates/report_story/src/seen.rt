@@ -1,8 +1,8 @@
 //! What the events of a run did to its connections and to the turns of its sessions.
-ghost use Rattle.std.specs.Prelude.{◌≡◌, ◌<◌, ◌∷◌, ◌++◌, is_some, length, reverse, option_and_then, option_map, IfOk, MatchOption, None, OnOk};
+ghost use Rattle.std.specs.Prelude.{◌≡◌, ◌<◌, ◌∷◌, ◌++◌, is_some, length, reverse, option_and_then, option_map, IfOk, OnOk};
 ghost use Rattle.std.specs.Option.{option_copied};
 ghost use Rattle.shown_clauses.specs.meaning.Fronts.{first_item};
-ghost use Rattle.shown_clauses.specs.meaning.Links.{nothing_seen, link_of, link_of_session, add_reply, connected, served_on, stopped_on, linked, after_go};
+ghost use Rattle.shown_clauses.specs.meaning.Links.{nothing_seen, link_of, add_reply, connected, served_on, stopped_on, linked, after_go};
 ghost use Rattle.shown_clauses.specs.meaning.Steps.{turns_seen};
 ghost use Rattle.report_story.specs.Lines.{as_turns};
 ghost use Rattle.report_story.specs.Passing.{repeated_at};
@@ -11,6 +11,7 @@ ghost use Rattle.report_story.specs.Seeing.{with_links, with_over, connect_stopp
 ghost use Rattle.report_story.specs.Views.{repeated_as};
 
 use crate::change::{Begun, Called, Lent, Replied, Taken, change_all};
+use crate::finding::{line_of, newest_of, place_of};
 use crate::line::{Line, Repeated};
 use crate::turns::Turn;
 use outage_schedule::{GoNote, Item, Note, Served};
@@ -34,42 +35,6 @@ impl<'a> Model for Seen<'a> {
     ghost Value = { AllSeen };
 
     ghost view = { λ s. record { links = s.lines.items; over = reverse s.over.items } };
-}
-
-/// The connection of this number.
-fn line_of<'b, 'a>(lines: &'b [Line<'a>], connection: u64) -> Option<&'b Line<'a>>
-    ensures { option_copied result ≡ link_of connection lines.now }
-{
-    for line in lines {
-        if line.has_number(connection) {
-            return Some(line);
-        }
-    }
-    None
-}
-
-/// The newest connection of this session.
-fn newest_of<'b, 'a>(lines: &'b [Line<'a>], session: SessionId) -> Option<&'b Line<'a>>
-    ensures { option_copied result ≡ link_of_session session lines.now }
-{
-    for line in lines {
-        if line.has_session(session) {
-            return Some(line);
-        }
-    }
-    None
-}
-
-/// Its place.
-fn place_of(lines: &[Line<'_>], session: SessionId) -> Option<usize>
-    ensures { MatchOption result (link_of_session session lines.now ≡ None) (λ at. IsPlaceOf session lines.now at) }
-{
-    for (at, line) in lines.iter().enumerate() {
-        if line.has_session(session) {
-            return Some(at);
-        }
-    }
-    None
 }
 
 /// Puts a turn last, if there is one.
@@ -109,7 +74,8 @@ impl<'a> Seen<'a> {
 
     /// The first reply on the connection of this number that was not taken yet.
     pub(crate) fn reply_on(&self, connection: u64) -> Option<&'a Served>
-        ensures { option_copied result ≡ option_and_then (λ link. first_item link.replies) (link_of connection self.now.links) }
+        ensures { option_copied result ≡ option_and_then (λ link. first_item link.replies)
+            (link_of connection self.now.links) }
     {
         match line_of(&self.lines, connection) {
             Some(line) => line.reply(),
@@ -136,7 +102,8 @@ impl<'a> Seen<'a> {
 
     /// A reply was served on the connection of this number, if there is one.
     fn reply(&mut self, connection: u64, one: &'a Served) -> Result<(), NoMemory>
-        ensures { OnOk result (self.new ≡ with_links self.old (add_reply connection one.now self.old.links)) }
+        ensures { OnOk result (self.new
+            ≡ with_links self.old (add_reply connection one.now self.old.links)) }
     {
         change_all(&mut self.lines, &Replied { connection, one })
     }
@@ -151,7 +118,9 @@ impl<'a> Seen<'a> {
 
     /// The Connect of a connection was served.
     fn connect(&mut self, connection: u64, one: &'a Served) -> Result<(), NoMemory>
-        ensures { OnOk result (self.new ≡ with_links self.old (connected connection one.now (link_of connection self.old.links) self.old.links)) }
+        ensures { OnOk result (self.new
+            ≡ with_links self.old (connected connection one.now
+            (link_of connection self.old.links) self.old.links)) }
     {
         if self.has_line(connection) {
             return self.reply(connection, one);
@@ -163,7 +132,8 @@ impl<'a> Seen<'a> {
 
     /// An item of a `serve` of the connection.
     fn serve_on(&mut self, connection: u64, one: &'a Served) -> Result<(), NoMemory>
-        ensures { OnOk result (self.new ≡ with_links self.old (served_on connection one.now one.now.item self.old.links)) }
+        ensures { OnOk result (self.new
+            ≡ with_links self.old (served_on connection one.now one.now.item self.old.links)) }
     {
         match &one.item {
             Item::Connect => self.connect(connection, one),
@@ -181,7 +151,8 @@ impl<'a> Seen<'a> {
 
     /// The item that a crash of the connection stopped.
     fn stop_on(&mut self, connection: u64, one: &'a Served) -> Result<(), NoMemory>
-        ensures { OnOk result (self.new ≡ with_links self.old (stopped_on connection one.now one.now.item self.old.links)) }
+        ensures { OnOk result (self.new
+            ≡ with_links self.old (stopped_on connection one.now one.now.item self.old.links)) }
     {
         match &one.item {
             Item::Connect => self.connect_stopped(connection, one.session),
@@ -199,7 +170,9 @@ impl<'a> Seen<'a> {
 
     /// The Connect of a connection was stopped.
     fn connect_stopped(&mut self, connection: u64, session: SessionId) -> Result<(), NoMemory>
-        ensures { OnOk result (self.new ≡ with_links self.old (connect_stopped_def connection session (link_of connection self.old.links) self.old.links)) }
+        ensures { OnOk result (self.new
+            ≡ with_links self.old (connect_stopped_def connection session
+            (link_of connection self.old.links) self.old.links)) }
     {
         if self.has_line(connection) {
             return Ok(());
@@ -209,7 +182,8 @@ impl<'a> Seen<'a> {
 
     /// An item, by the connection that its note names.
     fn link(&mut self, noted: &Note, one: &'a Served) -> Result<(), NoMemory>
-        ensures { OnOk result (self.new ≡ with_links self.old (linked noted.now self.old.links one.now)) }
+        ensures { OnOk result (self.new
+            ≡ with_links self.old (linked noted.now self.old.links one.now)) }
     {
         match noted {
             Note::Serve { connection, frame } => {
@@ -267,34 +241,42 @@ impl<'a> Seen<'a> {
         }
     }
 
-    /// The turn that another `begin` of the session follows. One of a session that no connection has is
-    /// a turn that nobody acquired.
-    fn turn_over(&mut self, session: SessionId) -> Result<(), NoMemory>
+    /// The turn that another `begin` of the session, at this event, follows. One of a session that no
+    /// connection has is a turn that nobody acquired.
+    fn turn_over(&mut self, session: SessionId, event: u64) -> Result<(), NoMemory>
         ensures { OnOk result (IsTurnOver session self.old self.new) }
     {
         match place_of(&self.lines, session) {
             Some(at) => self.end_at(session, at),
-            None => self.end(Turn::new(self.alloc, None)),
+            None => self.end(Turn::new(self.alloc, event, None)),
         }
     }
 
-    /// The session served a `begin`.
-    fn begin(&mut self, session: SessionId) -> Result<(), NoMemory>
+    /// The session served a `begin` at an event.
+    fn begin(&mut self, session: SessionId, event: u64) -> Result<(), NoMemory>
         ensures { OnOk result (self.new ≡ begun_on session self.old) }
     {
-        self.turn_over(session)?;
+        self.turn_over(session, event)?;
         let alloc = self.alloc;
-        change_all(&mut self.lines, &Begun { alloc, session })
+        change_all(
+            &mut self.lines,
+            &Begun {
+                alloc,
+                session,
+                event,
+            },
+        )
     }
 
-    /// The session served a call.
-    fn call(&mut self, session: SessionId, replay: bool, call: &'a Call) -> Result<(), NoMemory>
-        ensures { OnOk result (self.new ≡ called_on session replay call.now self.old) }
+    /// The session of an item served a call.
+    fn call(&mut self, one: &Served, replay: bool, call: &'a Call) -> Result<(), NoMemory>
+        ensures { OnOk result (self.new ≡ called_on one.now.session replay call.now self.old) }
     {
         change_all(
             &mut self.lines,
             &Called {
-                session,
+                session: one.session,
+                event: one.event,
                 replay,
                 call,
             },
@@ -305,12 +287,11 @@ impl<'a> Seen<'a> {
     fn turn(&mut self, one: &'a Served) -> Result<(), NoMemory>
         ensures { OnOk result (self.new ≡ turned one.now.session one.now.item self.old) }
     {
-        let session = one.session;
         match &one.item {
-            Item::Begin { .. } => self.begin(session),
-            Item::Call { replay, call, .. } => self.call(session, *replay, call),
-            Item::Blocked { call } => self.call(session, false, call),
-            Item::CrashedCall { replay, call } => self.call(session, *replay, call),
+            Item::Begin { .. } => self.begin(one.session, one.event),
+            Item::Call { replay, call, .. } => self.call(one, *replay, call),
+            Item::Blocked { call } => self.call(one, false, call),
+            Item::CrashedCall { replay, call } => self.call(one, *replay, call),
             Item::Connect => Ok(()),
             Item::Outcome { .. } => Ok(()),
             Item::End => Ok(()),
@@ -330,7 +311,8 @@ impl<'a> Seen<'a> {
 
     /// A step of a client.
     fn go(&mut self, client: u64, event: u64, did: GoNote) -> Result<(), NoMemory>
-        ensures { OnOk result (self.new ≡ with_links self.old (after_go client event did self.old.links)) }
+        ensures { OnOk result (self.new
+            ≡ with_links self.old (after_go client event did self.old.links)) }
     {
         match did {
             GoNote::Lent { connection } => change_all(
@@ -361,7 +343,8 @@ impl<'a> Seen<'a> {
 
     /// The note itself, behind the items of its event.
     pub(crate) fn note(&mut self, event: u64, noted: &Note) -> Result<(), NoMemory>
-        ensures { OnOk result (self.new ≡ with_links self.old (plain_note event noted.now self.old.links)) }
+        ensures { OnOk result (self.new
+            ≡ with_links self.old (plain_note event noted.now self.old.links)) }
     {
         match noted {
             Note::Go { client, did } => self.go(*client, event, *did),

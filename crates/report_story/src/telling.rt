@@ -38,9 +38,11 @@ fn pass_all<'a>(alloc: Global, items: &'a [Served], notes: &[Note]) -> Result<Pa
 /// connections.
 pub fn story_of<'a>(alloc: Global, report: &'a Report) -> Result<Story<'a>, NoMemory>
     requires { IsTold report.now }
-    ensures steps { IfOk result (λ story. map step_as story.steps.items ≡ map plain_step (steps_def report.now)) }
+    ensures steps { IfOk result (λ story. map step_as story.steps.items
+        ≡ map plain_step (steps_def report.now)) }
     ensures turns { IfOk result (λ story. reverse story.turns.items ≡ turns_def report.now) }
-    ensures repeated { IfOk result (λ story. map (option_map repeated_as) story.repeated.items ≡ (passed_by report.now).repeated) }
+    ensures repeated { IfOk result (λ story. map (option_map repeated_as) story.repeated.items
+        ≡ (passed_by report.now).repeated) }
 {
     let notes = report.notes.as_slice();
     let passing = pass_all(alloc, report.served.as_slice(), notes)?;

@@ -15,17 +15,19 @@ pub struct Acquired {
     pub event: u64,
 }
 
-/// A call that a session served, with the replay mark or without.
+/// A call that a session served, with the replay mark or without, and the event of its item.
 #[derive(Clone, Copy)]
 pub struct Marked<'a> {
+    pub event: u64,
     pub replay: bool,
     pub call: &'a Call,
 }
 
-/// What a session served since one `begin`: the last acquisition of the session before it, and the
-/// calls in order, those too that were blocked or that a crash stopped.
+/// What a session served since one `begin`: the event of that item, the last acquisition of the session
+/// before it, and the calls in order, those too that were blocked or that a crash stopped.
 #[derive(Drop)]
 pub struct Turn<'a> {
+    pub begun: u64,
     acquired: Option<Acquired>,
     calls: Vec<Marked<'a>>,
 }
@@ -37,7 +39,10 @@ impl<'a> Model for Turn<'a> {
 
     ghost Value = { TurnSeen };
 
-    ghost view = { λ t. record { acquired = option_map acquired_as t.acquired; calls = reverse (map marked_as t.calls.items) } };
+    ghost view = { λ t. record {
+      acquired = option_map acquired_as t.acquired;
+      calls = reverse (map marked_as t.calls.items);
+    } };
 }
 
 /// How many of the calls have the mark.
@@ -49,21 +54,26 @@ fn count_marked(calls: &[Marked<'_>]) -> usize
 
 impl<'a> Turn<'a> {
     /// One in which nothing was served yet. It takes no memory.
-    pub(crate) fn new(alloc: Global, acquired: Option<Acquired>) -> Turn<'a>
+    pub(crate) fn new(alloc: Global, begun: u64, acquired: Option<Acquired>) -> Turn<'a>
         ensures { result ≡ record { acquired = option_map acquired_as acquired; calls = [] } }
     {
         Turn {
+            begun,
             acquired,
             calls: Vec::new(alloc),
         }
     }
 
-    /// The call was served.
+    /// The call was served at an event.
     #[tactic(auto, using(crate::proofs::Turned::one_more))]
-    pub(crate) fn add(&mut self, replay: bool, call: &'a Call) -> Result<(), NoMemory>
+    pub(crate) fn add(&mut self, event: u64, replay: bool, call: &'a Call) -> Result<(), NoMemory>
         ensures { OnOk result (self.new ≡ add_call replay call.now self.old) }
     {
-        self.calls.push(Marked { replay, call })?;
+        self.calls.push(Marked {
+            event,
+            replay,
+            call,
+        })?;
         Ok(())
     }
 
