@@ -3,3 +3,5 @@ pub mod ReadSettings
 pub mod ReadEntries
 pub mod ReadItems
 pub mod ReadReports
+pub mod OneByOne
+pub mod Joined

@@ -12,7 +12,7 @@ use Rattle.svc_values.specs.meaning.SettingsList.{NamedValues, rises, last_name}
 use Rattle.call_forms.specs.meaning.Values.{name_of}
 use Rattle.json_form.proofs.Offered.{after, ok_is, within_ok, passed, each_keeps, first_true, second_true, both_true}
 use Rattle.report_reader.specs.meaning.Parts.{value_in, if_rising, setting_in, settings_in}
-use Rattle.report_reader.specs.Keeping.{names_rise}
+use Rattle.report_reader.specs.meaning.Settings.{names_rise}
 
 names_push : (o : Option (List ℕ)) (before : NamedValues) (pair : List ℕ × Value) → names_rise o before ≡ true
     → rises (last_or o (keys_of before)) pair.0 ≡ true → names_rise o (before ++ pair ∷ []) ≡ true

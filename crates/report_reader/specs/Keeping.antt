@@ -1,9 +1,8 @@
 -- What a report that was read keeps to.
-use Rattle.std.specs.Prelude.{ℕ, ◌&&◌, Bool, true, List, [], ◌∷◌, Option, Some, None, IsTrue}
+use Rattle.std.specs.Prelude.{ℕ, ◌&&◌, Bool, true, List, [], ◌∷◌, None, IsTrue}
 use Rattle.std.specs.List.{list_all}
 use Rattle.svc_values.specs.declared.entry.Entry.{Entry}
 use Rattle.svc_values.specs.meaning.Calls.{is_made}
-use Rattle.svc_values.specs.meaning.SettingsList.{NamedValues, rises}
 use Rattle.outage_schedule.specs.declared.item.Item.{Item}
 use Rattle.outage_schedule.specs.declared.item.Item.TheVariants as item
 use Rattle.outage_schedule.specs.declared.item.Served.{Served}
@@ -12,6 +11,7 @@ use Rattle.outage_schedule.specs.declared.report.Report.{Report}
 use Rattle.report_reader.specs.declared.item.ServedWord.{ServedWord}
 use Rattle.report_reader.specs.declared.item.ServedWord.TheVariants as word
 use Rattle.report_reader.specs.meaning.Items.{fits_event}
+use Rattle.report_reader.specs.meaning.Settings.{names_rise}
 
 -- the word of an item
 abbrev pub word_of_item : Item → ServedWord
@@ -31,11 +31,6 @@ abbrev pub events_fit : List Note → ℕ → List Served → Bool
 events_fit notes last [] = true
 events_fit notes last (one ∷ items) =
     fits_event notes (word_of_item one.item) last one.event && events_fit notes one.event items
-
--- each name is above the one before it
-abbrev pub names_rise : Option (List ℕ) → NamedValues → Bool
-names_rise before [] = true
-names_rise before (pair ∷ pairs) = rises before pair.0 && names_rise (Some pair.0) pairs
 
 -- settings rise, and the call can be made
 abbrev pub is_item : Item → Bool

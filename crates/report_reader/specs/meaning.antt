@@ -8,4 +8,5 @@ pub mod Notes
 pub mod Parts
 pub mod Reports
 pub mod Requests
+pub mod Settings
 pub mod Told

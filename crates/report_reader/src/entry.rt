@@ -1,9 +1,11 @@
 //! Readers of entries and tables.
+ghost use Rattle.std.specs.Prelude.{◌<◌, length, IfSome};
+ghost use Rattle.json_form.specs.Streams.{Begins};
 ghost use Rattle.report_reader.specs.meaning.Entries.{piece_in, pieces_in, entry_in, entries_in, table_rows_in, table_in, tables_in};
 
 use crate::answer::AnswersReader;
 use crate::draw::DrawsReader;
-use crate::part::{CALL, LtxidReader, RowReader, SettingsReader};
+use crate::part::{CALL, LtxidReader, RowReader, SettingsReader, list_ahead};
 use call_forms::NameReader;
 use json_form::{DocFault, Flag, Reader, fixed, list_from, object_with};
 use outage_schedule::{DocRows, ReportEntries, ReportTable, ReportTables};
@@ -81,6 +83,20 @@ impl Reader<ReportEntries> for EntriesReader {
     }
 }
 
+/// The entries that `EntriesReader` reads, each read as soon as its tokens are passed.
+pub(crate) fn entries_ahead(
+    alloc: Global,
+    tokens: &mut json::Reader<'_>,
+    depth: usize,
+) -> Option<ReportEntries>
+    ensures read { IfSome result
+        (λ entries. Begins entries_in depth tokens.old entries tokens.new) }
+    ensures shorter { IfSome result (λ _. length tokens.new < length tokens.old) }
+{
+    let entries = list_ahead(alloc, tokens, depth, &EntryReader)?;
+    Some(Listed::from_vec(entries))
+}
+
 /// Reads the rows of a table, in order.
 struct TableRowsReader;
 
@@ -118,4 +134,17 @@ impl Reader<ReportTables> for TablesReader {
         let tables = list_from(alloc, value, &TableReader)?;
         Ok(Listed::from_vec(tables))
     }
+}
+
+/// The tables that `TablesReader` reads, each read as soon as its tokens are passed.
+pub(crate) fn tables_ahead(
+    alloc: Global,
+    tokens: &mut json::Reader<'_>,
+    depth: usize,
+) -> Option<ReportTables>
+    ensures read { IfSome result (λ tables. Begins tables_in depth tokens.old tables tokens.new) }
+    ensures shorter { IfSome result (λ _. length tokens.new < length tokens.old) }
+{
+    let tables = list_ahead(alloc, tokens, depth, &TableReader)?;
+    Some(Listed::from_vec(tables))
 }

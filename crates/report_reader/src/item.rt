@@ -118,9 +118,9 @@ fn served_at(place: ServedAt, item: Item) -> Served
 /// Reads an item behind those before it, of which the last one stands at the event `last`, and at
 /// an event of these notes.
 #[derive(Clone, Copy)]
-struct ServedReader<'a> {
-    notes: &'a [Note],
-    last: u64,
+pub(crate) struct ServedReader<'a> {
+    pub(crate) notes: &'a [Note],
+    pub(crate) last: u64,
 }
 
 impl ServedReader<'_> {

@@ -12,6 +12,9 @@ mod note;
 mod part;
 mod report;
 mod request;
+mod served_ahead;
+mod streamed;
 mod told;
 
 pub use report::report_from;
+pub use streamed::report_ahead;

@@ -1,14 +1,16 @@
 //! Readers of notes: arrays that begin with a word.
+ghost use Rattle.std.specs.Prelude.{◌<◌, length, IfSome};
 ghost use Rattle.serde_json.specs.View.{view};
 ghost use Rattle.json_form.specs.Faults.{Gives};
 ghost use Rattle.json_form.specs.meaning.Texts.{word_of};
 ghost use Rattle.json_form.specs.Arrays.{count_at, parts_at};
+ghost use Rattle.json_form.specs.Streams.{Begins};
 ghost use Rattle.report_reader.specs.meaning.Notes.{count_in, serve_words, serve_in, just, bytes_in, cut_in, with_word as with_word_def, reap_in, crash_in, incarnation_in, up_in, upcrash_in, tick_in, run_in, runs_in, ran_in, outside_in, ask_in, drain_in, note_by as note_by_def, note_in, notes_in};
 
 use crate::answer::AnswersReader;
 use crate::draw::DrawsReader;
 use crate::go::go_from;
-use crate::part::{LtxidReader, NUMBER, if_count};
+use crate::part::{LtxidReader, NUMBER, if_count, list_ahead};
 use crate::told::{AskedReader, asked_behind, asked_by};
 use json_form::{
     DocCode, DocFault, Parts, Reader, fixed, head_from, list_from, parts_from, word_from,
@@ -335,4 +337,17 @@ impl Reader<Notes> for NotesReader {
         let notes = list_from(alloc, value, &NoteReader)?;
         Ok(Listed::from_vec(notes))
     }
+}
+
+/// The notes that `NotesReader` reads, each read as soon as its tokens are passed.
+pub(crate) fn notes_ahead(
+    alloc: Global,
+    tokens: &mut json::Reader<'_>,
+    depth: usize,
+) -> Option<Notes>
+    ensures read { IfSome result (λ notes. Begins notes_in depth tokens.old notes tokens.new) }
+    ensures shorter { IfSome result (λ _. length tokens.new < length tokens.old) }
+{
+    let notes = list_ahead(alloc, tokens, depth, &NoteReader)?;
+    Some(Listed::from_vec(notes))
 }

@@ -10,12 +10,10 @@ ghost use Rattle.report_reader.specs.meaning.Reports.{alerts_in, image_bytes_in,
 use crate::entry::{EntriesReader, TablesReader};
 use crate::item::ItemsReader;
 use crate::note::NotesReader;
-use crate::part::LtxidsReader;
+use crate::part::{HORIZON, LtxidsReader};
 use crate::request::ClientsReader;
 use call_forms::LineReader;
-use json_form::{
-    Digits, DocCode, DocFault, Members, Reader, Whole, list_from, object_with, octets_from,
-};
+use json_form::{Digits, DocCode, DocFault, Members, Reader, list_from, object_with, octets_from};
 use outage_schedule::{
     Alerts, Document, Image, Ltxids, Notes, Report, ReportEntries, ReportTables, ServedItems,
     Transcripts,
@@ -25,7 +23,7 @@ use std::alloc::Global;
 use svc_values::Listed;
 
 /// Reads alert lines, in order.
-struct AlertsReader;
+pub(crate) struct AlertsReader;
 
 impl Reader<Alerts> for AlertsReader {
     ghost reads = { λ s. alerts_in };
@@ -85,7 +83,11 @@ pub struct Middle {
 
 /// The bytes of the disk, where the document asks for them.
 #[tactic(auto, using(crate::proofs::Stays::back_stays))]
-fn image_from(alloc: Global, members: &mut Members, print: bool) -> Result<Option<Image>, DocFault>
+pub(crate) fn image_from(
+    alloc: Global,
+    members: &mut Members,
+    print: bool,
+) -> Result<Option<Image>, DocFault>
     ensures read { Gives result (image_in print (members_at members.old)) }
     ensures back { IfOk result (λ _.
         back_in (members_at members.new) ≡ back_in (members_at members.old)) }
@@ -105,8 +107,7 @@ fn middle_from(alloc: Global, members: &mut Members, print: bool) -> Result<Midd
         back_in (members_at members.new) ≡ back_in (members_at members.old)) }
 {
     let entries = members.read(alloc, "entries", &EntriesReader)?;
-    let horizon = Whole::new(1, u64::MAX);
-    let forgotten = members.optional(alloc, "forgotten", &horizon, 0)?;
+    let forgotten = members.optional(alloc, "forgotten", &HORIZON, 0)?;
     let image = image_from(alloc, members, print)?;
     Ok(Middle {
         entries,

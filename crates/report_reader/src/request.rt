@@ -1,10 +1,12 @@
 //! Readers of what the requests of clients were shown.
+ghost use Rattle.std.specs.Prelude.{◌<◌, length, IfSome};
+ghost use Rattle.json_form.specs.Streams.{Begins};
 ghost use Rattle.report_reader.specs.meaning.Requests.{shown_in, outcome_in, calls_in, outcomes_in, tried_in, request_in, transcript_in, clients_in};
 
 use crate::answer::AnswersReader;
 use crate::draw::DrawsReader;
 use crate::failure::FailedReader;
-use crate::part::{LtxidReader, LtxidsReader, SessionsReader};
+use crate::part::{LtxidReader, LtxidsReader, SessionsReader, list_ahead};
 use json_form::{DocFault, Flag, Reader, fixed, list_from, object_with};
 use outage_schedule::{
     Outcome, Outcomes, RequestReport, ShownCall, ShownCalls, Transcript, Transcripts, Tried,
@@ -138,4 +140,18 @@ impl Reader<Transcripts> for ClientsReader {
         let clients = list_from(alloc, value, &TranscriptReader)?;
         Ok(Listed::from_vec(clients))
     }
+}
+
+/// The clients that `ClientsReader` reads, each read as soon as its tokens are passed.
+pub(crate) fn clients_ahead(
+    alloc: Global,
+    tokens: &mut json::Reader<'_>,
+    depth: usize,
+) -> Option<Transcripts>
+    ensures read { IfSome result
+        (λ clients. Begins clients_in depth tokens.old clients tokens.new) }
+    ensures shorter { IfSome result (λ _. length tokens.new < length tokens.old) }
+{
+    let clients = list_ahead(alloc, tokens, depth, &TranscriptReader)?;
+    Some(Listed::from_vec(clients))
 }
