@@ -6,6 +6,7 @@ ghost use Rattle.continuity_run.specs.meaning.Clauses.{IsReported, IsCovered, Te
 use crate::run::run_document;
 use cover_core::{counts_of_run, cover_bytes};
 use outage_schedule::Document;
+use report_limits::report_kept;
 use report_text::report_bytes;
 use std::alloc::Global;
 use svc_values::NoMemory;
@@ -40,6 +41,7 @@ fn report_text(alloc: Global, document: Document) -> Result<Vec<u8>, NoMemory>
     ensures { IfOk result (λ text. IsReported document text.items) }
 {
     let (_, report) = run_document(alloc, document)?;
+    report_kept(&report);
     report_bytes(alloc, &report)
 }
 

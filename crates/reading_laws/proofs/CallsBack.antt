@@ -31,8 +31,8 @@ use Rattle.report_reader.specs.meaning.Parts.{call_in}
 use Rattle.report_text.specs.meaning.Parts.{headed, lone}
 use Rattle.report_text.specs.meaning.Values.{literal_value}
 use Rattle.report_text.specs.meaning.Calls.{operand_value, test_word, statement_value, commit_values, call_value}
-use Rattle.report_text.specs.Octets.{OperandOfBytes, StatementOfBytes, CallOfBytes}
-use Rattle.reading_laws.specs.Limits.{fits_operand, fits_statement, fits_call}
+use Rattle.report_text.specs.meaning.Octets.{OperandOfBytes, StatementOfBytes, CallOfBytes}
+use Rattle.reading_laws.specs.Calls.{fits_operand, fits_statement, fits_call}
 use Rattle.reading_laws.proofs.ListsBack.{octets_back, array_back, both_of}
 use Rattle.reading_laws.proofs.ValuesBack.{name_back, line_back, value_back}
 

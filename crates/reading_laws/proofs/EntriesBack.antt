@@ -30,11 +30,14 @@ use Rattle.report_text.specs.meaning.Values.{identifier_value, session_value, ro
 use Rattle.report_text.specs.meaning.Entries.{piece_value, entry_value, table_value}
 use Rattle.report_text.specs.meaning.Failures.{reason_value, failure_value, failed_value}
 use Rattle.report_text.specs.meaning.Requests.{shown_value, outcome_value, request_value}
-use Rattle.report_text.specs.Octets.{ValueOfBytes, RowsOfBytes, PieceOfBytes, EntryOfBytes, TableOfBytes, FailedOfBytes, ShownOfBytes, RequestOfBytes}
+use Rattle.report_text.specs.meaning.Octets.{ValueOfBytes, RowsOfBytes, PieceOfBytes, EntryOfBytes, TableOfBytes, FailedOfBytes, ShownOfBytes, RequestOfBytes}
 use Rattle.report_text.specs.Laws.{shown_entry}
-use Rattle.reading_laws.specs.Limits.{fits_u64, fits_row, fits_identifier, fits_session, fits_settings, fits_replies, fits_call}
-use Rattle.reading_laws.specs.LimitsOfNotes.{if_there}
-use Rattle.reading_laws.specs.Reports.{fits_piece, fits_entry, fits_table, fits_reason, fits_failure, fits_shown, fits_outcome, fits_request}
+use Rattle.report_limits.specs.meaning.Limits.{fits_u64, fits_row, fits_identifier, fits_session, fits_settings, fits_replies}
+use Rattle.reading_laws.specs.Calls.{fits_call}
+use Rattle.report_limits.specs.meaning.Notes.{if_there}
+use Rattle.reading_laws.specs.Reports.{fits_piece, fits_entry}
+use Rattle.report_limits.specs.meaning.Reports.{fits_table}
+use Rattle.report_limits.specs.meaning.Requests.{fits_reason, fits_failure, fits_shown, fits_outcome, fits_request}
 use Rattle.reading_laws.proofs.ListsBack.{number_back, octets_back, list_back, plain_back, joined, both_of}
 use Rattle.reading_laws.proofs.ValuesBack.{name_back, row_back, settings_back, identifier_back, session_back, answers_back, draws_back}
 use Rattle.reading_laws.proofs.CallsBack.{call_back}

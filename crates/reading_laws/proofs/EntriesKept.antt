@@ -9,6 +9,7 @@ use Rattle.json_form.specs.meaning.Texts.{head_of}
 use Rattle.json_form.specs.meaning.Arrays.{fixed, part}
 use Rattle.json_form.specs.meaning.Objects.{object_with, all_there, member_in}
 use Rattle.json_form.proofs.Offered.{both_true}
+use Rattle.json_form.specs.declared.hexadecimal.Digits.TheVariants as case
 use Rattle.svc_values.specs.declared.value.Value.{Value}
 use Rattle.svc_values.specs.declared.entry.Ltxid.{Ltxid}
 use Rattle.svc_values.specs.declared.entry.SessionId.{SessionId}
@@ -32,10 +33,12 @@ use Rattle.report_reader.specs.meaning.Draws.{draws_in}
 use Rattle.report_reader.specs.meaning.Failures.{reason_words, number_behind, reason_by, reason_in, failure_words, disabled_in, mismatch_in, incomplete_in, retries_in, timeout_in, replays_in, wait_in, unknown_in, failure_by, failure_in, null_or_failure, failed_in}
 use Rattle.report_reader.specs.meaning.Requests.{shown_in, outcome_in, calls_in, outcomes_in, tried_in, request_members, request_in, transcript_in, clients_in}
 use Rattle.report_reader.specs.meaning.Entries.{piece_in, pieces_in, entry_members, entry_in, entries_in, table_rows_in, table_in, tables_in}
-use Rattle.report_text.specs.Octets.{RowsOfBytes, PieceOfBytes, EntryOfBytes, TableOfBytes, FailedOfBytes, ShownOfBytes, RequestOfBytes, ValueOfBytes}
-use Rattle.reading_laws.specs.Limits.{fits_row, fits_identifier, fits_session}
-use Rattle.reading_laws.specs.LimitsOfNotes.{if_there}
-use Rattle.reading_laws.specs.Reports.{fits_piece, fits_entry, fits_table, fits_reason, fits_failure, fits_shown, fits_outcome, fits_request}
+use Rattle.report_text.specs.meaning.Octets.{RowsOfBytes, PieceOfBytes, EntryOfBytes, TableOfBytes, FailedOfBytes, ShownOfBytes, RequestOfBytes, ValueOfBytes}
+use Rattle.report_limits.specs.meaning.Limits.{fits_row, fits_identifier, fits_session}
+use Rattle.report_limits.specs.meaning.Notes.{if_there}
+use Rattle.reading_laws.specs.Reports.{fits_piece, fits_entry}
+use Rattle.report_limits.specs.meaning.Reports.{fits_table}
+use Rattle.report_limits.specs.meaning.Requests.{fits_reason, fits_failure, fits_shown, fits_outcome, fits_request}
 use Rattle.reading_laws.proofs.IfRead.{IfRead, then_kept, any_kept, part_kept, part_then_kept, member_then_kept, list_kept, apart, all_fit, weaker}
 use Rattle.reading_laws.proofs.ValuesKept.{NumberKept, number_kept, NameKept, name_kept, SizedKept, sized_kept, RowKept, row_kept, IdentifierKept, identifier_kept, SessionKept, session_kept, SettingsKept, settings_kept, AnswersKept, answers_kept, DrawsKept, draws_kept}
 use Rattle.reading_laws.proofs.CallsKept.{CallKept, call_kept}
@@ -48,7 +51,7 @@ PieceKept x = PieceOfBytes x × (fits_piece x ≡ true)
 piece_kept : (d : Data) → IfRead PieceKept (piece_in d)
 unfolding piece_in
 piece_kept d =
-    any_kept PieceKept (fixed 3 d) _ (λ ds. part_then_kept CallKept PieceKept 0 call_in ds _ call_kept (λ call c.
+    any_kept PieceKept (fixed 3 d) _ (λ ds. part_then_kept CallKept PieceKept 0 call_in ds _ (call_kept case.Lower) (λ call c.
     part_then_kept AnswersKept PieceKept 1 answers_in ds _ answers_kept (λ answers a. part_then_kept DrawsKept PieceKept 2 draws_in ds _ draws_kept (λ draws b.
     ((c.0, (a.0, b.0)), both_true _ _ c.1 (both_true _ _ a.1 b.1))))))
 

@@ -61,7 +61,7 @@ pub member_then_kept : {A B : Type 0} (P : A → Type 0) (Q : B → Type 0) (nam
     → ((d : Data) → IfRead P (read d)) → ((x : A) → P x → IfRead Q (f x)) → IfRead Q (member_in name read ms >>= f)
 member_then_kept P Q name read ms f kept next = then_kept P Q (member_in name read ms) f (member_kept P name read ms kept) next
 
-read_or_kept : {A : Type 0} (P : A → Type 0) (name : List ℕ) (otherwise : A) (read : Data → Result A Fault) (o : Option Data) → P otherwise → ((d : Data) → IfRead P (read d)) → IfRead P (read_or name otherwise read o)
+pub read_or_kept : {A : Type 0} (P : A → Type 0) (name : List ℕ) (otherwise : A) (read : Data → Result A Fault) (o : Option Data) → P otherwise → ((d : Data) → IfRead P (read d)) → IfRead P (read_or name otherwise read o)
 read_or_kept P name otherwise read None missing kept = missing
 read_or_kept P name otherwise read (Some d) missing kept = within_kept P (escaped name) (read d) (kept d)
 

@@ -17,9 +17,10 @@ use Rattle.report_reader.specs.meaning.Items.{fits_event, last_event, place_in, 
 use Rattle.report_reader.specs.Keeping.{word_of_item, events_fit, is_item}
 use Rattle.report_text.specs.meaning.Values.{session_value}
 use Rattle.report_text.specs.meaning.Items.{item_value, served_value}
-use Rattle.report_text.specs.Octets.{ItemOfBytes, ServedOfBytes}
-use Rattle.reading_laws.specs.Limits.{fits_u64, fits_session, fits_call, fits_replies}
-use Rattle.reading_laws.specs.LimitsOfNotes.{fits_item, fits_served}
+use Rattle.report_text.specs.meaning.Octets.{ItemOfBytes, ServedOfBytes}
+use Rattle.report_limits.specs.meaning.Limits.{fits_u64, fits_session, fits_replies}
+use Rattle.reading_laws.specs.Calls.{fits_call}
+use Rattle.reading_laws.specs.Reports.{fits_item, fits_served}
 use Rattle.reading_laws.proofs.ListsBack.{number_back, both_of}
 use Rattle.reading_laws.proofs.ValuesBack.{settings_back, identifier_back, session_back, answers_back, draws_back}
 use Rattle.reading_laws.proofs.CallsBack.{call_back}

@@ -10,6 +10,7 @@ use Rattle.std.specs.Prelude.{ℤ, pos, negsuc}
 use Rattle.json_form.specs.meaning.Texts.{head_of, word_of}
 use Rattle.json_form.specs.meaning.Arrays.{Placed, placed, each_after, fixed, part}
 use Rattle.json_form.proofs.Offered.{both_true}
+use Rattle.json_form.specs.declared.hexadecimal.Digits.TheVariants as case
 use Rattle.outage_schedule.specs.declared.note.Note.{Note}
 use Rattle.outage_schedule.specs.declared.item.Item.{Item}
 use Rattle.outage_schedule.specs.declared.item.Item.TheVariants as item
@@ -23,9 +24,9 @@ use Rattle.report_reader.specs.meaning.Draws.{draws_in}
 use Rattle.report_reader.specs.meaning.Told.{told_words, behind_of, told_by}
 use Rattle.report_reader.specs.meaning.Notes.{count_in}
 use Rattle.report_reader.specs.meaning.Items.{item_words, fits_event, last_event, event_in, place_in, served_at, bare_in, begin_in, answered_in, blocked_in, told_in, refused_in, stopped_outcome_in, stopped_call_in, served_by, one_served, served_in}
-use Rattle.report_text.specs.Octets.{ItemOfBytes, ServedOfBytes}
-use Rattle.reading_laws.specs.Limits.{fits_u64, fits_session}
-use Rattle.reading_laws.specs.LimitsOfNotes.{fits_item, fits_served}
+use Rattle.report_text.specs.meaning.Octets.{ItemOfBytes, ServedOfBytes}
+use Rattle.report_limits.specs.meaning.Limits.{fits_u64, fits_session}
+use Rattle.reading_laws.specs.Reports.{fits_item, fits_served}
 use Rattle.reading_laws.proofs.IfRead.{IfRead, if_kept, either_kept, then_kept, any_kept, part_then_kept, rest_kept, apart, weaker}
 use Rattle.reading_laws.proofs.ValuesKept.{NumberKept, number_kept, IdentifierKept, identifier_kept, SessionKept, session_kept, SettingsKept, settings_kept, AnswersKept, answers_kept, DrawsKept, draws_kept}
 use Rattle.reading_laws.proofs.CallsKept.{CallKept, call_kept}
@@ -74,12 +75,12 @@ by_word_kept notes last word.Begin d =
     part_then_kept SettingsKept ServedKept 3 settings_in ds _ settings_kept (λ settings k. made place (item.Begin settings) at k.0 k.1)))
 by_word_kept notes last word.Call d =
     any_kept ServedKept (fixed 7 d) _ (λ ds. then_kept PlaceKept ServedKept (place_in notes word.Call last ds) _ (place_kept notes word.Call last ds) (λ place at.
-    any_kept ServedKept (part 3 bool_of ds) _ (λ replay. part_then_kept CallKept ServedKept 4 call_in ds _ call_kept (λ call c.
+    any_kept ServedKept (part 3 bool_of ds) _ (λ replay. part_then_kept CallKept ServedKept 4 call_in ds _ (call_kept case.Lower) (λ call c.
     part_then_kept AnswersKept ServedKept 5 answers_in ds _ answers_kept (λ answers a. part_then_kept DrawsKept ServedKept 6 draws_in ds _ draws_kept (λ draws b.
     made place (item.Call replay call answers draws) at (c.0, (a.0, b.0)) (both_true _ _ c.1 (both_true _ _ a.1 b.1))))))))
 by_word_kept notes last word.Blocked d =
     any_kept ServedKept (fixed 4 d) _ (λ ds. then_kept PlaceKept ServedKept (place_in notes word.Blocked last ds) _ (place_kept notes word.Blocked last ds) (λ place at.
-    part_then_kept CallKept ServedKept 3 call_in ds _ call_kept (λ call c. made place (item.Blocked call) at c.0 c.1)))
+    part_then_kept CallKept ServedKept 3 call_in ds _ (call_kept case.Lower) (λ call c. made place (item.Blocked call) at c.0 c.1)))
 by_word_kept notes last word.Outcome d =
     any_kept ServedKept (items_of d) _ (λ is. then_kept PlaceKept ServedKept (place_in notes word.Outcome last (placed is)) _ (place_kept notes word.Outcome last (placed is)) (λ place at.
     part_then_kept IdentifierKept ServedKept 3 identifier_in (placed is) _ identifier_kept (λ x h. any_kept ServedKept (part 4 (word_of told_words) (placed is)) _ (λ w.
@@ -95,7 +96,7 @@ by_word_kept notes last word.Crashed d =
     (any_kept ServedKept (fixed 4 d) _ (λ ds. then_kept PlaceKept ServedKept (place_in notes word.Crashed last ds) _ (place_kept notes word.Crashed last ds) (λ place at.
     part_then_kept IdentifierKept ServedKept 3 identifier_in ds _ identifier_kept (λ x h. made place (item.CrashedOutcome x) at tt h))))
     (any_kept ServedKept (fixed 5 d) _ (λ ds. then_kept PlaceKept ServedKept (place_in notes word.Crashed last ds) _ (place_kept notes word.Crashed last ds) (λ place at.
-    any_kept ServedKept (part 3 bool_of ds) _ (λ replay. part_then_kept CallKept ServedKept 4 call_in ds _ call_kept (λ call c.
+    any_kept ServedKept (part 3 bool_of ds) _ (λ replay. part_then_kept CallKept ServedKept 4 call_in ds _ (call_kept case.Lower) (λ call c.
     made place (item.CrashedCall replay call) at c.0 c.1))))))
 
 one_kept : (notes : List Note) (last : ℕ) (d : Data) → IfRead ServedKept (one_served notes last d)

@@ -20,3 +20,4 @@ pub mod NotesKept
 pub mod ItemsKept
 pub mod EntriesKept
 pub mod ReportKept
+pub mod Offered

@@ -17,7 +17,7 @@ use Rattle.json_form.specs.meaning.Writing.{whole, integer, list_by}
 use Rattle.json_form.proofs.Offered.{first_true, second_true, both_true}
 use Rattle.report_reader.specs.meaning.Parts.{number_in}
 use Rattle.report_text.specs.meaning.Values.{digits}
-use Rattle.reading_laws.specs.Limits.{fits_u64}
+use Rattle.report_limits.specs.meaning.Limits.{fits_u64}
 
 pub number_back : (n : ℕ) → fits_u64 n ≡ true → number_in (whole n) ≡ Ok n
 unfolding whole_of

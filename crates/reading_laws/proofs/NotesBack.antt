@@ -21,9 +21,9 @@ use Rattle.report_reader.specs.meaning.Notes.{go_in, serve_words, serve_in, cut_
 use Rattle.report_text.specs.meaning.Parts.{headed}
 use Rattle.report_text.specs.meaning.Values.{identifier_value}
 use Rattle.report_text.specs.meaning.Notes.{did_values, served_word, asked_values, run_value, outside_value, note_value}
-use Rattle.report_text.specs.Octets.{RunOfBytes, NoteOfBytes}
-use Rattle.reading_laws.specs.Limits.{fits_u64, fits_identifier}
-use Rattle.reading_laws.specs.LimitsOfNotes.{if_there, fits_step, fits_told, fits_run, fits_outside, fits_note}
+use Rattle.report_text.specs.meaning.Octets.{RunOfBytes, NoteOfBytes}
+use Rattle.report_limits.specs.meaning.Limits.{fits_u64, fits_identifier}
+use Rattle.report_limits.specs.meaning.Notes.{if_there, fits_step, fits_told, fits_run, fits_outside, fits_note}
 use Rattle.reading_laws.proofs.ListsBack.{number_back, list_back, both_of}
 use Rattle.reading_laws.proofs.ValuesBack.{identifier_back, answers_back, draws_back}
 

@@ -26,9 +26,9 @@ use Rattle.report_reader.specs.meaning.Answers.{answers_in}
 use Rattle.report_reader.specs.meaning.Draws.{draws_in}
 use Rattle.report_reader.specs.meaning.Told.{told_by, asked_words, asked_behind, asked_by}
 use Rattle.report_reader.specs.meaning.Notes.{count_in, go_words, go_count, sent_by, go_by, go_in, serve_words, serve_in, just, bytes_in, cut_in, with_word, reap_in, crash_in, opened_in, incarnation_in, up_in, upcrash_in, run_in, runs_in, ran_in, outside_in, ask_in, drain_in, note_words, note_by, note_in, notes_in}
-use Rattle.report_text.specs.Octets.{RunOfBytes, NoteOfBytes}
-use Rattle.reading_laws.specs.Limits.{fits_u64}
-use Rattle.reading_laws.specs.LimitsOfNotes.{if_there, fits_step, fits_told, fits_reached, fits_run, fits_outside, fits_note}
+use Rattle.report_text.specs.meaning.Octets.{RunOfBytes, NoteOfBytes}
+use Rattle.report_limits.specs.meaning.Limits.{fits_u64}
+use Rattle.report_limits.specs.meaning.Notes.{if_there, fits_step, fits_told, fits_reached, fits_run, fits_outside, fits_note}
 use Rattle.reading_laws.proofs.IfRead.{IfRead, either_kept, then_kept, any_kept, part_then_kept, list_kept, apart, weaker}
 use Rattle.reading_laws.proofs.ValuesKept.{NumberKept, number_kept, IdentifierKept, identifier_kept, AnswersKept, answers_kept, DrawsKept, draws_kept}
 

@@ -20,10 +20,10 @@ use Rattle.report_text.specs.meaning.Requests.{request_value}
 use Rattle.report_text.specs.meaning.Notes.{note_value}
 use Rattle.report_text.specs.meaning.Items.{served_value}
 use Rattle.report_text.specs.meaning.Report.{forgotten_member, image_member, report_value}
-use Rattle.report_text.specs.Octets.{ImageOfBytes}
+use Rattle.report_text.specs.meaning.Octets.{ImageOfBytes}
 use Rattle.report_text.specs.Laws.{shown_report}
 use Rattle.reading_laws.specs.Laws.{ReadsWhatIsWritten}
-use Rattle.reading_laws.specs.Limits.{fits_u64, fits_line}
+use Rattle.report_limits.specs.meaning.Limits.{fits_u64, fits_line}
 use Rattle.reading_laws.specs.Reports.{IsOfForm}
 use Rattle.reading_laws.proofs.ListsBack.{octets_back, plain_back}
 use Rattle.reading_laws.proofs.ValuesBack.{line_back}

@@ -23,9 +23,9 @@ use Rattle.report_reader.specs.meaning.Notes.{notes_in}
 use Rattle.report_reader.specs.meaning.Items.{served_in}
 use Rattle.report_reader.specs.meaning.Entries.{entries_in, tables_in}
 use Rattle.report_reader.specs.meaning.Reports.{alerts_in, image_bytes_in, image_in, front_in, middle_in, back_in, members_in, report_in, as_bad}
-use Rattle.report_text.specs.Octets.{ImageOfBytes}
+use Rattle.report_text.specs.meaning.Octets.{ImageOfBytes}
 use Rattle.reading_laws.specs.Laws.{ReadsOnlyTheForm}
-use Rattle.reading_laws.specs.Limits.{fits_line}
+use Rattle.report_limits.specs.meaning.Limits.{fits_line}
 use Rattle.reading_laws.proofs.IfRead.{IfRead, if_kept, then_kept, any_kept, member_kept, member_then_kept, optional_then_kept, list_kept, read_is, all_fit, weaker}
 use Rattle.reading_laws.proofs.ValuesKept.{NumberKept, LineKept, line_kept, octets_kept}
 use Rattle.reading_laws.proofs.NotesKept.{NotesKept, notes_kept}
@@ -49,7 +49,7 @@ unfolding whole_of
 horizon_kept d = any_kept NumberKept (number_of d) (in_limits 1 (2 ^ 64 - 1)) horizon_limits
 
 image_bytes_kept : (d : Data) → IfRead ImageOfBytes (image_bytes_in d)
-image_bytes_kept d = then_kept IsBytes ImageOfBytes (octets_of case.Lower d) (λ bytes. Ok (Some bytes)) (octets_kept d) (λ bytes is. is)
+image_bytes_kept d = then_kept IsBytes ImageOfBytes (octets_of case.Lower d) (λ bytes. Ok (Some bytes)) (octets_kept case.Lower d) (λ bytes is. is)
 
 image_kept : (print : Bool) (ms : Named) → IfRead ImageOfBytes (image_in print ms)
 image_kept false ms = tt

@@ -24,11 +24,11 @@ use Rattle.call_forms.specs.meaning.Values.{name_of, line_of, bytes_object, valu
 use Rattle.report_reader.specs.meaning.Parts.{value_in, identifier_in, session_in, setting_in, settings_in, row_in}
 use Rattle.report_reader.specs.meaning.Answers.{rows_in, refusal_of, answer_in, answers_in}
 use Rattle.report_reader.specs.meaning.Draws.{seq_in, clock_in, id_in, draw_in, draws_in}
-use Rattle.report_reader.specs.Keeping.{names_rise}
+use Rattle.report_reader.specs.meaning.Settings.{names_rise}
 use Rattle.report_text.specs.meaning.Values.{literal_value, row_value, setting_value, settings_value, identifier_value, session_value}
 use Rattle.report_text.specs.meaning.Answers.{refusal_code, answer_value, draw_value, answers_value, draws_value}
-use Rattle.report_text.specs.Octets.{ValueOfBytes, RowsOfBytes, SettingsOfBytes, AnswerOfBytes, DrawOfBytes}
-use Rattle.reading_laws.specs.Limits.{fits_line, fits_value, fits_row, fits_identifier, fits_session, fits_settings, fits_answer, fits_draw}
+use Rattle.report_text.specs.meaning.Octets.{ValueOfBytes, RowsOfBytes, SettingsOfBytes, AnswerOfBytes, DrawOfBytes}
+use Rattle.report_limits.specs.meaning.Limits.{fits_line, fits_value, fits_row, fits_identifier, fits_session, fits_settings, fits_answer, fits_draw}
 use Rattle.reading_laws.proofs.ListsBack.{number_back, integer_back, octets_back, list_back, array_back, few, both_of}
 
 pub name_back : (name : List ℕ) → is_name name ≡ true → name_of (text name) ≡ Ok name

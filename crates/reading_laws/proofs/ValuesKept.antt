@@ -8,11 +8,12 @@ use Rattle.hex.specs.declared.error.FromHexError.{FromHexError}
 use Rattle.hex.proofs.HexLemmas.{decode_of-ok}
 use Rattle.serde_json.specs.Data.{Data, Num}
 use Rattle.serde_json.specs.Find.{as_str, as_number}
+use Rattle.json_form.specs.declared.hexadecimal.Digits.{Digits}
 use Rattle.json_form.specs.declared.hexadecimal.Digits.TheVariants as case
 use Rattle.json_form.specs.meaning.Faults.{◌>>=◌, here, within, within_item}
 use Rattle.json_form.specs.meaning.Values.{in_limits, fits_i64, whole_of, integer_of, number_of, text_of, items_of, members_of}
 use Rattle.json_form.specs.declared.fault.DocCode.TheVariants.{Limit, BadImage, Unknown}
-use Rattle.json_form.specs.meaning.Texts.{is_capital, octets_or_fault, octets_of, chosen, head_of}
+use Rattle.json_form.specs.meaning.Texts.{is_capital, octets_or_fault, octets_by, octets_of, chosen, head_of}
 use Rattle.json_form.specs.meaning.Arrays.{each_after, fixed}
 use Rattle.json_form.specs.meaning.Objects.{object_with, required}
 use Rattle.json_form.specs.meaning.Pointers.{escaped}
@@ -34,8 +35,8 @@ use Rattle.report_reader.specs.declared.draw.DrawWord.TheVariants as drawword
 use Rattle.report_reader.specs.meaning.Parts.{number_in, octets_in as sized_in, value_in, if_rising, identifier_in, session_in, setting_in, settings_in, row_in}
 use Rattle.report_reader.specs.meaning.Answers.{rows_in, refusal_of, answer_words, answer_of, answer_named, word_or_member, answer_in, answers_in}
 use Rattle.report_reader.specs.meaning.Draws.{draw_words, seq_in, clock_in, id_in, draw_by, draw_in, draws_in}
-use Rattle.report_text.specs.Octets.{ValueOfBytes, SettingsOfBytes, AnswerOfBytes, DrawOfBytes}
-use Rattle.reading_laws.specs.Limits.{fits_u64, fits_line, fits_value, fits_row, fits_identifier, fits_session, fits_settings, fits_answer, fits_draw}
+use Rattle.report_text.specs.meaning.Octets.{ValueOfBytes, SettingsOfBytes, AnswerOfBytes, DrawOfBytes}
+use Rattle.report_limits.specs.meaning.Limits.{fits_u64, fits_line, fits_value, fits_row, fits_identifier, fits_session, fits_settings, fits_answer, fits_draw}
 use Rattle.reading_laws.proofs.IfRead.{IfRead, if_kept, either_kept, then_kept, any_kept, within_kept, part_then_kept, rest_kept, list_kept, array_kept, apart, weaker}
 
 abbrev pub NumberKept : ℕ → Type 0
@@ -77,38 +78,42 @@ decoded_kept : (s : List ℕ) (r : Result (List ℕ) FromHexError) → decode_of
 decoded_kept s (Ok octets) is = (decode_of-ok s octets is).3
 decoded_kept s (Err e) is = tt
 
-pub octets_kept : (d : Data) → IfRead IsBytes (octets_of case.Lower d)
-octets_kept d = any_kept IsBytes (text_of d) _ (λ s. either_kept IsBytes (list_any is_capital s) (Err (here BadImage)) (octets_or_fault (decode_of s)) tt (decoded_kept s (decode_of s) refl))
+octets_by_kept : (digits : Digits) (s : List ℕ) → IfRead IsBytes (octets_by digits s)
+octets_by_kept case.Any s = decoded_kept s (decode_of s) refl
+octets_by_kept case.Lower s = either_kept IsBytes (list_any is_capital s) (Err (here BadImage)) (octets_or_fault (decode_of s)) tt (decoded_kept s (decode_of s) refl)
+
+pub octets_kept : (digits : Digits) (d : Data) → IfRead IsBytes (octets_of digits d)
+octets_kept digits d = any_kept IsBytes (text_of d) (octets_by digits) (octets_by_kept digits)
 
 abbrev pub SizedKept : ℕ → List ℕ → Type 0
 SizedKept count octets = IsBytes octets × ((length octets == count) ≡ true)
 
 pub sized_kept : (count : ℕ) (d : Data) → IfRead (SizedKept count) (sized_in count d)
-sized_kept count d = then_kept IsBytes (SizedKept count) (octets_of case.Lower d) _ (octets_kept d) (λ octets is. if_kept (SizedKept count) _ octets _ (λ h. (is, h)))
+sized_kept count d = then_kept IsBytes (SizedKept count) (octets_of case.Lower d) _ (octets_kept case.Lower d) (λ octets is. if_kept (SizedKept count) _ octets _ (λ h. (is, h)))
 
 abbrev pub ValueKept : Value → Type 0
 ValueKept x = ValueOfBytes x × (fits_value x ≡ true)
 
-pub bytes_kept : (d : Data) → IfRead ValueKept (bytes_value case.Lower d)
-bytes_kept d = then_kept IsBytes ValueKept (octets_of case.Lower d) _ (octets_kept d) (λ octets is. if_kept ValueKept _ (value.Bytes octets) _ (λ h. (is, h)))
+pub bytes_kept : (digits : Digits) (d : Data) → IfRead ValueKept (bytes_value digits d)
+bytes_kept digits d = then_kept IsBytes ValueKept (octets_of digits d) _ (octets_kept digits d) (λ octets is. if_kept ValueKept _ (value.Bytes octets) _ (λ h. (is, h)))
 
-object_kept : (d : Data) → IfRead ValueKept (bytes_object case.Lower d)
+object_kept : (digits : Digits) (d : Data) → IfRead ValueKept (bytes_object digits d)
 unfolding bytes_object
-object_kept d =
+object_kept digits d =
     any_kept ValueKept (object_with (codes "hex" ∷ []) d) _
-    (λ ms. any_kept ValueKept (required (codes "hex") ms) _ (λ hex. within_kept ValueKept (escaped (codes "hex")) (bytes_value case.Lower hex) (bytes_kept hex)))
+    (λ ms. any_kept ValueKept (required (codes "hex") ms) _ (λ hex. within_kept ValueKept (escaped (codes "hex")) (bytes_value digits hex) (bytes_kept digits hex)))
 
-number_or_kept : (d : Data) (o : Option Num) → IfRead ValueKept (number_or_bytes case.Lower d o)
-number_or_kept d None = object_kept d
-number_or_kept d (Some n) = then_kept IntegerKept ValueKept (integer_of d) _ (integer_kept d) (λ z h. (tt, h))
+number_or_kept : (digits : Digits) (d : Data) (o : Option Num) → IfRead ValueKept (number_or_bytes digits d o)
+number_or_kept digits d None = object_kept digits d
+number_or_kept digits d (Some n) = then_kept IntegerKept ValueKept (integer_of d) _ (integer_kept d) (λ z h. (tt, h))
 
-text_or_kept : (d : Data) (o : Option (List ℕ)) → IfRead ValueKept (text_or_other case.Lower d o)
-text_or_kept d None = number_or_kept d (as_number d)
-text_or_kept d (Some t) = then_kept LineKept ValueKept (line_of d) _ (line_kept d) (λ line h. (tt, h))
+text_or_kept : (digits : Digits) (d : Data) (o : Option (List ℕ)) → IfRead ValueKept (text_or_other digits d o)
+text_or_kept digits d None = number_or_kept digits d (as_number d)
+text_or_kept digits d (Some t) = then_kept LineKept ValueKept (line_of d) _ (line_kept d) (λ line h. (tt, h))
 
-pub value_kept : (d : Data) → IfRead ValueKept (value_in d)
+pub value_kept : (digits : Digits) (d : Data) → IfRead ValueKept (value_of digits d)
 unfolding value_of
-value_kept d = text_or_kept d (as_str d)
+value_kept digits d = text_or_kept digits d (as_str d)
 
 abbrev pub RowKept : List Value → Type 0
 RowKept row = AllByRecursion ValueOfBytes row × (fits_row row ≡ true)
@@ -117,7 +122,7 @@ pub row_kept : (d : Data) → IfRead RowKept (row_in d)
 row_kept d =
     weaker _ RowKept (row_in d)
     (λ row k. let a = apart ValueOfBytes fits_value row k.1 in (a.0, both_true _ _ (second_true (nat_le 0 (length row)) _ k.0) a.1))
-    (array_kept ValueKept 0 8 value_in value_kept d)
+    (array_kept ValueKept 0 8 value_in (value_kept case.Lower) d)
 
 -- ---- settings and identifiers
 
@@ -127,7 +132,7 @@ SettingKept pair = ValueOfBytes pair.1 × ((is_name pair.0 && fits_value pair.1)
 setting_kept : (before : NamedValues) (d : Data) → IfRead SettingKept (setting_in before d)
 unfolding setting_in
 setting_kept before d =
-    any_kept SettingKept (fixed 2 d) _ (λ ds. part_then_kept NameKept SettingKept 0 name_of ds _ name_kept (λ name is. any_kept SettingKept (within_item 0 (if_rising before name)) _ (λ _. part_then_kept ValueKept SettingKept 1 value_in ds _ value_kept (λ x k. (k.0, both_true _ _ is k.1)))))
+    any_kept SettingKept (fixed 2 d) _ (λ ds. part_then_kept NameKept SettingKept 0 name_of ds _ name_kept (λ name is. any_kept SettingKept (within_item 0 (if_rising before name)) _ (λ _. part_then_kept ValueKept SettingKept 1 value_in ds _ (value_kept case.Lower) (λ x k. (k.0, both_true _ _ is k.1)))))
 
 abbrev pub SettingsKept : NamedValues → Type 0
 SettingsKept settings = SettingsOfBytes settings × (fits_settings settings ≡ true)

@@ -1,4 +1,3 @@
-pub mod Limits
-pub mod LimitsOfNotes
+pub mod Calls
 pub mod Reports
 pub mod Laws

@@ -8,6 +8,7 @@ use Rattle.outage_schedule.specs.declared.document.Document.{Document}
 use Rattle.outage_schedule.specs.declared.report.Report.{Report}
 use Rattle.shown_clauses.specs.meaning.Cover.{cover}
 use Rattle.doc_reader.specs.meaning.Documents.{document_at, limit}
+use Rattle.report_limits.specs.meaning.Reports.{KeepsLimits}
 use Rattle.report_text.specs.meaning.Report.{report_value}
 use Rattle.report_check.specs.declared.verdict.Clause.{Clause}
 use Rattle.report_check.specs.meaning.Pairs.{check_limit, pair_at}
@@ -20,10 +21,12 @@ use Rattle.continuity_run.specs.meaning.Check.{IsRight, IsWrong, right_text}
 use Rattle.continuity_run.specs.meaning.Headline.{Headline}
 use Rattle.continuity_run.specs.meaning.Load.{IsLoaded}
 
--- The text is that of a report which says of the document what the headline says, and a reader of JSON reads the report's value in it.
+-- The text is that of a report which says of the document what the headline says and keeps to the limits of its types, and a reader of JSON reads
+-- the report's value in it.
 pub record IsReported (document : Document) (text : List ℕ) : Type 0 where
   pub report : Report
   pub headline : Headline document report
+  pub limits : KeepsLimits report
   pub written : text ≡ compact_text (report_value report)
   pub reads : read text ≡ Some (report_value report)
   pub utf8 : IsUtf8 text

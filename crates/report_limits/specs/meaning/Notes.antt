@@ -1,5 +1,5 @@
--- The limits that notes and served items keep to.
-use Rattle.std.specs.Prelude.{◌&&◌, Bool, true, nat_le, Option}
+-- The limits that notes keep to.
+use Rattle.std.specs.Prelude.{◌&&◌, Bool, true, Option}
 use Rattle.std.specs.List.{list_all}
 use Rattle.std.specs.Option.{option_map_or}
 use Rattle.outage_schedule.specs.declared.note.GoNote.{GoNote}
@@ -11,10 +11,7 @@ use Rattle.outage_schedule.specs.declared.note.NoteRun.{NoteRun}
 use Rattle.outage_schedule.specs.declared.note.OutsideNote.{OutsideNote}
 use Rattle.outage_schedule.specs.declared.note.Note.{Note}
 use Rattle.outage_schedule.specs.declared.note.Note.TheVariants as note
-use Rattle.outage_schedule.specs.declared.item.Item.{Item}
-use Rattle.outage_schedule.specs.declared.item.Item.TheVariants as item
-use Rattle.outage_schedule.specs.declared.item.Served.{Served}
-use Rattle.reading_laws.specs.Limits.{fits_u64, fits_identifier, fits_session, fits_settings, fits_replies, fits_call}
+use Rattle.report_limits.specs.meaning.Limits.{fits_u64, fits_identifier, fits_replies}
 
 abbrev pub fits_step : GoNote → Bool
 fits_step (did.Open k) = fits_u64 k
@@ -54,17 +51,3 @@ fits_note note.Tick = true
 fits_note (note.Outside ran) = if_there fits_outside ran
 fits_note (note.Ask x result) = fits_identifier x && if_there fits_told result
 fits_note (note.Drain closed) = fits_u64 closed
-
--- a frame is refused for cause 1 or 2
-abbrev pub fits_item : Item → Bool
-fits_item (item.Begin settings) = fits_settings settings
-fits_item (item.Call replay call answers draws) = fits_call call && fits_replies answers draws
-fits_item (item.Blocked call) = fits_call call
-fits_item (item.Outcome x result) = fits_identifier x && fits_told result
-fits_item (item.Refused cause) = nat_le 1 cause && nat_le cause 2
-fits_item (item.CrashedCall replay call) = fits_call call
-fits_item (item.CrashedOutcome x) = fits_identifier x
-fits_item _ = true
-
-abbrev pub fits_served : Served → Bool
-fits_served one = fits_u64 one.event && (fits_session one.session && fits_item one.item)

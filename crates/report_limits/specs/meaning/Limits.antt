@@ -1,5 +1,5 @@
--- The limits that the small parts of a report keep to: numbers have 64 bits, names are names, and texts, octets, rows and statements are no longer
--- than a document may have them.
+-- The limits that the small parts of a report keep to: numbers have 64 bits, names are names, and texts, octets, rows and answers are no longer
+-- than those of a document.
 use Rattle.std.specs.Prelude.{ℕ, ◌^◌, ◌&&◌, ◌==◌, Bool, true, nat_le, nat_lt, List, length}
 use Rattle.std.specs.List.{list_all}
 use Rattle.json_form.specs.meaning.Values.{fits_i64}
@@ -9,18 +9,10 @@ use Rattle.svc_values.specs.declared.answer.Answer.{Answer}
 use Rattle.svc_values.specs.declared.answer.Answer.TheVariants as answer
 use Rattle.svc_values.specs.declared.draw.Draw.{Draw}
 use Rattle.svc_values.specs.declared.draw.Draw.TheVariants as draw
-use Rattle.svc_values.specs.declared.draw.DrawKind.TheVariants as kind
-use Rattle.svc_values.specs.declared.statement.Operand.{Operand}
-use Rattle.svc_values.specs.declared.statement.Operand.TheVariants as operand
-use Rattle.svc_values.specs.declared.statement.Statement.{Statement}
-use Rattle.svc_values.specs.declared.statement.Statement.TheVariants as statement
-use Rattle.svc_values.specs.declared.call.Call.{Call}
-use Rattle.svc_values.specs.declared.call.Call.TheVariants as call
 use Rattle.svc_values.specs.declared.entry.Ltxid.{Ltxid}
 use Rattle.svc_values.specs.declared.entry.SessionId.{SessionId}
 use Rattle.svc_values.specs.meaning.SettingsList.{NamedValues}
 use Rattle.svc_values.specs.meaning.Texts.{is_name}
-use Rattle.report_text.specs.meaning.Calls.{changing}
 
 -- a number of 64 bits without a sign
 abbrev pub fits_u64 : ℕ → Bool
@@ -63,28 +55,3 @@ fits_draw (draw.Id octets) = length octets == 16
 
 abbrev pub fits_replies : List Answer → List Draw → Bool
 fits_replies answers draws = list_all fits_answer answers && list_all fits_draw draws
-
--- ---- calls
-
-abbrev pub fits_operand : Operand → Bool
-fits_operand (operand.Lit x) = fits_value x
-fits_operand (operand.Var name) = is_name name
-fits_operand (operand.Draw (kind.Seq name)) = is_name name
-fits_operand _ = true
-
--- names are names, and an insert has 1 to 8 operands
-abbrev pub fits_statement : Statement → Bool
-fits_statement (statement.Insert table values) = is_name table && ((nat_le 1 (length values) && nat_le (length values) 8) && list_all fits_operand values)
-fits_statement (statement.Update table key column by) = is_name table && (fits_operand key && (is_name column && fits_operand (changing by)))
-fits_statement (statement.Delete table key) = is_name table && fits_operand key
-fits_statement (statement.Get table key) = is_name table && fits_operand key
-fits_statement (statement.Select table column compared o) = is_name table && (is_name column && fits_operand o)
-fits_statement (statement.Count table) = is_name table
-fits_statement (statement.Sum table column) = is_name table && is_name column
-fits_statement (statement.Show o) = fits_operand o
-
-abbrev pub fits_call : Call → Bool
-fits_call (call.Work statements commit) = list_all fits_statement statements
-fits_call (call.Set name x) = is_name name && fits_value x
-fits_call (call.Alter line) = fits_line line
-fits_call _ = true

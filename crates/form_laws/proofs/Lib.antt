@@ -1,0 +1,11 @@
+mod Clients
+mod Documents
+mod Events
+mod Forms
+mod Fronts
+mod Items
+mod Served
+mod Stored
+mod Takes
+mod Talks
+mod Walks

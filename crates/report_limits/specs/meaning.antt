@@ -1,0 +1,5 @@
+-- What the program's promise means: all that its definition uses of this crate.
+pub mod Limits
+pub mod Notes
+pub mod Reports
+pub mod Requests
