@@ -1,17 +1,20 @@
 //! The verdict on a report.
 ghost use Rattle.std.specs.Prelude.{◌≡◌, IfOk};
 ghost use Rattle.doc_reader.specs.Keeping.{IsDocument};
+ghost use Rattle.report_reader.specs.Keeping.{IsTold};
 ghost use Rattle.report_check.specs.Judged.{IsJudged};
 ghost use Rattle.report_check.specs.Words.{word_of};
 
 use entry_check::{judge_once, judge_same};
 use json_form::Pointer;
+use legal_check::judge_legal;
 use outage_schedule::{Document, Report};
 use serial_check::laws::{fresh_is_placed, serial_is_placed};
 use serial_check::{judge_fresh, judge_serial};
 use std::alloc::Global;
 use stored_check::judge_stored;
 use svc_values::NoMemory;
+use whole_check::judge_whole;
 
 /// A clause on a report and its document, in the order in which they are judged.
 #[derive(Clone, Copy, Debug, PartialEq, Eq)]
@@ -20,6 +23,8 @@ pub enum Clause {
     Serial,
     /// No value was drawn twice.
     Fresh,
+    /// What the service did is what it may do, with these entries and alerts.
+    Legal,
     /// Each transaction stands among the entries at most once, and as it was shown.
     Once,
     /// Each transaction stands there with the calls, answers, draws and settings that its client
@@ -27,6 +32,9 @@ pub enum Clause {
     Same,
     /// Each outcome that was told is the stored one.
     Stored,
+    /// Each request is shown its whole script in order, as sessions of its own served it, or one
+    /// failure.
+    Whole,
 }
 
 impl Clause {
@@ -37,9 +45,11 @@ impl Clause {
         match self {
             Clause::Serial => "serial",
             Clause::Fresh => "fresh",
+            Clause::Legal => "legal",
             Clause::Once => "once",
             Clause::Same => "same",
             Clause::Stored => "stored",
+            Clause::Whole => "whole",
         }
     }
 }
@@ -56,10 +66,10 @@ pub enum Verdict {
 }
 
 /// Judges a report with its document. A later clause is looked at only where those before it hold.
-/// The cost is that of `judge_serial`, `judge_fresh`, `judge_once`, `judge_same` and
-/// `judge_stored`.
+/// The cost is that of the judges of the clauses one after the other.
 pub fn judge(alloc: Global, document: &Document, report: &Report) -> Result<Verdict, NoMemory>
-    requires { IsDocument document.now }
+    requires document { IsDocument document.now }
+    requires told { IsTold report.now }
     ensures { IfOk result (IsJudged document.now report.now) }
 {
     serial_is_placed();
@@ -70,6 +80,9 @@ pub fn judge(alloc: Global, document: &Document, report: &Report) -> Result<Verd
     if let Some(path) = judge_fresh(alloc, report)? {
         return Ok(against(Clause::Fresh, path));
     }
+    if let Some(path) = judge_legal(alloc, document, report)? {
+        return Ok(against(Clause::Legal, path));
+    }
     if let Some(path) = judge_once(alloc, document, report)? {
         return Ok(against(Clause::Once, path));
     }
@@ -78,6 +91,9 @@ pub fn judge(alloc: Global, document: &Document, report: &Report) -> Result<Verd
     }
     if let Some(path) = judge_stored(alloc, document, report)? {
         return Ok(against(Clause::Stored, path));
+    }
+    if let Some(path) = judge_whole(alloc, document, report)? {
+        return Ok(against(Clause::Whole, path));
     }
     Ok(Verdict::Yes)
 }

@@ -16,7 +16,7 @@ use Rattle.run_clauses.specs.meaning.Comparing.{same_printed_rows}
 use Rattle.run_clauses.specs.meaning.NoClash.{no_clash}
 use Rattle.run_clauses.specs.meaning.Serial.{same_report_table, are_printed, serial, IsSerial, printed_tables}
 use Rattle.report_text.specs.Laws.{shown_report}
-use Rattle.printed_laws.specs.Laws.{SerialSeesNoWrites, FreshSeesNoWrites, OnceSeesNoWrites, SameSeesNoWrites, StoredSeesNoWrites}
+use Rattle.printed_laws.specs.Laws.{SerialSeesNoWrites, FreshSeesNoWrites, LegalSeesNoWrites, OnceSeesNoWrites, SameSeesNoWrites, StoredSeesNoWrites, WholeSeesNoWrites}
 use Rattle.report_check.specs.declared.verdict.Clause.{Clause}
 use Rattle.report_check.specs.declared.verdict.Clause.TheVariants as clause
 use Rattle.report_check.specs.meaning.Verdicts.{holds, clauses}
@@ -49,17 +49,21 @@ serial_holds tested document r is =
 pub record SeesNoWrites : Type 0 where
   pub serial : SerialSeesNoWrites
   pub fresh : FreshSeesNoWrites
+  pub legal : LegalSeesNoWrites
   pub once : OnceSeesNoWrites
   pub same : SameSeesNoWrites
   pub stored : StoredSeesNoWrites
+  pub whole : WholeSeesNoWrites
 
 each_holds : SerialIsTested → SeesNoWrites → (document : Document) (r : Report) → Headline document r → IsTrue (no_clash document r)
     → (one : Clause) → holds document (shown_report r) one ≡ true
 each_holds tested sees document r headline apart clause.Serial = sees.serial document r ∙ serial_holds tested document r headline.serial
 each_holds tested sees document r headline apart clause.Fresh = sees.fresh r ∙ headline.fresh
+each_holds tested sees document r headline apart clause.Legal = sees.legal document r ∙ headline.legal_so
 each_holds tested sees document r headline apart clause.Once = sees.once document r ∙ headline.once_so
 each_holds tested sees document r headline apart clause.Same = sees.same document r ∙ headline.same_so apart
 each_holds tested sees document r headline apart clause.Stored = sees.stored document r ∙ headline.stored_so
+each_holds tested sees document r headline apart clause.Whole = sees.whole document r ∙ headline.whole_so
 
 none_false : (test : Clause → Bool) → ((one : Clause) → test one ≡ true) → (all : List Clause) → find (λ one. not (test one)) all ≡ None
 none_false test all_hold [] = refl

@@ -13,7 +13,9 @@ use Rattle.continuity_run.specs.meaning.Headline.{image_if}
 use Rattle.json_form.proofs.Offered.{ok_is}
 use Rattle.json_form.specs.meaning.Faults.{Fault, ◌>>=◌, within}
 use Rattle.report_check.specs.meaning.Verdicts.{first_false}
+use Rattle.form_laws.specs.Laws.{ReportsHaveTheForm}
 use Rattle.reading_laws.specs.Laws.{ReadsNothingElse, ReadsWhatIsWritten}
+use Rattle.reading_laws.specs.Reports.{IsOfForm}
 use Rattle.verdict_laws.specs.Laws.{RunsAreRight, pair_value, RunsAreCheckedRight, RunsAreNeverDenied}
 
 pair_read : (d e : Data) (document : Document) (report : Report) → document_of d ≡ Ok document → report_of document e ≡ Ok report
@@ -29,11 +31,12 @@ abbrev found : Option Data → Data
 found None = Data.null
 found (Some d) = d
 
-pub runs_checked : ReadsWhatIsWritten → RunsAreRight → RunsAreCheckedRight
-runs_checked back right first text bytes answer pair form apart =
+pub runs_checked : ReadsWhatIsWritten → ReportsHaveTheForm → RunsAreRight → RunsAreCheckedRight
+runs_checked back forms right first text bytes answer pair apart =
     let document = answer.document in
     let r = answer.told.report in
     let headline = answer.told.headline in
+    let form : IsOfForm r = forms first document r answer.accepted headline.followed_so headline.legal_so answer.told.limits in
     let image : is_some r.image ≡ document.print_image = ap is_some headline.image ∙ asked document.print_image headline.bytes in
     let front : document_of pair.document ≡ Ok document = sym (ap (λ given. given >>= document_of) pair.begins) ∙ answer.accepted in
     let value : report_value r ≡ pair.report = ap found (sym answer.told.reads ∙ pair.reads) in

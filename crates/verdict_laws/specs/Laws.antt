@@ -12,7 +12,6 @@ use Rattle.report_text.specs.Laws.{shown_report}
 use Rattle.report_check.specs.declared.verdict.Clause.{Clause}
 use Rattle.report_check.specs.meaning.Pairs.{check_limit}
 use Rattle.report_check.specs.meaning.Verdicts.{first_false}
-use Rattle.reading_laws.specs.Reports.{IsOfForm}
 use Rattle.continuity_run.specs.declared.answer.Telling.TheVariants as telling
 use Rattle.continuity_run.specs.meaning.Check.{IsRight, IsWrong}
 use Rattle.continuity_run.specs.meaning.Clauses.{IsAnswer}
@@ -41,9 +40,7 @@ RunsAreNeverDenied =
     (first text bytes : List ℕ) (answer : IsAnswer telling.Report first text) → IsPairOf first text bytes → IsTrue (no_clash answer.document answer.told.report)
     → (one : Clause) (path : List ℕ) → IsWrong bytes one path → ⊥
 
--- It is right: where its report is of the form, and no two answers that were
--- compared have one digest by chance.
+-- It is right, where no two answers that were compared have one digest by chance.
 abbrev pub RunsAreCheckedRight : Type 0
 RunsAreCheckedRight =
-    (first text bytes : List ℕ) (answer : IsAnswer telling.Report first text) → IsPairOf first text bytes
-    → IsOfForm answer.told.report → IsTrue (no_clash answer.document answer.told.report) → IsRight bytes
+    (first text bytes : List ℕ) (answer : IsAnswer telling.Report first text) → IsPairOf first text bytes → IsTrue (no_clash answer.document answer.told.report) → IsRight bytes

@@ -18,10 +18,11 @@ pub fn runs_are_never_denied()
     runs_are_right();
 }
 
-/// It says yes, where the report is of the form. That each report of a run is, is not proved.
+/// It says yes: the report is of the form that is read.
 pub fn runs_are_checked_right()
     ensures { RunsAreCheckedRight }
 {
     reading_laws::laws::reports_are_read_back();
+    form_laws::laws::reports_have_the_form();
     runs_are_right();
 }

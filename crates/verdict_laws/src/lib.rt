@@ -1,4 +1,4 @@
-//! Of what `run` prints, `check` tells no clause. It has laws, and no code.
+//! Of what `run` prints, `check` tells no clause, and says yes. It has laws, and no code.
 #![tactic(auto)]
 
 pub mod laws;

@@ -7,6 +7,8 @@ use Rattle.run_clauses.specs.meaning.Fresh.{fresh}
 use Rattle.run_clauses.specs.meaning.Once.{once}
 use Rattle.run_clauses.specs.meaning.Same.{same}
 use Rattle.run_clauses.specs.meaning.Stored.{stored}
+use Rattle.shown_clauses.specs.meaning.Legal.{legal_of}
+use Rattle.shown_clauses.specs.meaning.Whole.{whole}
 use Rattle.serial_check.specs.meaning.Places.{serial_place, fresh_place}
 use Rattle.report_check.specs.declared.verdict.Clause.{Clause}
 use Rattle.report_check.specs.declared.verdict.Clause.TheVariants as clause
@@ -14,13 +16,15 @@ use Rattle.report_check.specs.declared.verdict.Clause.TheVariants as clause
 abbrev pub holds : Document → Report → Clause → Bool
 holds document report clause.Serial = serial document report
 holds document report clause.Fresh = fresh report
+holds document report clause.Legal = legal_of document report
 holds document report clause.Once = once document report
 holds document report clause.Same = same document report
 holds document report clause.Stored = stored document report
+holds document report clause.Whole = whole document report
 
 -- the clauses that are judged, in their order
 abbrev pub clauses : List Clause
-clauses = clause.Serial ∷ clause.Fresh ∷ clause.Once ∷ clause.Same ∷ clause.Stored ∷ []
+clauses = clause.Serial ∷ clause.Fresh ∷ clause.Legal ∷ clause.Once ∷ clause.Same ∷ clause.Stored ∷ clause.Whole ∷ []
 
 -- None exactly where all of these hold
 abbrev pub first_false : Document → Report → Option Clause
