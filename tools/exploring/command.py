@@ -4,16 +4,15 @@ import argparse
 import collections
 import json
 import pathlib
-import subprocess
 import sys
 import tempfile
 import time
 
+from running.program import NoProgram, built, run
+
 from .schedules import Each, Random
 from .shown import faults_of, lines_of, plain
 
-TOP = pathlib.Path(__file__).resolve().parents[2]
-LAUNCHER, BUILT = TOP / "continuity", TOP / "crates/continuity/out/continuity"
 ABOUT = """Says what can happen to the clients of a DOCUMENT. It is run once as it is; then again with each connection cut
 at each place of that run, with none, all and all but one of the bytes on their way arriving; and with a crash at each
 place, and after each device call of each event in which the server works, with each image that a crash may leave;
@@ -43,17 +42,10 @@ class Runner:
 
     def report_of(self, document):
         """The report of a document."""
-        given = json.dumps(document).encode()
-        # The launcher may have to build the program, which takes long: what it says of that is seen at once.
-        errors = None if self.program == LAUNCHER else subprocess.PIPE
-        try:
-            ran = subprocess.run([str(self.program), "run"], input=given, stdout=subprocess.PIPE, stderr=errors, check=False)
-        except OSError as why:
-            raise Stop(2, f"{self.program} cannot be run: {why.strerror}") from why
-        if ran.returncode:
-            said = f": {ran.stderr.decode(errors='replace').strip()}" if ran.stderr else ""
-            raise Stop(2, f"the program ended with {ran.returncode}{said}{self.kept(document, None, 'at_fault')}")
-        return json.loads(ran.stdout)
+        ran = run(self.program, "run", json.dumps(document).encode())
+        if ran.status:
+            raise Stop(2, f"{ran.why()}{self.kept(document, None, 'at_fault')}")
+        return json.loads(ran.printed)
 
     def run(self, document, what=None, place=None):
         """Runs one document. The table says of it `what`, or which outage stands at a place."""
@@ -129,11 +121,8 @@ def explore(given):
         document = json.load(file)
     if not isinstance(document, dict):
         raise Stop(2, "the document is no JSON object")
-    runner = Runner(given.program or LAUNCHER, given.keep)
+    runner = Runner(given.program or built(), given.keep)
     report = runner.run(document, "the document as it is")
-    if not given.program:
-        # (built now, if it was not)
-        runner.program = BUILT
     if given.seed is None:
         steps, most = Each(document, report), given.max
     else:
@@ -157,7 +146,7 @@ def main(arguments=None):
     except Stop as why:
         print(f"explore: {why}", file=sys.stderr)
         return why.status
-    except (OSError, ValueError, RecursionError) as why:
+    except (NoProgram, OSError, ValueError, RecursionError) as why:
         print(f"explore: {why}", file=sys.stderr)
         return 2
     return 0

@@ -43,7 +43,7 @@ def lines_of(document, report):
 
 
 def faults_of(document, report):
-    """What may never be so of any report, or nothing. (The program's own judge of reports belongs here.)"""
+    """What may never be so of any report, or nothing. (That `check` says yes of each run is proved: it is not asked.)"""
     entries = {plain(entry["ltxid"]): entry for entry in report["entries"]}
     if len(entries) != len(report["entries"]):
         yield "an identifier stands twice among the entries"

@@ -11,26 +11,38 @@ REPORT = ("alerts", "blocked", "clients", "entries", "notes", "served", "tables"
 class Misfit(Exception):
     """The files do not fit each other, or are not what they should be."""
 
+    event = 0       # up to before this one they do; 0: not at all
+
 
 def need(condition, text):
     if not condition:
         raise Misfit(text)
 
 
-def read(path, members):
-    """The JSON object in a file, in which these members have to be lists."""
+def read(path):
+    """The bytes of a file, and the JSON object that they are."""
     try:
         with open(path, "rb") as file:
-            found = json.loads(file.read())
+            given = file.read()
+        found = json.loads(given)
     except OSError as why:
         raise Misfit(f"{path}: {why.strerror or why}") from None
     except (ValueError, RecursionError) as why:
         raise Misfit(f"{path}: no JSON: {why}") from None
     need(isinstance(found, dict), f"{path}: no JSON object")
+    return given, found
+
+
+def need_lists(path, found, members):
+    """These members of a file's object have to be lists."""
     for member in members:
         need(isinstance(found.get(member), list), f"{path}: no list `{member}`, which a "
              f"{'report' if members == REPORT else 'document'} of a run with a schedule has")
-    return found
+
+
+def with_lists(found, members):
+    """The object, with an empty list in the place of each of these members that is none."""
+    return found | {member: [] for member in members if not isinstance(found.get(member), list)}
 
 
 def submissions(requests, reports):
@@ -47,12 +59,9 @@ def submissions(requests, reports):
     return found
 
 
-def check_schedule(schedule, notes):
-    """The notes have to be of this schedule's events, before those of the finish."""
-    need(len(notes) >= len(schedule),
-         f"the schedule has {len(schedule)} events, the report only {len(notes)} notes")
-    for number, (event, note) in enumerate(zip(schedule, notes), 1):
-        word = "crash" if event[0] == "failover" else event[0]
-        alone = word in ("up", "upcrash", "tick", "outside", "drain")
-        need(word == note[0] and (alone or event[1] == note[1]),
-             f"event {number} is {event[:2]} in the document and {note[:2]} in the report")
+def check_event(number, event, note):
+    """A note has to be of this event of the schedule."""
+    word = "crash" if event[0] == "failover" else event[0]
+    alone = word in ("up", "upcrash", "tick", "outside", "drain")
+    need(word == note[0] and (alone or event[1] == note[1]),
+         f"event {number} is {event[:2]} in the document and {note[:2]} in the report")

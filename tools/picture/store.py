@@ -165,6 +165,6 @@ def answered_lines(schedule, report):
     """The lines of the `alter` calls that were answered."""
     ran = [item[4] for item in report["served"] if item[0] == "call"]
     for event, note in zip(schedule, report["notes"]):
-        if note[0] == "outside" and note[1] != "down":
+        if event[0] == note[0] == "outside" and note[1] != "down":
             ran += event[1][:len(note[2])]
     return [call[0][1] for call in ran if call[0][0] == "alter"]

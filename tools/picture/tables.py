@@ -7,7 +7,7 @@ values that a call drew stand in its entry. At the end there have to be the repo
 import json
 
 from . import words
-from .files import need
+from .files import FAULTS, Misfit, need
 
 NO_ROW = "no row"
 WHOLE = 10  # the rows of a table that is shown whole
@@ -19,6 +19,7 @@ class Tables:
     def __init__(self, document):
         self.known = "image" not in document
         self.columns, self.rows, self.wholes = {}, {}, {}
+        self.fault = None       # of the entries: the rows after it are not known
         for table in document.get("tables", []):
             self.columns[table["name"]] = [name for name, _ in table["columns"]]
             self.rows[table["name"]] = {key_of(row[0]): row for row in table.get("rows", [])}
@@ -26,15 +27,21 @@ class Tables:
     def changes_by_entry(self, entries):
         """Carries out the entries. Gives for each identifier what that entry changed, in words."""
         found = {}
-        for entry in entries if self.known else ():
-            identifier = tuple(entry["ltxid"])
-            was = {table: dict(rows) for table, rows in self.rows.items() if len(rows) <= WHOLE}
-            changes = self.changes(entry)
-            found[identifier] = [(table, row(before), row(after)) for table, before, after in changes]
-            names = sorted({table for table, _, _ in changes if table in was and len(self.rows[table]) <= WHOLE})
-            self.wholes[identifier] = [line for name in names for line in
-                                       (whole(name, "before", was[name]), whole(name, "after", self.rows[name]))]
+        try:
+            for entry in entries if self.known else ():
+                found[tuple(entry["ltxid"])] = self.changed_rows(entry)
+        except (Misfit, *FAULTS) as why:
+            self.fault = why
         return found
+
+    def changed_rows(self, entry):
+        """Carries out an entry. Gives what it changed, in words."""
+        was = {table: dict(rows) for table, rows in self.rows.items() if len(rows) <= WHOLE}
+        changes = self.changes(entry)
+        names = sorted({table for table, _, _ in changes if table in was and len(self.rows[table]) <= WHOLE})
+        self.wholes[tuple(entry["ltxid"])] = [line for name in names for line in
+                                              (whole(name, "before", was[name]), whole(name, "after", self.rows[name]))]
+        return [(table, row(before), row(after)) for table, before, after in changes]
 
     def changes(self, entry):
         """Carries out an entry. Gives (table, row before, row after) for each row that is another afterwards."""
@@ -88,6 +95,8 @@ class Tables:
 
     def close(self, tables):
         """At the end there have to be these."""
+        if self.fault:
+            raise self.fault
         for name, rows in tables if self.known else ():
             mine = sorted(map(key_of, self.rows[name].values()))
             need(mine == sorted(map(key_of, rows)), f"the entries lead to other rows of table {name} than the report's")

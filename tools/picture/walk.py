@@ -1,34 +1,61 @@
 """Follows a run by its document and its report, event by event, and gives what is to be drawn of it."""
 
 from contextlib import contextmanager
+from itertools import islice
 
 from . import words
 from .client import Client
-from .files import FAULTS, Misfit, check_schedule, need, submissions
+from .files import FAULTS, Misfit, check_event, need, submissions
 from .run import OUTSIDE, STORE, Event, Run
 from .sessions import Sessions
 from .verdict import Stored
 
+LONGEST = 400       # characters of why a walk ends
+
 
 def follow(document, report):
     """The run; a Misfit where the report is none of this document."""
-    with fits("the report is not one of such a document"):
-        walk = Walk(document, report)
-    for number, note in enumerate(report["notes"], 1):
-        with fits(f"note {number}, {note}, does not fit what was before it"):
-            walk.step(note)
-    with fits("the end of the report does not fit what was before it"):
+    walk = followed(document, report)
+    with fits("the end of the report does not fit what was before it", len(report["notes"]) + 1):
         walk.close()
     return walk.run
 
 
+def follow_far(document, report):
+    """The run as far as the report fits, and the Misfit there. Without one the run is whole; no run where nothing fits."""
+    try:
+        return follow(document, report), None
+    except Misfit as why:
+        if not why.event:
+            return None, why
+        walk = followed(document, report, why.event - 1)
+        if why.event <= len(report["notes"]):
+            walk.stop(str(why))
+        return walk.run, why
+
+
+def followed(document, report, count=None):
+    """The walk along the notes, or along so many of them."""
+    with fits("the report is not one of such a document"):
+        walk = Walk(document, report)
+    for number, note in enumerate(islice(report["notes"], count), 1):
+        with fits(f"note {number}, {note}, does not fit what was before it", number):
+            walk.step(note)
+    return walk
+
+
 @contextmanager
-def fits(otherwise):
-    """A fault of what is read becomes a Misfit."""
+def fits(otherwise, event=0):
+    """A fault of what is read becomes a Misfit, which knows its event."""
     try:
         yield
+    except Misfit as why:
+        why.event = event
+        raise
     except FAULTS as why:
-        raise Misfit(f"{otherwise} ({why})") from why
+        misfit = Misfit(f"{otherwise} ({why})")
+        misfit.event = event
+        raise misfit from why
 
 
 class Walk:
@@ -37,7 +64,7 @@ class Walk:
         self.schedule, clients = document.get("schedule", []), document["clients"]
         need(len(clients) == len(report["clients"]),
              f"the document has {len(clients)} clients, the report {len(report['clients'])}")
-        check_schedule(self.schedule, report["notes"])
+        self.reports = report["clients"]
         self.sessions = Sessions(self.run, document, report)
         self.store, self.run.stored = self.sessions.store, Stored(report)
         auto = document.get("service", {}).get("failover") == "auto"
@@ -50,14 +77,26 @@ class Walk:
         run = self.run
         run.number += 1
         run.events.append(event := Event(run.number, run.tick, note))
+        if run.number <= len(self.schedule):
+            check_event(run.number, self.schedule[run.number - 1], note)
         event.words = getattr(self, "on_" + note[0])(*note[1:])
         event.tick = run.tick
 
+    def stop(self, why):
+        """The next event is none that could be followed."""
+        run = self.run
+        run.number += 1
+        run.events.append(Event(run.number, run.tick, ["?"], f"THE PICTURE ENDS HERE: {why}"[:LONGEST], "bad"))
+
     def close(self):
+        count, there = len(self.schedule), len(self.run.events)
+        need(there >= count, f"the schedule has {count} events, the report only {there} notes")
         self.sessions.close()
         for client in self.clients:
             need(not client.request and not client.coming,
                  f"the notes end before the requests of client {client.number} have ended")
+        for request in [request for reports in self.reports for request in reports]:
+            self.run.stored.transactions(request)
 
     def on_go(self, number, word, *rest):
         return self.clients[number - 1].go(word, *rest)

@@ -13,10 +13,10 @@ from unittest import mock
 
 sys.path.insert(0, str(pathlib.Path(__file__).resolve().parents[2]))
 from exploring import command, schedules, shown  # noqa: E402
+from running import program  # noqa: E402
+from running.program import BUILT  # noqa: E402
 
-TOP = pathlib.Path(__file__).resolve().parents[3]
-EXAMPLES = TOP / "examples"
-BUILT = TOP / "crates/continuity/out/continuity"
+EXAMPLES = program.TOP / "examples"
 
 # In the program's place: the first example's report with a note for the outage behind which the schedule ends.
 STAND_IN = """#!/usr/bin/env -S python3 -SE
@@ -204,12 +204,19 @@ class Commands(unittest.TestCase):
 
 
 class OfTheLauncher(unittest.TestCase):
+    def built(self, status):
+        with mock.patch.object(program.subprocess, "run", return_value=mock.Mock(returncode=status)) as run:
+            return program.built(), run.call_args
+
     def test_what_it_says_while_it_builds_is_not_held_back(self):
-        ran = mock.Mock(returncode=70, stderr=None)
-        with mock.patch.object(command.subprocess, "run", return_value=ran) as run, tempfile.TemporaryDirectory() as keep:
-            with self.assertRaisesRegex(command.Stop, r"the program ended with 70 \("):
-                command.Runner(command.LAUNCHER, pathlib.Path(keep)).report_of({})
-        self.assertIsNone(run.call_args.kwargs["stderr"])
+        found, (words, streams) = self.built(0)
+        self.assertEqual((found, words[0][0]), (BUILT, str(program.LAUNCHER)))
+        self.assertNotIn("stderr", streams)
+        self.assertNotIn("capture_output", streams)
+
+    def test_no_old_program_is_run(self):
+        with self.assertRaisesRegex(program.NoProgram, "continuity ended with 70"):
+            self.built(70)
 
 
 @unittest.skipUnless(os.access(BUILT, os.X_OK), "the program is not built")

@@ -62,6 +62,19 @@ def stretched(run, ticks):
     return run
 
 
+def changed_somewhere(chance, names):
+    """One of these runs, in whose document or report something is another."""
+    run = copy.deepcopy(RUNS[chance.choice(names)])
+    at = run[chance.choice(["report", "report", "document"])]
+    while isinstance(at, (list, dict)) and at:
+        key = chance.choice(list(at) if isinstance(at, dict) else range(len(at)))
+        if not isinstance(at[key], (list, dict)) or not at[key] or chance.random() < 0.1:
+            at[key] = chance.choice([None, 0, 1, 2, 7, True, "none", "committed", [], [1], {}, {"done": 2}])
+            break
+        at = at[key]
+    return run
+
+
 def beside(run, clients):
     """The same run by so many clients at once, each on a connection of its own. It has to be one without an outage."""
     run, notes, at = copy.deepcopy(run), [], {}

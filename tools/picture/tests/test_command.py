@@ -1,7 +1,6 @@
 """The command's words, files and statuses: what it refuses, it refuses in one line."""
 
 import contextlib
-import copy
 import io
 import json
 import os
@@ -9,7 +8,7 @@ import random
 import tempfile
 import unittest
 
-from runs import RUNS, SHOP, page
+from runs import RUNS, SHOP, changed_somewhere, page
 
 from picture.command import main
 from picture.files import Misfit
@@ -94,14 +93,7 @@ class Command(unittest.TestCase):
                  "an orphan that is asked before it commits", "a crash at the gate of the commit, which stands",
                  "a live identifier blocked from outside", "a wait that is too long", "an outcome that is forgotten")
         for _ in range(600):
-            run = copy.deepcopy(RUNS[chance.choice(names)])
-            at = run[chance.choice(["report", "report", "document"])]
-            while isinstance(at, (list, dict)) and at:
-                key = chance.choice(list(at) if isinstance(at, dict) else range(len(at)))
-                if not isinstance(at[key], (list, dict)) or not at[key] or chance.random() < 0.1:
-                    at[key] = chance.choice([None, 0, 1, 2, 7, True, "none", "committed", [], [1], {}, {"done": 2}])
-                    break
-                at = at[key]
+            run = changed_somewhere(chance, names)
             try:
                 page(run["document"], run["report"])
             except Misfit:

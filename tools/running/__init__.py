@@ -1,0 +1,1 @@
+"""The program, for the tools that run it."""
