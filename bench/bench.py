@@ -215,6 +215,22 @@ def events_document(events):
     return under_schedule(64, transfers(64, 31), traffic.events[:events])
 
 
+def answers_document(events, selects):
+    """The same over calls that each select so many times 32 rows: what does it cost to judge a report that is long?"""
+    wide = {
+        "name": "t",
+        "columns": [["id", "int"], ["of", "int"], ["name", "text"]],
+        "rows": [[key, key // 32, f"{key:08d}" + "x" * 24] for key in range(4_096)],
+    }
+    found = lambda n: ["select", "t", "of", "eq", n % 128]
+    scripts = transfers(64, 31)
+    for client, script in enumerate(scripts):
+        for n, request in enumerate(script["requests"]):
+            request["calls"][0][:0] = [found(client * 31 + n + place) for place in range(selects)]
+    document = json.loads(events_document(events))
+    return compact({**document, "tables": [accounts(64), wide], "clients": scripts})
+
+
 def crashes_document(clients):
     """So many clients, of 32 calls each but for four of them with 31, and a crash behind each eighth round: what a call costs
     that has to outlive crashes."""
@@ -310,6 +326,26 @@ def document_case(name, make, sizes_list, runs=1):
         )
 
 
+def check_case(name, make, sizes_list, runs=1):
+    print(f"{name}")
+    for sizes in sizes_list:
+        with tempfile.TemporaryDirectory() as folder:
+            document, pair = (os.path.join(folder, name) for name in ("document.json", "pair.json"))
+            written(document, make, sizes)
+            with open(document, "rb") as source, open(pair, "wb") as out:
+                out.write(b'{"document":' + source.read() + b',"report":')
+                out.flush()
+                source.seek(0)
+                subprocess.run([program("continuity"), "run"], stdin=source, stdout=out, check=True)
+                out.write(b"}")
+            size = os.path.getsize(pair) / MEGABYTE
+            cost = least(runs, [program("continuity"), "check"], pair)
+        print(
+            f"  {size:7.2f} MB: {cost.processor:7.3f} s, {cost.processor / size:7.3f} s/MB, "
+            f"peak {cost.peak / MEGABYTE:8.1f} MB, {cost.peak / MEGABYTE / size:6.1f} MB/MB"
+        )
+
+
 def start_case(runs):
     """The start of the program, by a document of nothing."""
     with tempfile.NamedTemporaryFile() as document:
@@ -350,6 +386,7 @@ CASES = {
     "keys": lambda: document_case("selects of one row by its key", selects_document, [(1_000, 10_000, "id"), (1_023, 1_000, "id")]),
     "shared": lambda: document_case("sessions that read one table and commit", shared_document, [(8, 32, 1_000), (8, 32, 10_000)]),
     "events": lambda: document_case("events of a schedule", events_document, [(1_000,), (10_000,), (100_000,)], 5),
+    "checks": lambda: check_case("reports that are judged", answers_document, [(100_000, 2), (100_000, 6)], 3),
     "crashes": lambda: document_case("calls of clients under crashes", crashes_document, [(16,), (64,)], 5),
     "openings": lambda: document_case("openings of a store", openings_document, [(200, 5_000), (2_000, 5_000)]),
     "stores": lambda: document_case(
