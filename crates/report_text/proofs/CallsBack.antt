@@ -19,7 +19,7 @@ use Rattle.svc_values.specs.declared.call.Call.{Call}
 use Rattle.svc_values.specs.declared.call.Call.TheVariants as call
 use Rattle.report_text.specs.meaning.Values.{literal_value}
 use Rattle.report_text.specs.meaning.Calls.{operand_value, test_word, change_word, changing, statement_value, commit_values, call_value}
-use Rattle.report_text.specs.Octets.{OperandOfBytes, StatementOfBytes, CallOfBytes}
+use Rattle.report_text.specs.meaning.Octets.{OperandOfBytes, StatementOfBytes, CallOfBytes}
 use Rattle.report_text.proofs.Places.{text_in, is_text, items, part, members_in, first_name, first_value, list_in, listed_back, list_back}
 use Rattle.report_text.proofs.ValuesBack.{value_in, value_back}
 

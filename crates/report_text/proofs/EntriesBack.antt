@@ -20,7 +20,7 @@ use Rattle.report_text.specs.meaning.Values.{identifier_value, session_value}
 use Rattle.report_text.specs.meaning.Entries.{piece_value, entry_value, table_value}
 use Rattle.report_text.specs.meaning.Failures.{reason_value, failure_value, failed_value}
 use Rattle.report_text.specs.meaning.Requests.{shown_value, outcome_value, request_value}
-use Rattle.report_text.specs.Octets.{PieceOfBytes, EntryOfBytes, TableOfBytes, FailedOfBytes, ShownOfBytes, RequestOfBytes}
+use Rattle.report_text.specs.meaning.Octets.{PieceOfBytes, EntryOfBytes, TableOfBytes, FailedOfBytes, ShownOfBytes, RequestOfBytes}
 use Rattle.report_text.specs.Laws.{shown_entry}
 use Rattle.report_text.proofs.Places.{nat_in, text_in, flag_in, items, part, members_in, value_at, digits_in, list_in, digits_back, list_back, all_back}
 use Rattle.report_text.proofs.ValuesBack.{row_in, rows_back, settings_in, settings_back, identifier_in, identifier_back, session_in, session_back, answers_in, answers_back, draws_in, draws_back}

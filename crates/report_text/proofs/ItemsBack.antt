@@ -10,7 +10,7 @@ use Rattle.outage_schedule.specs.declared.item.Item.TheVariants as item
 use Rattle.outage_schedule.specs.declared.item.Served.{Served}
 use Rattle.report_text.specs.meaning.Notes.{told_values}
 use Rattle.report_text.specs.meaning.Items.{item_value, served_value}
-use Rattle.report_text.specs.Octets.{ItemOfBytes, ServedOfBytes}
+use Rattle.report_text.specs.meaning.Octets.{ItemOfBytes, ServedOfBytes}
 use Rattle.report_text.proofs.Places.{nat_in, text_in, flag_in, is_flag, items, part, behind, listed_back}
 use Rattle.report_text.proofs.ValuesBack.{settings_in, settings_back, identifier_in, session_in, answers_in, answers_back, draws_in, draws_back}
 use Rattle.report_text.proofs.CallsBack.{call_in, call_back}

@@ -17,7 +17,7 @@ use Rattle.outage_schedule.specs.declared.note.OutsideNote.{OutsideNote}
 use Rattle.outage_schedule.specs.declared.note.Note.{Note}
 use Rattle.outage_schedule.specs.declared.note.Note.TheVariants as note
 use Rattle.report_text.specs.meaning.Notes.{did_values, served_word, told_values, asked_values, run_value, note_value}
-use Rattle.report_text.specs.Octets.{RunOfBytes, NoteOfBytes}
+use Rattle.report_text.specs.meaning.Octets.{RunOfBytes, NoteOfBytes}
 use Rattle.report_text.proofs.Places.{nat_in, text_in, is_text, flag_in, items, part, behind, list_in, listed_back, list_back}
 use Rattle.report_text.proofs.ValuesBack.{identifier_in, answers_in, answers_back, draws_in, draws_back}
 

@@ -13,7 +13,7 @@ use Rattle.report_text.specs.meaning.Requests.{request_value}
 use Rattle.report_text.specs.meaning.Notes.{note_value}
 use Rattle.report_text.specs.meaning.Items.{served_value}
 use Rattle.report_text.specs.meaning.Report.{forgotten_member, image_member, report_value}
-use Rattle.report_text.specs.Octets.{EntryOfBytes, ImageOfBytes, NoteOfBytes, RequestOfBytes, ReportOfBytes, ServedOfBytes, TableOfBytes}
+use Rattle.report_text.specs.meaning.Octets.{EntryOfBytes, ImageOfBytes, NoteOfBytes, RequestOfBytes, ReportOfBytes, ServedOfBytes, TableOfBytes}
 use Rattle.report_text.specs.Laws.{IsOfOneReport, shown_entry, shown_report}
 use Rattle.report_text.proofs.Places.{nat_in, text_in, members_in, value_at, digits_in, list_in, digits_back, list_back, all_back}
 use Rattle.report_text.proofs.EntriesBack.{entry_in, entry_back, table_in, table_back, identifiers_in, identifiers_back, transcript_in, transcript_back}

@@ -16,7 +16,7 @@ use Rattle.svc_values.specs.declared.answer.Answer.TheVariants as answer
 use Rattle.json_form.specs.meaning.Writing.{list_by}
 use Rattle.report_text.specs.meaning.Values.{literal_value, row_value, setting_value, settings_value, identifier_value, session_value}
 use Rattle.report_text.specs.meaning.Answers.{refusal_code, answer_value, draw_value, answers_value, draws_value}
-use Rattle.report_text.specs.Octets.{ValueOfBytes, RowsOfBytes, SettingsOfBytes, AnswerOfBytes, DrawOfBytes}
+use Rattle.report_text.specs.meaning.Octets.{ValueOfBytes, RowsOfBytes, SettingsOfBytes, AnswerOfBytes, DrawOfBytes}
 use Rattle.report_text.proofs.Places.{nat_in, int_of, int_in, text_in, items, part, first_name, first_value, digits_in, list_in, int_back, digits_back, list_back}
 use Rattle.std.specs.Str.{bytes_eq}
 

@@ -4,7 +4,7 @@ use Rattle.svc_values.specs.declared.entry.Entry.{Entry}
 use Rattle.outage_schedule.specs.declared.report.Report.{Report}
 use Rattle.serde_json.specs.Written.{compact_text}
 use Rattle.report_text.specs.Numbers.{HasShortNumbers}
-use Rattle.report_text.specs.Octets.{ReportOfBytes}
+use Rattle.report_text.specs.meaning.Octets.{ReportOfBytes}
 use Rattle.report_text.specs.meaning.Report.{report_value}
 
 -- The entry without its writes, which no report shows.

@@ -1,5 +1,4 @@
 pub mod Laws
 pub mod Numbers
-pub mod Octets
 pub mod Tokens
 pub mod meaning

@@ -5,6 +5,7 @@ pub mod Entries
 pub mod Failures
 pub mod Items
 pub mod Notes
+pub mod Octets
 pub mod Parts
 pub mod Report
 pub mod Requests
