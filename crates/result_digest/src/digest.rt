@@ -42,9 +42,21 @@ impl Digesting {
         ensures ok { OnOk result ((count : ℕ) (answers : List AnAnswer) → HasTaken self.old count answers → HasTaken self.new count (answers ++ answer.now ∷ [])) }
         ensures err { OnErr result (self.new ≡ self.old) }
     {
-        let mut bytes = Vec::new(self.alloc);
-        put_answer(self.alloc, answer, &mut bytes)?;
-        self.hasher.update(bytes.as_slice());
+        let mut room = Vec::new(self.alloc);
+        self.add_through(answer, &mut room)
+    }
+
+    /// Takes in the next answer. Its bytes are made in the room, and what stood there is gone.
+    fn add_through(&mut self, answer: &Answer, room: &mut Vec<u8>) -> Result<(), NoMemory>
+        requires { HasRoom self.old }
+        ensures ok { OnOk result ((count : ℕ) (answers : List AnAnswer)
+            → HasTaken self.old count answers
+            → HasTaken self.new count (answers ++ answer.now ∷ [])) }
+        ensures err { OnErr result (self.new ≡ self.old) }
+    {
+        room.clear();
+        put_answer(self.alloc, answer, room)?;
+        self.hasher.update(room.as_slice());
         self.added += 1;
         Ok(())
     }
@@ -65,13 +77,14 @@ impl Digesting {
 }
 
 /// The SHA-256 digest (FIPS 180-4) of the canonical bytes of the list of these answers. The cost is
-/// linear in those bytes, of which one answer's are held at a time.
+/// linear in those bytes, of which one answer's are held at a time, all in the same room.
 pub fn digest_of(alloc: Global, answers: &[Answer]) -> Result<[u8; 32], NoMemory>
     ensures { IfOk result (λ digest. digest ≡ sha256 (spell_answers answers.now)) }
 {
     let mut digesting = Digesting::new(alloc, answers.len() as u64);
+    let mut room = Vec::new(alloc);
     for answer in answers {
-        digesting.add(answer)?;
+        digesting.add_through(answer, &mut room)?;
     }
     Ok(digesting.finish())
 }
