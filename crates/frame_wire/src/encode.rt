@@ -10,6 +10,9 @@ use canon_bytes::PutMade;
 use std::alloc::Global;
 use svc_values::{Down, NoMemory, Up};
 
+/// The bytes for which there is room before the first is made: most frames have fewer.
+const FIRST_ROOM: usize = 128;
+
 /// The number of the payload's bytes, and the payload, which is made where it is sent from.
 #[tactic(auto, unfolding(canon_bytes::specs::meaning::TextBytes::spell_bytes, canon_bytes::specs::meaning::Numbers::spell_u64))]
 fn encode<F: PutMade>(alloc: Global, frame: &F) -> Result<Vec<u8>, NoMemory>
@@ -18,7 +21,8 @@ fn encode<F: PutMade>(alloc: Global, frame: &F) -> Result<Vec<u8>, NoMemory>
     ensures fitting { OnOk result (F.fits frame.now) }
     ensures short { OnOk result (length (F.spelling frame.now) < 2 ^ 64) }
 {
-    let mut bytes = Vec::from_slice(alloc, &[0; 8])?;
+    let mut bytes = Vec::with_capacity(alloc, FIRST_ROOM)?;
+    bytes.extend_from_slice(&[0; 8])?;
     frame.put_made(&mut bytes)?;
     let length = (bytes.len() as u64 - 8).to_be_bytes();
     bytes.slice_mut(..8).copy_from_slice(&length);
