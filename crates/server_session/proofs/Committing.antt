@@ -221,10 +221,13 @@ module _ (called : Call) (answers : List Answer) (draws : List Draw) (core : Cor
 
   pub commit_fault : (error : ServeFault) (new : SeenSession) → Stores (kept.Commit entry_here) (Err error) core disk later end → Serves (stores_as called answers draws) 1 (Err error) old core disk new later end
   commit_fault fault.NoMemory new stores = stores
-  commit_fault fault.Stopped new stores = record {
-    records = [];
-    last = kept.Commit entry_here;
-    few = omega arith;
-    halted = stores;
-    steps = commit_fronts;
-  }
+  commit_fault fault.Stopped new stores = (
+    record {
+      records = [];
+      last = kept.Commit entry_here;
+      few = omega arith;
+      halted = stores.0;
+      steps = commit_fronts;
+    },
+    stores.1,
+  )

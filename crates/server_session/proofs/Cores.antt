@@ -17,18 +17,24 @@ use Rattle.ltxid_book.specs.Sessions.{Contents, sessions_in, after_commit, after
 use Rattle.table_store.specs.Stored.{Stored}
 use Rattle.commit_log.specs.declared.journal.Journal.{Journal}
 use Rattle.commit_log.specs.declared.log.Log.{Log}
+use Rattle.commit_log.specs.declared.records.Record.{Record}
 use Rattle.commit_log.specs.declared.records.Record.TheVariants as kept
 use Rattle.commit_log.specs.Adds.{Adds, MayAdd}
+use Rattle.commit_log.specs.Logs.{Trails}
 use Rattle.commit_log.specs.meaning.Bases.{schemas_of, start_of}
-use Rattle.commit_log.specs.meaning.Journals.{journal_of}
+use Rattle.commit_log.specs.meaning.Journals.{journal_in, journal_of}
 use Rattle.commit_log.specs.meaning.Rules.{may_block, may_commit, with_record}
 use Rattle.commit_log.proofs.Offered.{may_beside, notes_commit, block_beside, notes_block}
+use Rattle.server_model.specs.declared.fault.ServeFault.{ServeFault}
+use Rattle.server_model.specs.declared.fault.ServeFault.TheVariants as fault
 use Rattle.server_session.specs.declared.shared.Core.{Core}
 use Rattle.server_session.specs.Alone.{MovesOn, counted}
 use Rattle.server_session.specs.Fits.{Fits, Belongs, tables_of}
+use Rattle.server_session.specs.Leaving.{StaysTrue, StillEnds}
 use Rattle.server_session.specs.SeenSession.{SeenSession}
+use Rattle.server_session.specs.Serving.{HasLacked}
 use Rattle.server_session.specs.Stored.{stored_as}
-use Rattle.server_session.specs.Storing.{Stores}
+use Rattle.server_session.specs.Storing.{HasStored, Stores}
 use Rattle.server_session.proofs.Holding.{holds_later, moves_none, moves_one}
 use Rattle.server_session.proofs.Gaining.{gained_one, halted_one}
 use Rattle.server_session.proofs.Plains.{reads_more, tables_with-more}
@@ -36,6 +42,45 @@ use Rattle.server_session.proofs.Plains.{reads_more, tables_with-more}
 -- the journal that a disk reads as is one
 pub same_journal : (image : List ℕ) (a b : Journal) → journal_of image ≡ Ok a → journal_of image ≡ Ok b → a ≡ b
 same_journal image a b first second = let e : ◌≡◌ {A = Result Journal ℕ} (Ok a) (Ok b) = sym first ∙ second in cc
+
+-- ---- by what the log answers
+
+answered_ok : (answer : Result (Unit {0}) RedoFault) → ◌≡◌ {A = Result (Unit {0}) ServeFault} (Ok tt) (stored_as answer) → answer ≡ Ok tt
+answered_ok (Ok tt) e = refl
+answered_ok (Err log_fault.NoMemory) e = absurd (let clash : ◌≡◌ {A = Result (Unit {0}) ServeFault} (Ok tt) (Err fault.NoMemory) = e in cc)
+answered_ok (Err log_fault.Stopped) e = absurd (let clash : ◌≡◌ {A = Result (Unit {0}) ServeFault} (Ok tt) (Err fault.Stopped) = e in cc)
+answered_ok (Err (log_fault.Damaged place)) e = absurd (let clash : ◌≡◌ {A = Result (Unit {0}) ServeFault} (Ok tt) (Err fault.NoMemory) = e in cc)
+
+-- the record was added
+pub was_added : (log : Log) (disk end : DiskState) (one : Record) (answer : Result (Unit {0}) RedoFault) → ◌≡◌ {A = Result (Unit {0}) ServeFault} (Ok tt) (stored_as answer) → Adds answer log disk end one → Adds (Ok tt) log disk end one
+was_added log disk end one answer told adds = subst (λ (a : Result (Unit {0}) RedoFault). Adds a log disk end one) (answered_ok answer told) adds
+
+-- and then there was no memory
+pub lacks_with : (log : Log) (disk end : DiskState) (one : Record) → Adds (Ok tt) log disk end one → HasLacked 1 disk end
+lacks_with log disk end one adds = record { records = one ∷ []; few = omega arith; moments = adds.any_moment; faults = adds.cause.uncounted (λ e. cc) }
+
+-- a core whose log was stopped, and which has not changed otherwise
+pub stays_true : (core : Core) (disk end : DiskState) (log : Log) → Fits core disk → StillEnds log disk end → StaysTrue core (record core { log = log }) end
+stays_true core disk end log fits ends = record {
+  front = λ image left. record {
+    journal = fits.journal;
+    of_journal = record { tables = fits.tables; book = fits.book; source = fits.source; sequences = fits.sequences };
+    trails = subst (λ (j : Journal). Trails true true j log image) (same_journal disk.now.seen fits.log.journal fits.journal (ap journal_in fits.log.so_far) fits.reads) (ends fits.log.journal fits.log.so_far image left);
+  };
+  grants = refl;
+}
+
+-- the record was not added
+pub fault_stores : (core : Core) (disk : DiskState) (one : Record) (log : Log) (end : DiskState) (answer : Result (Unit {0}) RedoFault) (error : ServeFault) → Fits core disk → ◌≡◌ {A = Result (Unit {0}) ServeFault} (Err error) (stored_as answer)
+    → Adds answer log disk end one → Stores one (Err error) core disk (record core { log = log }) end
+fault_stores core disk one log end (Ok done) error fits e adds = absurd (let clash : ◌≡◌ {A = Result (Unit {0}) ServeFault} (Err error) (Ok done) = e in cc)
+fault_stores core disk one log end (Err log_fault.NoMemory) error fits e adds =
+    let same : error ≡ fault.NoMemory = (let both : ◌≡◌ {A = Result (Unit {0}) ServeFault} (Err error) (Err fault.NoMemory) = e in cc) in
+    rw same (record { records = one ∷ []; few = omega arith; moments = adds.any_moment; faults = adds.cause.uncounted (λ e. cc) })
+fault_stores core disk one log end (Err log_fault.Stopped) error fits e adds =
+    let same : error ≡ fault.Stopped = (let both : ◌≡◌ {A = Result (Unit {0}) ServeFault} (Err error) (Err fault.Stopped) = e in cc) in
+    rw same (halted_one core.log log disk end one fits.log adds, stays_true core disk end log fits (adds.trails refl))
+fault_stores core disk one log end (Err (log_fault.Damaged place)) error fits e adds = absurd adds.goes_on
 
 -- ---- a line
 
@@ -62,8 +107,8 @@ line_stores core disk line log end (Ok done) fits adds = record {
   source = refl;
   grants = refl;
 }
-line_stores core disk line log end (Err log_fault.NoMemory) fits adds = record { records = kept.Alert line ∷ []; few = omega arith; moments = adds.any_moment; faults = adds.cause.uncounted (λ e. cc) }
-line_stores core disk line log end (Err log_fault.Stopped) fits adds = halted_one core.log log disk end (kept.Alert line) fits.log adds
+line_stores core disk line log end (Err log_fault.NoMemory) fits adds = fault_stores core disk (kept.Alert line) log end (Err log_fault.NoMemory) fault.NoMemory fits refl adds
+line_stores core disk line log end (Err log_fault.Stopped) fits adds = fault_stores core disk (kept.Alert line) log end (Err log_fault.Stopped) fault.Stopped fits refl adds
 line_stores core disk line log end (Err (log_fault.Damaged place)) fits adds = absurd adds.goes_on
 
 -- ---- a block
@@ -73,10 +118,9 @@ may_be_blocked core disk x fits may journal reads =
     let same : fits.journal ≡ journal = same_journal disk.now.seen fits.journal journal fits.reads reads in
     subst (λ (j : Journal). IsTrue (may_block j x)) same (sym (block_beside core.book fits.journal x fits.book) ∙ may)
 
-pub block_stores : (core : Core) (disk : DiskState) (x : Ltxid) (book : Contents) (log : Log) (end : DiskState) (answer : Result (Unit {0}) RedoFault) → Fits core disk
-    → IsTrue (may_note (sessions_in core.book) x) → sessions_in book ≡ after_block (sessions_in core.book) x
-    → Adds answer log disk end (kept.Blocked x) → Stores (kept.Blocked x) (stored_as answer) core disk (record core { book = book; log = log }) end
-block_stores core disk x book log end (Ok done) fits may says adds =
+pub block_stores : (core : Core) (disk : DiskState) (x : Ltxid) (book : Contents) (log : Log) (end : DiskState) → Fits core disk → IsTrue (may_note (sessions_in core.book) x) → sessions_in book ≡ after_block (sessions_in core.book) x
+    → Adds (Ok tt) log disk end (kept.Blocked x) → HasStored (kept.Blocked x) core disk (record core { book = book; log = log }) end
+block_stores core disk x book log end fits may says adds =
     let stands = notes_block core.book book fits.journal x fits.book may says in
     record {
       gained = gained_one log disk end (kept.Blocked x) adds;
@@ -96,9 +140,6 @@ block_stores core disk x book log end (Ok done) fits may says adds =
       source = refl;
       grants = refl;
     }
-block_stores core disk x book log end (Err log_fault.NoMemory) fits may says adds = record { records = kept.Blocked x ∷ []; few = omega arith; moments = adds.any_moment; faults = adds.cause.uncounted (λ e. cc) }
-block_stores core disk x book log end (Err log_fault.Stopped) fits may says adds = halted_one core.log log disk end (kept.Blocked x) fits.log adds
-block_stores core disk x book log end (Err (log_fault.Damaged place)) fits may says adds = absurd adds.goes_on
 
 -- ---- a commit
 
@@ -121,11 +162,11 @@ tables_after core journal entry tables are is =
     is ∙ (λ i. record { schemas = (are i).schemas; rows = with_writes (are i).rows entry.writes })
     ∙ (λ i. record { schemas = schemas_of journal.base; rows = sym (tables_with-more (start_of journal.base) journal.entries entry) i })
 
-pub commit_stores : (core : Core) (disk : DiskState) (entry : Entry) (tables : Stored) (commits : ℕ) (book : Contents) (log : Log) (end : DiskState) (answer : Result (Unit {0}) RedoFault) → Fits core disk
+pub commit_stores : (core : Core) (disk : DiskState) (entry : Entry) (tables : Stored) (commits : ℕ) (book : Contents) (log : Log) (end : DiskState) → Fits core disk
     → IsTrue (may_note (sessions_in core.book) entry.ltxid) → sessions_in book ≡ after_commit (sessions_in core.book) entry.ltxid entry.completed
     → tables ≡ record { schemas = core.tables.schemas; rows = with_writes core.tables.rows entry.writes }
-    → commits ≡ counted core.commits → core.commits ≤ commits → Adds answer log disk end (kept.Commit entry) → Stores (kept.Commit entry) (stored_as answer) core disk (record core { tables = tables; commits = commits; book = book; log = log }) end
-commit_stores core disk entry tables commits book log end (Ok done) fits may says wrote counts rises adds =
+    → commits ≡ counted core.commits → core.commits ≤ commits → Adds (Ok tt) log disk end (kept.Commit entry) → HasStored (kept.Commit entry) core disk (record core { tables = tables; commits = commits; book = book; log = log }) end
+commit_stores core disk entry tables commits book log end fits may says wrote counts rises adds =
     let stands = notes_commit core.book book fits.journal entry fits.book may says in
     record {
       gained = gained_one log disk end (kept.Commit entry) adds;
@@ -145,9 +186,6 @@ commit_stores core disk entry tables commits book log end (Ok done) fits may say
       source = refl;
       grants = refl;
     }
-commit_stores core disk entry tables commits book log end (Err log_fault.NoMemory) fits may says wrote counts rises adds = record { records = kept.Commit entry ∷ []; few = omega arith; moments = adds.any_moment; faults = adds.cause.uncounted (λ e. cc) }
-commit_stores core disk entry tables commits book log end (Err log_fault.Stopped) fits may says wrote counts rises adds = halted_one core.log log disk end (kept.Commit entry) fits.log adds
-commit_stores core disk entry tables commits book log end (Err (log_fault.Damaged place)) fits may says wrote counts rises adds = absurd adds.goes_on
 
 -- ---- the numbers of sessions
 

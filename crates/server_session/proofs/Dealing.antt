@@ -27,6 +27,7 @@ use Rattle.server_session.specs.Dealing.{AtDesk, IsPrepared, HasReserved, HasDea
 use Rattle.server_model.specs.declared.fault.ServeFault.{ServeFault}
 use Rattle.server_model.specs.declared.fault.ServeFault.TheVariants as fault
 use Rattle.server_session.specs.Fits.{IsSourceOf}
+use Rattle.server_session.specs.Leaving.{StillEnds}
 use Rattle.server_session.specs.Stored.{stored_as}
 use Rattle.server_session.proofs.Gaining.{gained_none, gained_then, gained_one, halted_one}
 use Rattle.server_session.proofs.Halting.{halts_first, halts_then, source_behind, source_none}
@@ -166,8 +167,8 @@ lacked_behind before after name upto moments faults = record { reservations = re
 -- the store was stopped in a reservation
 pub halted_in : (now : ℕ) (before after : AtDesk) (asked : DrawKind) (name : List ℕ) (upto : ℤ) (between : Opening) (same : List Draw)
     → draw_of before.opening before.left asked now ≡ Some (record { answer = drawn.Reserve name upto; opening = between; kept = same })
-    → HasHalted [] (kept.Reserved (reservation_of name upto)) before.disk after.disk → HasHaltedAt now before asked after
-halted_in now before after asked name upto between same wanted halted =
+    → HasHalted [] (kept.Reserved (reservation_of name upto)) before.disk after.disk → after.opening ≡ between → StillEnds after.log before.disk after.disk → HasHaltedAt now before asked after
+halted_in now before after asked name upto between same wanted halted opening ends =
     let asks = asks_reservation before.opening before.left asked now name upto between same wanted in
     record {
       name = name;
@@ -175,6 +176,8 @@ halted_in now before after asked name upto between same wanted halted =
       is = asks.kind_is;
       wanted = wanted_still before asked now name upto between same wanted;
       halted = halted;
+      same = opening ∙ asks.opening_is;
+      ends = ends;
     }
 
 -- a log that is prepared is so for a source that is the same
@@ -207,7 +210,7 @@ module _ (opening : Opening) (name : List ℕ) (upto : ℤ) (before log : Log) (
       })
   reserve_fault (Err log_fault.Stopped) error e adds =
       let same : error ≡ fault.Stopped = (let both : ◌≡◌ {A = Result (Unit {0}) ServeFault} (Err error) (Err fault.Stopped) = e in cc) in
-      rw same (record { same = refl; halted = halted_one before log disk end (kept.Reserved (reservation_of name upto)) prepared.ready adds; dead = adds.goes_on })
+      rw same (record { same = refl; halted = halted_one before log disk end (kept.Reserved (reservation_of name upto)) prepared.ready adds; dead = adds.goes_on; ends = adds.trails refl })
   reserve_fault (Err (log_fault.Damaged place)) error e adds = absurd adds.goes_on
 
   pub reserve_done : (answer : Result (Unit {0}) RedoFault) (later : Opening) → ◌≡◌ {A = Result (Unit {0}) ServeFault} (Ok tt) (stored_as answer) → Adds answer log disk end (kept.Reserved (reservation_of name upto))

@@ -101,7 +101,7 @@ module _ (D : Type 0) (state : D → DiskState) where
   -- the store was stopped in a draw
   halted_by : (ground : Ground) (names : List (List ℕ)) (given more : List Draw) (a between b : Desk D) → names ≡ names_of a.source.now.sequences → IsPrepared a.source.now a.log.now (state a.disk.now) → DrewAll (DrewAt state) a given between
       → AreAsked (left_on ground names) (given ++ more) → EndedBy (DrewAt state) (left_on ground names) given between txn_fault.Stopped b
-      → HasHaltedOver a.tick ground (at_desk state a) (state b.disk.now)
+      → HasHaltedOver a.tick ground (at_desk state a) (at_desk state b)
   halted_by ground names given more a between b same prepared drew asked because = by more asked
     where
       none_left : (rest : List Draw) → is_first because.0 rest ≡ false → AreAsked (left_on ground names) (given ++ rest) → ⊥
@@ -110,7 +110,7 @@ module _ (D : Type 0) (state : D → DiskState) where
           let clash : ◌≡◌ {A = Option (List Draw)} None (Some []) = sym nothing ∙ all_asked in
           cc
 
-      here : (next : Draw) (rest : List Draw) → is_of_kind because.0 next ≡ true → AreAsked (left_on ground names) (given ++ next ∷ rest) → HasHaltedOver a.tick ground (at_desk state a) (state b.disk.now)
+      here : (next : Draw) (rest : List Draw) → is_of_kind because.0 next ≡ true → AreAsked (left_on ground names) (given ++ next ∷ rest) → HasHaltedOver a.tick ground (at_desk state a) (at_desk state b)
       here next rest of_kind all_asked =
           let all = all_dealt given a between prepared drew in
           let dealt = all.1 in
@@ -120,19 +120,17 @@ module _ (D : Type 0) (state : D → DiskState) where
             next = next;
             more = rest;
             between = at_desk state between;
-            after = at_desk state b;
             dealt = dealt;
             halted = subst (λ k. HasHaltedAt a.tick (at_desk state between) k (at_desk state b)) (sym (kind_is because.0 next of_kind))
                 (subst (λ n. HasHaltedAt n (at_desk state between) because.0 (at_desk state b)) (sym all.0.tick) at);
-            ends = refl;
             asks = subst (λ (n : List (List ℕ)). AreAsked (left_on ground n) (given ++ next ∷ rest)) same all_asked;
           }
 
-      of : (next : Draw) (rest : List Draw) (t : Bool) → is_of_kind because.0 next ≡ t → AreAsked (left_on ground names) (given ++ next ∷ rest) → HasHaltedOver a.tick ground (at_desk state a) (state b.disk.now)
+      of : (next : Draw) (rest : List Draw) (t : Bool) → is_of_kind because.0 next ≡ t → AreAsked (left_on ground names) (given ++ next ∷ rest) → HasHaltedOver a.tick ground (at_desk state a) (at_desk state b)
       of next rest true e all_asked = here next rest e all_asked
       of next rest false e all_asked = absurd (none_left (next ∷ rest) e all_asked)
 
-      by : (rest : List Draw) → AreAsked (left_on ground names) (given ++ rest) → HasHaltedOver a.tick ground (at_desk state a) (state b.disk.now)
+      by : (rest : List Draw) → AreAsked (left_on ground names) (given ++ rest) → HasHaltedOver a.tick ground (at_desk state a) (at_desk state b)
       by [] all_asked = absurd (none_left [] refl all_asked)
       by (next ∷ rest) all_asked = of next rest (is_of_kind because.0 next) refl all_asked
 
@@ -144,7 +142,7 @@ module _ (D : Type 0) (state : D → DiskState) where
   lacked_after ground a b prepared ends = lacked_by ground (names_of a.source.now.sequences) ends.given ends.more a ends.between b prepared ends.drew_all ends.asked ends.because
 
   pub halted_after : (ground : Ground) (a b : Desk D) → IsPrepared a.source.now a.log.now (state a.disk.now) → Ends (DrewAt state) (left_on ground (names_of a.source.now.sequences)) a txn_fault.Stopped b
-      → HasHaltedOver a.tick ground (at_desk state a) (state b.disk.now)
+      → HasHaltedOver a.tick ground (at_desk state a) (at_desk state b)
   halted_after ground a b prepared ends = halted_by ground (names_of a.source.now.sequences) ends.given ends.more a ends.between b refl prepared ends.drew_all ends.asked ends.because
 
   -- ---- the statements ran, or were ended

@@ -85,7 +85,7 @@ module _ (now : ℕ) (asked : DrawKind) (opening : Opening) (left : List Draw) (
       ready = λ live. lacked.prepared;
     }
     answered_unreserved fault.Stopped later last end halted = record {
-      drawn = λ live. halted_in now (desk_at opening left log disk) (desk_at later same last end) asked name upto between same wanted halted.halted;
+      drawn = λ live. halted_in now (desk_at opening left log disk) (desk_at later same last end) asked name upto between same wanted halted.halted halted.same halted.ends;
       names = same_names later between halted.same ∙ names_between;
       ready = λ live. absurd (never_both (is_live last) halted.dead live);
     }

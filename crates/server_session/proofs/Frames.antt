@@ -66,13 +66,16 @@ outcome_told x now told answered seen core disk later end serving belongs is tel
 pub outcome_fault : (x : Ltxid) (now : ℕ) (error : ServeFault) (seen : SeenSession) (core : Core) (disk : DiskState) (later : Core) (end : DiskState) → IsTrue (is_serving seen.life)
     → Tells x (Err error) core disk later end → Serves (served_as (up.Outcome x) now) 1 (Err error) seen core disk seen later end
 outcome_fault x now fault.NoMemory seen core disk later end serving tells = tells
-outcome_fault x now fault.Stopped seen core disk later end serving tells = record {
-  records = [];
-  last = kept.Blocked x;
-  few = omega arith;
-  halted = tells.halted;
-  steps = asks_fronts x now seen core disk (kept.Blocked x ∷ []) serving tells.steps;
-}
+outcome_fault x now fault.Stopped seen core disk later end serving tells = (
+  record {
+    records = [];
+    last = kept.Blocked x;
+    few = omega arith;
+    halted = tells.0.halted;
+    steps = asks_fronts x now seen core disk (kept.Blocked x ∷ []) serving tells.0.steps;
+  },
+  tells.1,
+)
 
 -- ---- a line
 
@@ -115,13 +118,16 @@ module _ (line : List ℕ) (replay : Bool) (marks : List Draw) (now : ℕ) (unma
   pub line_fault : (error : ServeFault) (old new : SeenSession) (core : Core) (disk : DiskState) (later : Core) (end : DiskState) → Fits core disk
       → Stores (kept.Alert line) (Err error) core disk later end → Serves (called_as replay marks (call.Alter line) now) 1 (Err error) old core disk new later end
   line_fault fault.NoMemory old new core disk later end fits stores = stores
-  line_fault fault.Stopped old new core disk later end fits stores = record {
-    records = [];
-    last = kept.Alert line;
-    few = omega arith;
-    halted = stores;
-    steps = line_fronts old core disk fits;
-  }
+  line_fault fault.Stopped old new core disk later end fits stores = (
+    record {
+      records = [];
+      last = kept.Alert line;
+      few = omega arith;
+      halted = stores.0;
+      steps = line_fronts old core disk fits;
+    },
+    stores.1,
+  )
 
 -- a record was stored, and then there was no memory
 pub lacks_behind : (most : ℕ) (core : Core) (disk : DiskState) (later : Core) (end : DiskState) (line : List ℕ) → 1 ≤ most → HasStored (kept.Alert line) core disk later end → HasLacked most disk end

@@ -70,13 +70,16 @@ serves_as step wider most (Ok told) old core disk new later end widens served = 
   fronts = λ some. stops_as step wider old core disk served.records widens (served.fronts some);
 }
 serves_as step wider most (Err fault.NoMemory) old core disk new later end widens served = served
-serves_as step wider most (Err fault.Stopped) old core disk new later end widens served = record {
-  records = served.records;
-  last = served.last;
-  few = served.few;
-  halted = served.halted;
-  steps = stops_as step wider old core disk (served.records ++ served.last ∷ []) widens served.steps;
-}
+serves_as step wider most (Err fault.Stopped) old core disk new later end widens served = (
+  record {
+    records = served.0.records;
+    last = served.0.last;
+    few = served.0.few;
+    halted = served.0.halted;
+    steps = stops_as step wider old core disk (served.0.records ++ served.0.last ∷ []) widens served.0.steps;
+  },
+  served.1,
+)
 
 -- what is said of a fault is said whatever became of the session
 pub serves_fault : (step : Plain → Sess → Plain → Sess → Telling → Type 0) (most : ℕ) (error : ServeFault) (old : SeenSession) (core : Core) (disk : DiskState) (new other : SeenSession) (later : Core) (end : DiskState)

@@ -129,4 +129,4 @@ stops_telling x core disk end fits is halted = record {
 pub tells_fault : (x : Ltxid) (error : ServeFault) (core : Core) (disk : DiskState) (later : Core) (end : DiskState) → Fits core disk → verdict.BlockIt ≡ verdict_of (sessions_in core.book) x
     → Stores (kept.Blocked x) (Err error) core disk later end → Tells x (Err error) core disk later end
 tells_fault x fault.NoMemory core disk later end fits is stores = stores
-tells_fault x fault.Stopped core disk later end fits is stores = stops_telling x core disk end fits is stores
+tells_fault x fault.Stopped core disk later end fits is stores = (stops_telling x core disk end fits is stores.0, stores.1)

@@ -62,11 +62,11 @@ module _ (statements : List Statement) (commit replay : Bool) (marks : List Draw
   by_name result new later end served = subst (λ (k : Call). Serves (called_as replay marks k now) (1 + sequences_in (up.Call replay marks k)) result old core disk new later end) (sym is) served
 
   -- the run was ended
-  pub work_ended : (error : ServeFault) (txn : Transaction) (after : AtDesk) (result : Result (Option Down) ServeFault) (new : SeenSession) (later : Core) → result ≡ Err error
-      → RunsOver now (ground_of core old statements) (1 + sequences_in (up.Call replay marks (call.Work statements commit))) (start_at core left disk) (Err error) txn after → Serving result new later after.disk
-  work_ended error txn after result new later told over =
-      subst (λ (r : Result (Option Down) ServeFault). Serving r new later after.disk) (sym told)
-      (by_name (Err error) new later after.disk (ended_on statements commit replay marks now old core disk fits belongs error txn after new later
+  pub work_ended : (error : ServeFault) (txn : Transaction) (after : AtDesk) (result : Result (Option Down) ServeFault) (new : SeenSession) → result ≡ Err error
+      → RunsOver now (ground_of core old statements) (1 + sequences_in (up.Call replay marks (call.Work statements commit))) (start_at core left disk) (Err error) txn after → Serving result new (core_after core after) after.disk
+  work_ended error txn after result new told over =
+      subst (λ (r : Result (Option Down) ServeFault). Serving r new (core_after core after) after.disk) (sym told)
+      (by_name (Err error) new (core_after core after) after.disk (ended_on statements commit replay marks now old core disk fits belongs error txn after new
       (subst (λ (l : List Draw). RunsOver now (ground_of core old statements) (1 + sequences_in (up.Call replay marks (call.Work statements commit))) (start_at core l disk) (Err error) txn after) left_is over)))
 
   module _ (ran : Ran) (txn : Transaction) (desk : AtDesk) (over : HasRunOver now (ground_of core old statements) (start_at core left disk) ran txn desk) where

@@ -55,13 +55,14 @@ use Rattle.server_session.specs.Alone.{begun_at}
 use Rattle.server_session.specs.Adding.{HasGained, HasHalted}
 use Rattle.server_session.specs.Dealing.{AtDesk, HaltsAtFront, IsPrepared, reserving, reservation_of, with_reserved}
 use Rattle.server_session.specs.Fits.{Fits, Belongs, IsSourceOf, sequence_of, tables_of}
+use Rattle.server_session.specs.Leaving.{StaysTrue}
 use Rattle.server_session.specs.Plain.{IsStored, IsPlain}
 use Rattle.server_session.specs.Running.{Ground, HasRunOver, HasHaltedOver, RunsOver}
 use Rattle.server_session.specs.SeenSession.{SeenSession, sess_of}
 use Rattle.server_session.specs.Serving.{HasServed, HasStopped, HasLacked, Serves, StopsAtFronts, called_as, commits_as, told_of}
 use Rattle.server_session.proofs.Holding.{holds_then, moves_none}
 use Rattle.server_session.proofs.Committing.{same_rows}
-use Rattle.server_session.proofs.Cores.{belongs_with, same_journal}
+use Rattle.server_session.proofs.Cores.{belongs_with, same_journal, stays_true}
 use Rattle.server_session.proofs.Desks.{given_few, with_meant}
 use Rattle.server_session.proofs.Fronts.{HasSome, among_or_behind, grown_some, some_reserved}
 use Rattle.server_session.proofs.Gaining.{gained_then, halted_then}
@@ -348,14 +349,17 @@ module _ (statements : List Statement) (commit replay : Bool) (marks : List Draw
       moments = grown_then disk desk.disk end disk.now.seen (reserving over.dealt.reservations) served.records over.dealt.gained.moments over.dealt.gained.added served.moments;
       faults = served.faults ∙ over.dealt.gained.faults;
     }
-    committed_on (Err fault.Stopped) new later end ends served = record {
-      records = reserving over.dealt.reservations ++ served.records;
-      last = served.last;
-      few = simp (length-append, length-map) (omega (arith, few_here, served.few));
-      halted = halted_then disk desk.disk end (reserving over.dealt.reservations) served.records served.last over.dealt.gained served.halted;
-      steps = subst (λ (l : List Record). StopsAtFronts (called_as replay marks called now) old core disk l) (sym (append_assoc (reserving over.dealt.reservations) served.records (served.last ∷ [])))
-          (commit_fronts (served.records ++ served.last ∷ []) ends served.steps);
-    }
+    committed_on (Err fault.Stopped) new later end ends served = (
+      record {
+        records = reserving over.dealt.reservations ++ served.0.records;
+        last = served.0.last;
+        few = simp (length-append, length-map) (omega (arith, few_here, served.0.few));
+        halted = halted_then disk desk.disk end (reserving over.dealt.reservations) served.0.records served.0.last over.dealt.gained served.0.halted;
+        steps = subst (λ (l : List Record). StopsAtFronts (called_as replay marks called now) old core disk l) (sym (append_assoc (reserving over.dealt.reservations) served.0.records (served.0.last ∷ [])))
+            (commit_fronts (served.0.records ++ served.0.last ∷ []) ends served.0.steps);
+      },
+      record { front = served.1.front; grants = served.1.grants },
+    )
 
     -- no memory behind the run
     pub lacked_on : HasLacked most disk desk.disk
@@ -364,16 +368,15 @@ module _ (statements : List Statement) (commit replay : Bool) (marks : List Draw
   -- ---- the run was ended
 
   -- the store was stopped in a draw
-  pub halted_on : (end : DiskState) → HasHaltedOver now ground before end → HasStopped (called_as replay marks called now) most old core disk end
-  halted_on end h =
+  pub halted_on : (after : AtDesk) → HasHaltedOver now ground before after → HasStopped (called_as replay marks called now) most old core disk after.disk
+  halted_on after h =
       let at = h.halted in
       let dealt = h.dealt in
       let few = given_few ground (names_of core.source.sequences) h.given (h.next ∷ h.more) h.asks in
       let means = with_meant (meaning core.tables (names_of core.source.sequences) old.settings old.txn statements (h.given ++ h.next ∷ h.more)) h.asks in
-      let halts : HasHalted (reserving dealt.reservations) (kept.Reserved (reservation_of at.name at.upto)) disk end =
-      subst (λ (d : DiskState). HasHalted (reserving dealt.reservations) (kept.Reserved (reservation_of at.name at.upto)) disk d) h.ends
-      (subst (λ (l : List Record). HasHalted l (kept.Reserved (reservation_of at.name at.upto)) disk h.after.disk) (append-nil (reserving dealt.reservations))
-      (halted_then disk h.between.disk h.after.disk (reserving dealt.reservations) [] (kept.Reserved (reservation_of at.name at.upto)) dealt.gained at.halted)) in
+      let halts : HasHalted (reserving dealt.reservations) (kept.Reserved (reservation_of at.name at.upto)) disk after.disk =
+      subst (λ (l : List Record). HasHalted l (kept.Reserved (reservation_of at.name at.upto)) disk after.disk) (append-nil (reserving dealt.reservations))
+      (halted_then disk h.between.disk after.disk (reserving dealt.reservations) [] (kept.Reserved (reservation_of at.name at.upto)) dealt.gained at.halted) in
       record {
         records = reserving dealt.reservations;
         last = kept.Reserved (reservation_of at.name at.upto);
@@ -383,10 +386,18 @@ module _ (statements : List Statement) (commit replay : Bool) (marks : List Draw
             let all = dealt.reservations ++ reservation_of at.name at.upto ∷ [] in
             let some = grown_some disk.now.seen all image (subst (λ (l : List Record). IsGrown disk.now.seen l image) (sym (map-append (λ (r : Reservation). kept.Reserved r) dealt.reservations (reservation_of at.name at.upto ∷ []))) grown) in
             halts_at (h.given ++ h.next ∷ h.more) (take some.count all)
-            (halts_last now before h.between h.after h.given h.more h.next dealt at some.count (omega (arith, some.within, length-append dealt.reservations (reservation_of at.name at.upto ∷ []))))
+            (halts_last now before h.between after h.given h.more h.next dealt at some.count (omega (arith, some.within, length-append dealt.reservations (reservation_of at.name at.upto ∷ []))))
             means.0 means.1.0 means.1.1 plain reads is image some.has;
       }
 
-  pub ended_on : (error : ServeFault) (txn : Transaction) (after : AtDesk) (new : SeenSession) (later : Core) → RunsOver now ground most before (Err error) txn after → Serves (called_as replay marks called now) most (Err error) old core disk new later after.disk
-  ended_on fault.NoMemory txn after new later lacked = lacked
-  ended_on fault.Stopped txn after new later halted = halted_on after.disk halted
+  -- and the core is that of the reservations before it
+  pub left_on : (after : AtDesk) → HasHaltedOver now ground before after → StaysTrue core (core_at after) after.disk
+  left_on after h =
+      let at = h.halted in
+      let here = fits_at h.between h.dealt.reservations h.dealt.gained h.dealt.prepared in
+      let stays = stays_true (core_at h.between) h.between.disk after.disk after.log here at.ends in
+      subst (λ (o : Opening). StaysTrue core (record core { source = o; log = after.log }) after.disk) (sym at.same) (record { front = stays.front; grants = refl })
+
+  pub ended_on : (error : ServeFault) (txn : Transaction) (after : AtDesk) (new : SeenSession) → RunsOver now ground most before (Err error) txn after → Serves (called_as replay marks called now) most (Err error) old core disk new (core_at after) after.disk
+  ended_on fault.NoMemory txn after new lacked = lacked
+  ended_on fault.Stopped txn after new halted = (halted_on after halted, left_on after halted)

@@ -22,6 +22,7 @@ use Rattle.server_model.specs.declared.fault.ServeFault.{ServeFault}
 use Rattle.server_model.specs.declared.fault.ServeFault.TheVariants as fault
 use Rattle.server_session.specs.Adding.{HasGained, HasHalted}
 use Rattle.server_session.specs.Fits.{IsSourceOf}
+use Rattle.server_session.specs.Leaving.{StillEnds}
 
 -- a source, the draws that are left of the kept ones, a log and its disk
 pub record AtDesk : Type 0 where
@@ -67,6 +68,7 @@ pub record HasHaltedReservation (name : List ℕ) (upto : ℤ) (opening : Openin
   pub same : later ≡ opening
   pub halted : HasHalted [] (kept.Reserved (reservation_of name upto)) disk end
   pub dead : IsFalse (is_live log)
+  pub ends : StillEnds log disk end
 
 abbrev pub Reserves : List ℕ → ℤ → Result (Unit {0}) ServeFault → Opening → DiskState → Opening → Log → DiskState → Type 0
 Reserves name upto (Ok done) opening disk later log end = HasReserved name upto opening disk later log end
@@ -103,13 +105,15 @@ pub record HasDealt (now : ℕ) (before : AtDesk) (given : List Draw) (after : A
   pub halts : (count : ℕ) → count ≤ length reservations → reservations ≢ [] → HaltsAtFront now before given (take count reservations)
   pub prepared : IsPrepared after.opening after.log after.disk
 
--- The store was stopped at the reservation that a value of a sequence asked for.
+-- The store was stopped at the reservation that a value of a sequence asked for. The source is as it was.
 pub record HasHaltedAt (now : ℕ) (before : AtDesk) (asked : DrawKind) (after : AtDesk) : Type 0 where
   pub name : List ℕ
   pub upto : ℤ
   pub is : asked ≡ kind.Seq name
   pub wanted : draw_of before.opening before.left asked now ≡ Some (record { answer = drawn.Reserve name upto; opening = before.opening; kept = before.left })
   pub halted : HasHalted [] (kept.Reserved (reservation_of name upto)) before.disk after.disk
+  pub same : after.opening ≡ before.opening
+  pub ends : StillEnds after.log before.disk after.disk
 
 -- There was no memory, with a reservation stored before it or not. No fault of the disk is told so.
 pub record HasLackedAt (before after : AtDesk) : Type 0 where

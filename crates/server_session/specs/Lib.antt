@@ -4,6 +4,7 @@ pub mod Dealing
 pub mod Desks
 pub mod Fits
 pub mod Following
+pub mod Leaving
 pub mod Lives
 pub mod Plain
 pub mod Running

@@ -1,7 +1,6 @@
 -- What running the statements of a call comes to.
 use Rattle.std.specs.Prelude.{◌≡◌, ℕ, IsTrue, List, ◌∷◌, ◌++◌, Option, Result, Ok, Err}
 use Rattle.std.specs.Option.{option_map}
-use Rattle.disk_model.specs.Disk.{DiskState}
 use Rattle.svc_values.specs.declared.draw.Draw.{Draw}
 use Rattle.svc_values.specs.declared.statement.Statement.{Statement}
 use Rattle.svc_values.specs.meaning.Fitting.{writes_fit}
@@ -40,22 +39,20 @@ pub record HasRunOver (now : ℕ) (ground : Ground) (before : AtDesk) (ran : Ran
   pub unchanged : StayUnchanged ground.tables.rows ground.txn.readings txn.readings
 
 -- Some of the draws were dealt, and the store was stopped in the next one.
-pub record HasHaltedOver (now : ℕ) (ground : Ground) (before : AtDesk) (end : DiskState) : Type 0 where
+pub record HasHaltedOver (now : ℕ) (ground : Ground) (before after : AtDesk) : Type 0 where
   pub given : List Draw
   pub next : Draw
   pub more : List Draw
   pub between : AtDesk
-  pub after : AtDesk
   pub dealt : HasDealt now before given between
   pub halted : HasHaltedAt now between (kind_drawn next) after
-  pub ends : after.disk ≡ end
   pub asks : AreAsked (left_on ground (names_of before.opening.sequences)) (given ++ next ∷ more)
 
 -- How many records a run adds: at most one for each value of a sequence, and the one in which it ends.
 abbrev pub RunsOver : ℕ → Ground → ℕ → AtDesk → Result Ran ServeFault → Transaction → AtDesk → Type 0
 RunsOver now ground most before (Ok ran) txn after = HasRunOver now ground before ran txn after
 RunsOver now ground most before (Err fault.NoMemory) txn after = HasLacked most before.disk after.disk
-RunsOver now ground most before (Err fault.Stopped) txn after = HasHaltedOver now ground before after.disk
+RunsOver now ground most before (Err fault.Stopped) txn after = HasHaltedOver now ground before after
 
 -- a run, with a fault as the session tells it
 abbrev pub ended_as : Result Ran TxnFault → Result Ran ServeFault

@@ -25,6 +25,7 @@ use Rattle.server_model.specs.declared.fault.ServeFault.TheVariants as fault
 use Rattle.server_session.specs.Adding.{HasGained, HasHalted}
 use Rattle.server_session.specs.Alone.{HoldsSince}
 use Rattle.server_session.specs.Fits.{Fits, Belongs}
+use Rattle.server_session.specs.Leaving.{StaysTrue}
 use Rattle.server_session.specs.Plain.{IsStored, IsPlain}
 use Rattle.server_session.specs.SeenSession.{SeenSession, sess_of}
 
@@ -102,8 +103,8 @@ pub record HasLacked (most : ℕ) (disk end : DiskState) : Type 0 where
   pub moments : Meanwhile disk end (IsGrown disk.now.seen records)
   pub faults : end.faults ≡ disk.faults
 
--- by the answer
+-- by the answer; what a stop leaves of the core is true of the records that were stored before it
 abbrev pub Serves : (step : Plain → Sess → Plain → Sess → Telling → Type 0) → ℕ → Result (Option Down) ServeFault → SeenSession → Core → DiskState → SeenSession → Core → DiskState → Type 0
 Serves step most (Ok told) old core disk new later end = HasServed step most (told_of told) old core disk new later end
 Serves step most (Err fault.NoMemory) old core disk new later end = HasLacked most disk end
-Serves step most (Err fault.Stopped) old core disk new later end = HasStopped step most old core disk end
+Serves step most (Err fault.Stopped) old core disk new later end = HasStopped step most old core disk end × StaysTrue core later end

@@ -19,6 +19,7 @@ use Rattle.server_model.specs.declared.fault.ServeFault.TheVariants as fault
 use Rattle.server_session.specs.Adding.{HasGained, HasHalted}
 use Rattle.server_session.specs.Alone.{MovesOn}
 use Rattle.server_session.specs.Fits.{Fits, Belongs}
+use Rattle.server_session.specs.Leaving.{StaysTrue}
 use Rattle.server_session.specs.Plain.{IsStored, IsPlain}
 use Rattle.server_session.specs.SeenSession.{SeenSession}
 use Rattle.server_session.specs.Serving.{HasLacked}
@@ -44,7 +45,7 @@ pub record HasStored (one : Record) (core : Core) (disk : DiskState) (later : Co
 abbrev pub Stores : Record → Result (Unit {0}) ServeFault → Core → DiskState → Core → DiskState → Type 0
 Stores one (Ok done) core disk later end = HasStored one core disk later end
 Stores one (Err fault.NoMemory) core disk later end = HasLacked 1 disk end
-Stores one (Err fault.Stopped) core disk later end = HasHalted [] one disk end
+Stores one (Err fault.Stopped) core disk later end = HasHalted [] one disk end × StaysTrue core later end
 
 -- ---- outcomes
 
@@ -75,4 +76,4 @@ pub record HasStoppedTelling (x : Ltxid) (core : Core) (disk end : DiskState) : 
 abbrev pub Tells : Ltxid → Result Verdict ServeFault → Core → DiskState → Core → DiskState → Type 0
 Tells x (Ok told) core disk later end = HasTold x told core disk later end
 Tells x (Err fault.NoMemory) core disk later end = HasLacked 1 disk end
-Tells x (Err fault.Stopped) core disk later end = HasStoppedTelling x core disk end
+Tells x (Err fault.Stopped) core disk later end = HasStoppedTelling x core disk end × StaysTrue core later end

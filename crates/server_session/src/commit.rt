@@ -78,8 +78,8 @@ fn counted(commits: u64) -> u64
     commits.saturating_add(1)
 }
 
-/// Stores an entry. The tables and the book have it before the record is written: after a stop the
-/// store is opened again, and both are read from it.
+/// Stores an entry. The tables and the book have it once its record is written, so a stop leaves both
+/// as the records before it have them.
 fn store_entry<D: Disk>(core: &mut Core, disk: &mut D, entry: &Entry) -> Result<(), ServeFault>
     requires fits { Fits core.old (D.state disk.old) }
     requires made { IsMadeEntry entry.now }
@@ -88,10 +88,11 @@ fn store_entry<D: Disk>(core: &mut Core, disk: &mut D, entry: &Entry) -> Result<
     requires writes { IsTrue (writes_fit core.old.tables.schemas entry.now.writes) }
     ensures { Stores (kept.Commit entry.now) result core.old (D.state disk.old) core.new (D.state disk.new) }
 {
+    stored(core.log.commit(disk, entry))?;
     core.tables.apply(&entry.writes)?;
-    core.commits = counted(core.commits);
     core.book.commit(&entry.ltxid, entry.completed)?;
-    stored(core.log.commit(disk, entry))
+    core.commits = counted(core.commits);
+    Ok(())
 }
 
 impl Session {

@@ -41,15 +41,16 @@ pub fn tell_outcome<D: Disk>(
     }
 }
 
-/// Blocks an identifier.
+/// Blocks an identifier. The book has the block once its record is written.
 fn block<D: Disk>(core: &mut Core, disk: &mut D, x: &Ltxid) -> Result<(), ServeFault>
     requires fits { Fits core.old (D.state disk.old) }
     requires identifier { IsLtxid x.now }
     requires may { IsTrue (may_commit (sessions_in core.old.book) x.now) }
     ensures { Stores (kept.Blocked x.now) result core.old (D.state disk.old) core.new (D.state disk.new) }
 {
+    stored(core.log.block(disk, x))?;
     core.book.block(x)?;
-    stored(core.log.block(disk, x))
+    Ok(())
 }
 
 /// The frame that tells a verdict.

@@ -18,11 +18,13 @@ use Rattle.commit_log.proofs.Offered.{trails_begun}
 use Rattle.server_session.specs.declared.shared.Core.{Core}
 use Rattle.server_session.specs.Fits.{Fits}
 use Rattle.server_session.specs.Following.{IsOfJournal}
+use Rattle.server_session.specs.Leaving.{StaysTrue}
 use Rattle.service_core.specs.declared.notes.Notes.{Notes}
 use Rattle.service_core.specs.declared.resting.Resting.{Resting}
 use Rattle.service_core.specs.Held.{Held}
-use Rattle.service_core.specs.Keeping.{Reached, Rests, RestsBy, StepsTo, rested}
-use Rattle.service_core.specs.Sound.{IsSound}
+use Rattle.service_core.specs.Keeping.{Reached, Rests, RestsBy, StepsTo, rested, rests_of}
+use Rattle.service_core.specs.Sound.{IsSound, IsSoundWithin, IsUp}
+use Rattle.service_core.specs.Within.{Within}
 
 -- the journal that an image reads as is one
 pub one_journal : (image : List ℕ) (a b : Journal) → journal_of image ≡ Ok a → journal_of image ≡ Ok b → a ≡ b
@@ -54,6 +56,16 @@ goes_to_rest grants disk end (Some core) held notes resting up at_rest fewer = r
 goes_to_rest grants disk end None held notes None down at_rest fewer = tt
 goes_to_rest grants disk end None held notes (Some resting) down at_rest fewer =
     let kept = at_rest refl in record { rests = λ image left. kept.rests image (fewer image left); granted = kept.granted }
+
+-- and behind a stop
+pub rests_behind : (old : Within) (core later : Core) (end : DiskState) (resting : Resting) → old.core ≡ Some core → IsSoundWithin old → StaysTrue core later end → resting ≡ rests_of later → RestsBy old.grants end resting
+rests_behind old core later end resting is_up sound stays is =
+    let up : IsUp old.grants old.disk core old.held old.notes = subst (λ (o : Option Core). IsSound old.grants old.disk o old.held old.notes) is_up sound in
+    subst (λ (r : Resting). RestsBy old.grants end r) (sym is)
+    (record {
+      rests = λ image left. let front = stays.front image left in record { is_opened = true; journal = front.journal; of_journal = front.of_journal; trails = front.trails };
+      granted = stays.grants ∙ up.granted;
+    })
 
 -- what is at rest on a disk is so on each that may leave the same
 pub still_rests : (grants : Grants) (old new : DiskState) (resting : Option Resting) → new.now ≡ old.now → IfSome resting (RestsBy grants old) → IfSome resting (RestsBy grants new)

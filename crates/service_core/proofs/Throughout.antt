@@ -60,6 +60,9 @@ module _ (frame : Up) (now most : ℕ) (told : Telling) (core later : Core) (dis
   pub same_session : session_of new.ltxid ≡ session_of session.ltxid
   same_session = let one = did in (serve_stays one.plain (sess_of session one.reads) now frame one.after (sess_of new one.found) told one.step).session
 
+  pub same_grants : later.grants ≡ core.grants
+  same_grants = let stay = stays_so frame now most told core later disk end session new going.reads going.noted going.fits served in stay.grants
+
 -- ---- a request begins
 
 pub is_idle : (now most : ℕ) (told : Telling) (core later : Core) (disk end : DiskState) (session new : Session) → IsGoing core disk session → HasServed (served_as up.Connect now) most told session core disk new later end → session.life ≡ New → new.life ≡ Idle
@@ -85,6 +88,7 @@ has_begun now first second core between later disk at end old mid new going is s
       begun = told'.1;
       same = same' ∙ same;
       session = same_session (up.Begin []) now 1 second between later at end mid new going' served' ∙ same_session up.Connect now 1 first core between disk at old mid going served;
+      grants = same_grants (up.Begin []) now 1 second between later at end mid new going' served' ∙ same_grants up.Connect now 1 first core between disk at old mid going served;
     }
 
 -- it could not begin: a frame that touches no store is not stopped
@@ -101,11 +105,12 @@ pub record SoFar (now : ℕ) (id : SessionId) (calls rest : List Call) (runs : L
   pub through : Through now old core disk items session between at
   pub going : IsGoing between at session
   pub begun : session.life ≡ Begun
+  pub grants : between.grants ≡ core.grants
   pub made : AllByRecursion IsMade rest
   pub so_far : (more : List (List Answer × List Draw)) (behind : List Happened) → RunsAre id now rest more behind → RunsAre id now calls (map run_of runs ++ more) (happened_in id now items ++ behind)
 
 pub so_far_none : (now : ℕ) (id : SessionId) (calls : List Call) (old : Session) (core : Core) (disk : DiskState) → IsGoing core disk old → old.life ≡ Begun → AllByRecursion IsMade calls → SoFar now id calls calls [] old core disk old core disk
-so_far_none now id calls old core disk going begun made = record { items = []; through = Still; going = going; begun = begun; made = made; so_far = λ more behind are. are }
+so_far_none now id calls old core disk going begun made = record { items = []; through = Still; going = going; begun = begun; grants = refl; made = made; so_far = λ more behind are. are }
 
 module _ (now : ℕ) (id : SessionId) (calls : List Call) (called : Call) (rest : List Call) (runs : List NoteRun) (old : Session) (core : Core) (disk : DiskState) (session : Session) (between : Core) (at : DiskState)
     (so_far : SoFar now id calls (called ∷ rest) runs old core disk session between at) (new : Session) (later : Core) (end : DiskState) where
@@ -130,6 +135,7 @@ module _ (now : ℕ) (id : SessionId) (calls : List Call) (called : Call) (rest 
         through = Then so_far.items session between at (call_frame called) (Says (down.Reply answers draws x)) new later end so_far.through served refl;
         going = going_on (call_frame called) now (1 + sequences_in (call_frame called)) (Says (down.Reply answers draws x)) between later at end session new so_far.going served;
         begun = begun;
+        grants = same_grants (call_frame called) now (1 + sequences_in (call_frame called)) (Says (down.Reply answers draws x)) between later at end session new so_far.going served ∙ so_far.grants;
         made = so_far.made.1;
         so_far = λ more behind are.
             runs_behind (Says (down.Reply answers draws x)) (map run_of (runs ++ run ∷ []) ++ more) behind
@@ -197,7 +203,8 @@ at_call now id calls i called runs old core disk session between at within is so
 
 pub halts_all : (fault : ServeFault) (now : ℕ) (id : SessionId) (calls rest : List Call) (called : Call) (runs : List NoteRun) (old : Session) (core : Core) (disk : DiskState) (session : Session) (between : Core) (at : DiskState) (new : Session) (later : Core) (end : DiskState)
     → SoFar now id calls rest runs old core disk session between at → RunsOne now called (Err fault) session between at new later end → RunsAll now id calls (Err fault) old core disk new later end
-halts_all fault.Stopped now id calls rest called runs old core disk session between at new later end so_far stopped = so_far_halted now id calls rest called runs old core disk session between at end so_far stopped
+halts_all fault.Stopped now id calls rest called runs old core disk session between at new later end so_far stopped =
+    (so_far_halted now id calls rest called runs old core disk session between at end so_far stopped.0, record { front = stopped.1.front; grants = stopped.1.grants ∙ so_far.grants })
 halts_all fault.NoMemory now id calls rest called runs old core disk session between at new later end so_far lacked = lacked ∙ (went now old core disk so_far.items session between at so_far.through).faults
 
 -- ---- a request, begun and run
@@ -205,7 +212,8 @@ halts_all fault.NoMemory now id calls rest called runs old core disk session bet
 pub runs_from : (now : ℕ) (calls : List Call) (result : Result (List NoteRun) ServeFault) (old : Session) (core : Core) (disk : DiskState) (mid : Session) (between : Core) (at : DiskState) (new : Session) (later : Core) (end : DiskState)
     → HasBegun now old core disk mid between at → RunsAll now (session_of mid.ltxid) calls result mid between at new later end → RunsFrom now calls result old core disk new later end
 runs_from now calls (Ok runs) old core disk mid between at new later end begun ran = record { mid = mid; between = between; at = at; begun = begun; ran = ran }
-runs_from now calls (Err fault.Stopped) old core disk mid between at new later end begun halted = record { mid = mid; between = between; at = at; begun = begun; halted = halted }
+runs_from now calls (Err fault.Stopped) old core disk mid between at new later end begun halted =
+    (record { mid = mid; between = between; at = at; begun = begun; halted = halted.0 }, record { front = halted.1.front; grants = halted.1.grants ∙ begun.grants })
 runs_from now calls (Err fault.NoMemory) old core disk mid between at new later end begun lacked = lacked ∙ ap (λ (d : DiskState). d.faults) begun.same
 
 pub begins_not : (fault : ServeFault) (now : ℕ) (calls : List Call) (old : Session) (core : Core) (disk : DiskState) (new : Session) (later : Core) (end : DiskState) → Begins now (Err fault) old core disk new later end → RunsFrom now calls (Err fault) old core disk new later end

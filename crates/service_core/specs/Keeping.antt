@@ -15,9 +15,13 @@ use Rattle.server_session.specs.declared.shared.Core.{Core}
 use Rattle.server_session.specs.Following.{IsOfJournal}
 use Rattle.service_core.specs.declared.resting.Resting.{Resting}
 
--- with what the sessions shared, if they did; it is of a store that has a horizon
+-- what the sessions shared; it is of a store that has a horizon
+abbrev pub rests_of : Core → Resting
+rests_of core = record { core = core; has_horizon = true }
+
+-- with that, if they did
 abbrev pub rested : Option Core → Option Resting → Option Resting
-rested (Some core) resting = Some (record { core = core; has_horizon = true })
+rested (Some core) resting = Some (rests_of core)
 rested None resting = resting
 
 -- Its log ends behind the first records of the image, and it is of the journal that these come to.

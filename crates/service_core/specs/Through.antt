@@ -22,6 +22,7 @@ use Rattle.server_model.specs.ServiceCalls.{RunsAre}
 use Rattle.server_model.specs.Sessions.{Begun}
 use Rattle.server_session.specs.declared.shared.Core.{Core}
 use Rattle.server_session.specs.Fits.{Fits, Belongs}
+use Rattle.server_session.specs.Leaving.{StaysTrue}
 use Rattle.server_session.specs.SeenSession.{SeenSession as Session}
 use Rattle.server_session.specs.Serving.{HasServed, HasStopped, served_as, told_of}
 use Rattle.service_calls.specs.Answers.{run_of}
@@ -73,6 +74,7 @@ pub record HasBegun (now : ℕ) (old : Session) (core : Core) (disk : DiskState)
   pub begun : new.life ≡ Begun
   pub same : end ≡ disk
   pub session : session_of new.ltxid ≡ session_of old.ltxid
+  pub grants : later.grants ≡ core.grants
 
 abbrev pub Begins : ℕ → Result (Unit {0}) ServeFault → Session → Core → DiskState → Session → Core → DiskState → Type 0
 Begins now (Ok done) old core disk new later end = HasBegun now old core disk new later end
@@ -96,7 +98,7 @@ pub record HasRunOne (now : ℕ) (called : Call) (run : Option NoteRun) (old : S
 
 abbrev pub RunsOne : ℕ → Call → Result (Option NoteRun) ServeFault → Session → Core → DiskState → Session → Core → DiskState → Type 0
 RunsOne now called (Ok run) old core disk new later end = HasRunOne now called run old core disk new later end
-RunsOne now called (Err fault.Stopped) old core disk new later end = HasStopped (served_as (call_frame called) now) (1 + sequences_in (call_frame called)) old core disk end
+RunsOne now called (Err fault.Stopped) old core disk new later end = HasStopped (served_as (call_frame called) now) (1 + sequences_in (call_frame called)) old core disk end × StaysTrue core later end
 RunsOne now called (Err fault.NoMemory) old core disk new later end = end.faults ≡ disk.faults
 
 -- all of them, up to the first that was answered Blocked
@@ -107,7 +109,7 @@ pub record HasRunAll (now : ℕ) (session : SessionId) (calls : List Call) (runs
 
 abbrev pub RunsAll : ℕ → SessionId → List Call → Result (List NoteRun) ServeFault → Session → Core → DiskState → Session → Core → DiskState → Type 0
 RunsAll now session calls (Ok runs) old core disk new later end = HasRunAll now session calls runs old core disk new later end
-RunsAll now session calls (Err fault.Stopped) old core disk new later end = HasHaltedIn now old core disk end
+RunsAll now session calls (Err fault.Stopped) old core disk new later end = HasHaltedIn now old core disk end × StaysTrue core later end
 RunsAll now session calls (Err fault.NoMemory) old core disk new later end = end.faults ≡ disk.faults
 
 -- a request was begun, and its calls were run
@@ -128,5 +130,5 @@ pub record HasHaltedFrom (now : ℕ) (old : Session) (core : Core) (disk end : D
 
 abbrev pub RunsFrom : ℕ → List Call → Result (List NoteRun) ServeFault → Session → Core → DiskState → Session → Core → DiskState → Type 0
 RunsFrom now calls (Ok runs) old core disk new later end = HasRunFrom now calls runs old core disk new later end
-RunsFrom now calls (Err fault.Stopped) old core disk new later end = HasHaltedFrom now old core disk end
+RunsFrom now calls (Err fault.Stopped) old core disk new later end = HasHaltedFrom now old core disk end × StaysTrue core later end
 RunsFrom now calls (Err fault.NoMemory) old core disk new later end = end.faults ≡ disk.faults

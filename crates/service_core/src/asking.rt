@@ -10,6 +10,7 @@ ghost use Rattle.service_core.specs.Shipping.{Broke, GrewBy};
 ghost use Rattle.service_core.specs.Unanswered.{HaltedAsk, IsHaltedAs, MayHalt, StandsBetween};
 
 use crate::one::OneService;
+use crate::resting::Resting;
 use disk_model::{Disk, StopDisk};
 use ltxid_book::Verdict;
 use server_model::ServeFault;
@@ -53,7 +54,7 @@ impl<D: StopDisk> OneService<D> {
                 Ok(answer_of(verdict))
             }
             Err(ServeFault::Stopped) => {
-                self.resting = None;
+                self.resting = Some(Resting::of(core));
                 self.held.clear();
                 self.notes.is_settled = false;
                 Err(ServeFault::Stopped)

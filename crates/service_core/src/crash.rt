@@ -12,7 +12,7 @@ use disk_model::StopDisk;
 impl<D: StopDisk> OneService<D> {
     /// Ends it as a crash does: all connections end, and of what a stopped call stored the disk
     /// leaves what the pick's remainder by 4 says. What its sessions shared is kept for the next
-    /// opening, where no call was stopped in which it changed.
+    /// opening.
     pub fn fall(&mut self, pick: u8)
         requires live { self.old.notes.is_spent ≡ false }
         requires few { self.old.notes.calls < 2 ^ 48 }

@@ -13,6 +13,7 @@ ghost use Rattle.service_core.specs.Unanswered.{HaltedCalls, IsHaltedAs, MayHalt
 ghost use Rattle.service_core.specs.Through.{Begins, IsGoing, RunsAll, RunsFrom, RunsOne, run_in as run_in_def};
 
 use crate::one::OneService;
+use crate::resting::Resting;
 use crate::serving::next_ltxid;
 use disk_model::{Disk, StopDisk};
 use outage_schedule::{NoteRun, NoteRuns, OutsideNote};
@@ -160,7 +161,7 @@ impl<D: StopDisk> OneService<D> {
                 Ok(OutsideNote { ltxid, runs })
             }
             Err(ServeFault::Stopped) => {
-                self.resting = None;
+                self.resting = Some(Resting::of(core));
                 self.held.clear();
                 self.notes.is_settled = false;
                 Err(ServeFault::Stopped)

@@ -4,7 +4,7 @@ ghost use Rattle.disk_model.specs.Disk.{IsSettled, OnlyReads};
 ghost use Rattle.commit_log.specs.declared.journal.Journal.{Journal as Held};
 ghost use Rattle.commit_log.specs.meaning.Journals.{journal_of};
 ghost use Rattle.commit_log.specs.meaning.Rules.{is_horizon};
-ghost use Rattle.service_core.specs.Keeping.{IsCurrent, Rests, Steps, rested, rises_on};
+ghost use Rattle.service_core.specs.Keeping.{IsCurrent, Rests, Steps, rested, rests_of, rises_on};
 
 use commit_log::{LogFault, Record};
 use disk_model::Disk;
@@ -26,10 +26,7 @@ pub(crate) fn put_to_rest(core: &mut Option<Core>, resting: &mut Option<Resting>
     ensures rests { resting.new ≡ rested core.old resting.old }
 {
     if let Some(core) = core.take() {
-        *resting = Some(Resting {
-            core,
-            has_horizon: true,
-        });
+        *resting = Some(Resting::of(core));
     }
 }
 
@@ -41,6 +38,16 @@ fn has_horizon(before: bool, next: &Record) -> bool
 }
 
 impl Resting {
+    /// What the sessions of a service shared, whose store was opened with a horizon.
+    pub(crate) fn of(core: Core) -> Resting
+        ensures { result ≡ rests_of core }
+    {
+        Resting {
+            core,
+            has_horizon: true,
+        }
+    }
+
     /// Whether the horizon is above the one that was stored last, or is the first.
     pub(crate) fn is_below(&self, horizon: u64) -> bool
         ensures { result ≡ rises_on self.now horizon }

@@ -15,6 +15,7 @@ ghost use Rattle.service_core.specs.Taking.{IsTaken, kept_of};
 
 use crate::connections::Connections;
 use crate::one::OneService;
+use crate::resting::Resting;
 use disk_model::{Disk, StopDisk};
 use server_model::ServeFault;
 use server_session::{Core, Session};
@@ -107,7 +108,7 @@ impl<D: StopDisk> OneService<D> {
                 Ok(told)
             }
             Err(ServeFault::Stopped) => {
-                self.resting = None;
+                self.resting = Some(Resting::of(core));
                 self.held.clear();
                 self.notes.is_settled = false;
                 Err(ServeFault::Stopped)

@@ -1,22 +1,37 @@
+use Rattle.std.proofs.Common.{◌∙◌, sym}
 use Rattle.std.proofs.lemmas.Result.{err_from_is_err_and}
-use Rattle.server_session.proofs.Cores.{commit_stores, may_be_stored}
-use Rattle.server_session.proofs.Lifting.{lacked_nothing}
+use Rattle.commit_log.specs.declared.records.Record.TheVariants as kept
+use Rattle.server_session.proofs.Cores.{commit_stores, fault_stores, lacks_with, may_be_stored, was_added}
 use Rattle.server_session.proofs.commit.store_entry.Goals as goal
+
+pub commit-requires-clause-may : goal.commit-requires-clause-may
+commit-requires-clause-may g c = may_be_stored c.args.core.now (g.D.Disk.state c.args.disk.now) c.args.entry.now c.requires.fits c.requires.here c.requires.may c.requires.writes
+
+pub returns-in_err-stored : goal.returns-in_err-stored
+returns-in_err-stored g c =
+    let state = g.D.Disk.state in
+    let p = err_from_is_err_and c.from_residual.result c.from_residual.ensures.1 in
+    rw (p.1, p.2) (fault_stores c.args.core.now (state c.args.disk.now) (kept.Commit c.args.entry.now) c.commit.new.self (state c.commit.new.disk) c.commit.result _ c.requires.fits (sym c.in_err-stored.was ∙ c.stored.ensures) c.commit.ensures)
 
 pub returns-in_err-apply : goal.returns-in_err-apply
 returns-in_err-apply g c =
-    let p = err_from_is_err_and c.from_residual.result c.from_residual.ensures.1 in
-    rw (p.1, p.2) (lacked_nothing 1 (g.D.Disk.state c.args.disk.now))
+    let state = g.D.Disk.state in
+    let one = kept.Commit c.args.entry.now in
+    let adds = was_added c.commit.new.self (state c.args.disk.now) (state c.commit.new.disk) one c.commit.result (sym c.in_ok-stored.was ∙ c.stored.ensures) c.commit.ensures in
+    let p = err_from_is_err_and c.from_residual-in_err-apply.result c.from_residual-in_err-apply.ensures.1 in
+    rw (p.1, p.2) (lacks_with c.commit.new.self (state c.args.disk.now) (state c.commit.new.disk) one adds)
 
 pub returns-in_err-commit : goal.returns-in_err-commit
 returns-in_err-commit g c =
+    let state = g.D.Disk.state in
+    let one = kept.Commit c.args.entry.now in
+    let adds = was_added c.commit.new.self (state c.args.disk.now) (state c.commit.new.disk) one c.commit.result (sym c.in_ok-stored.was ∙ c.stored.ensures) c.commit.ensures in
     let p = err_from_is_err_and c.from_residual-in_err-commit.result c.from_residual-in_err-commit.ensures.1 in
-    rw (p.1, p.2) (lacked_nothing 1 (g.D.Disk.state c.args.disk.now))
-
-pub commit-requires-2-clause-may : goal.commit-requires-2-clause-may
-commit-requires-2-clause-may g c = may_be_stored c.args.core.now (g.D.Disk.state c.args.disk.now) c.args.entry.now c.requires.fits c.requires.here c.requires.may c.requires.writes
+    rw (p.1, p.2) (lacks_with c.commit.new.self (state c.args.disk.now) (state c.commit.new.disk) one adds)
 
 pub returns : goal.returns
 returns g c =
     let state = g.D.Disk.state in
-    rw c.stored.ensures (commit_stores c.args.core.now (state c.args.disk.now) c.args.entry.now c.apply.new.self c.counted-core.result c.commit.new.self c.commit-2.new.self (state c.commit-2.new.disk) c.commit-2.result c.requires.fits c.requires.may c.in_ok-commit.ensures.ok c.in_ok-apply.ensures.ok c.counted-core.ensures.counted c.counted-core.ensures.rises c.commit-2.ensures)
+    let one = kept.Commit c.args.entry.now in
+    let adds = was_added c.commit.new.self (state c.args.disk.now) (state c.commit.new.disk) one c.commit.result (sym c.in_ok-stored.was ∙ c.stored.ensures) c.commit.ensures in
+    commit_stores c.args.core.now (state c.args.disk.now) c.args.entry.now c.apply.new.self c.counted-core.result c.commit-2.new.self c.commit.new.self (state c.commit.new.disk) c.requires.fits c.requires.may c.in_ok-commit.ensures.ok c.in_ok-apply.ensures.ok c.counted-core.ensures.counted c.counted-core.ensures.rises adds

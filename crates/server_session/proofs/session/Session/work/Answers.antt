@@ -28,7 +28,7 @@ returns-in_err-answers g c =
     let over = subst (λ (s : SeenSession). RunsOver c.args.now (ground_of core s statements) most (start_at core c.in_ok-left.left disk) (Err c.in_err-answers.field-0.0) c.run_over.new.txn desk) c.self.view_is c.in_err-answers.ensures in
     let p = err_from_is_err_and c.from_residual-in_err-answers.result c.from_residual-in_err-answers.ensures.1 in
     work_ended statements c.args.commit c.args.replay c.args.kept.now c.args.now old core disk c.requires.fits c.requires.belongs c.args.call.now c.requires.call c.in_ok-left.left c.in_ok-left.ensures
-    c.in_err-answers.field-0.0 c.run_over.new.txn desk c.from_residual-in_err-answers.result _ _ (err_is c.from_residual-in_err-answers.result p.0 c.in_err-answers.field-0.0 p.1 p.2) over
+    c.in_err-answers.field-0.0 c.run_over.new.txn desk c.from_residual-in_err-answers.result _ (err_is c.from_residual-in_err-answers.result p.0 c.in_err-answers.field-0.0 p.1 p.2) over
 
 pub returns-in_err-answers-2 : goal.returns-in_err-answers-2
 returns-in_err-answers-2 g c =

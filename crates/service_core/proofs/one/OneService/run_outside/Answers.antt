@@ -16,6 +16,7 @@ use Rattle.service_core.proofs.Growths.{calls_broke, calls_grew}
 use Rattle.service_core.proofs.halts.OutsideHalts.{outside_halts, ran_halts}
 use Rattle.service_core.proofs.CallsOutside.{halts, halts_on_base, halts_soundly, runs_on_base, runs_so, runs_soundly, with_halted, with_ran}
 use Rattle.service_core.proofs.Went.{made_session}
+use Rattle.service_core.proofs.Rested.{rests_behind}
 use Rattle.service_core.proofs.one.OneService.run_outside.Goals as goal
 use Rattle.service_core.proofs.Indexing.{still_fit}
 
@@ -50,16 +51,20 @@ returns-in-Ok-clause-base g c =
     let live = ap (λ (w : Within). w.notes.is_spent) c.self.view_is ∙ c.requires.live in
     subst (λ (w : Within). HaveOneBase (bytes_in w) end.now.seen) {x = old} c.self.view_is (runs_on_base old c.in-Some.core is_up (c.self.invariant.kept live) c.args.now c.new-session.result session_is c.next_ltxid-ltxid.new.made c.next_ltxid-ltxid.ensures.counted end c.args.calls.now c.in-Ok.runs c.begin_and_run.new.core c.begin_and_run.new.session c.in-Ok.ensures)
 
-pub invariant_of-self-in-Err-Stopped : goal.invariant_of-self-in-Err-Stopped
-invariant_of-self-in-Err-Stopped g c = record {
+pub invariant_of-self-in-Stopped-1 : goal.invariant_of-self-in-Stopped-1
+invariant_of-self-in-Stopped-1 g c = record {
   kept = λ live.
       let old : Within = record { grants = c.self.inside.grants; disk = g.D.Disk.state c.self.inside.disk; core = c.self.inside.core; held = c.self.inside.held; notes = c.self.inside.notes } in
       let end = g.D.Disk.state c.begin_and_run.new.disk in
       let is_up : old.core ≡ Some c.in-Some.core = sym c.in-Some.ensures.value in
       let session_is : c.new-session.result ≡ made_session c.in-Some.core old.notes = c.new-session.ensures.seen ∙ ap begins c.next_ltxid-ltxid.ensures.next in
-      let halted = subst (λ (f : ServeFault). RunsFrom c.args.now c.args.calls.now (Err f) c.new-session.result c.in-Some.core old.disk c.begin_and_run.new.session c.begin_and_run.new.core end) c.in-Err-Stopped.field-0-is c.in-Err-Stopped.ensures in
+      let halted = (subst (λ (f : ServeFault). RunsFrom c.args.now c.args.calls.now (Err f) c.new-session.result c.in-Some.core old.disk c.begin_and_run.new.session c.begin_and_run.new.core end) c.in-Err-Stopped.field-0-is c.in-Err-Stopped.ensures).0 in
       halts_soundly old c.in-Some.core is_up (c.self.invariant.kept live) c.args.now c.new-session.result session_is c.next_ltxid-ltxid.new.made c.next_ltxid-ltxid.ensures.counted end halted (g.met.D.Disk.reads_now c.begin_and_run.new.disk) c.take.new.self c.take.ensures.after c.clear.new.self c.clear.ensures;
-  at_rest = λ live down. tt;
+  at_rest = λ live down.
+      let old : Within = record { grants = c.self.inside.grants; disk = g.D.Disk.state c.self.inside.disk; core = c.self.inside.core; held = c.self.inside.held; notes = c.self.inside.notes } in
+      let end = g.D.Disk.state c.begin_and_run.new.disk in
+      let halted = (subst (λ (f : ServeFault). RunsFrom c.args.now c.args.calls.now (Err f) c.new-session.result c.in-Some.core old.disk c.begin_and_run.new.session c.begin_and_run.new.core end) c.in-Err-Stopped.field-0-is c.in-Err-Stopped.ensures).1 in
+      rests_behind old c.in-Some.core c.begin_and_run.new.core end c.of.result (sym c.in-Some.ensures.value) (c.self.invariant.kept live) halted c.of.ensures;
 }
 
 pub returns-in-Err-Stopped-clause-ran : goal.returns-in-Err-Stopped-clause-ran
@@ -68,7 +73,7 @@ returns-in-Err-Stopped-clause-ran g c =
     let end = g.D.Disk.state c.begin_and_run.new.disk in
     let is_up : old.core ≡ Some c.in-Some.core = sym c.in-Some.ensures.value in
     let session_is : c.new-session.result ≡ made_session c.in-Some.core old.notes = c.new-session.ensures.seen ∙ ap begins c.next_ltxid-ltxid.ensures.next in
-    let halted = subst (λ (f : ServeFault). RunsFrom c.args.now c.args.calls.now (Err f) c.new-session.result c.in-Some.core old.disk c.begin_and_run.new.session c.begin_and_run.new.core end) c.in-Err-Stopped.field-0-is c.in-Err-Stopped.ensures in
+    let halted = (subst (λ (f : ServeFault). RunsFrom c.args.now c.args.calls.now (Err f) c.new-session.result c.in-Some.core old.disk c.begin_and_run.new.session c.begin_and_run.new.core end) c.in-Err-Stopped.field-0-is c.in-Err-Stopped.ensures).0 in
     let live = ap (λ (w : Within). w.notes.is_spent) c.self.view_is ∙ c.requires.live in
     let few = subst (λ n. n < 2 ^ 48) (sym (ap (λ (w : Within). w.notes.calls) c.self.view_is)) c.requires.few in
     let new = with_halted old c.in-Some.core is_up (c.self.invariant.kept live) c.args.now c.new-session.result session_is c.next_ltxid-ltxid.new.made c.next_ltxid-ltxid.ensures.counted end halted (g.met.D.Disk.reads_now c.begin_and_run.new.disk) c.take.new.self c.take.ensures.after c.clear.new.self c.clear.ensures c.take.new.self c.clear.new.self c.next_ltxid-ltxid.new.made in
@@ -81,7 +86,7 @@ returns-in-Err-Stopped-clause-base g c =
     let end = g.D.Disk.state c.begin_and_run.new.disk in
     let is_up : old.core ≡ Some c.in-Some.core = sym c.in-Some.ensures.value in
     let session_is : c.new-session.result ≡ made_session c.in-Some.core old.notes = c.new-session.ensures.seen ∙ ap begins c.next_ltxid-ltxid.ensures.next in
-    let halted = subst (λ (f : ServeFault). RunsFrom c.args.now c.args.calls.now (Err f) c.new-session.result c.in-Some.core old.disk c.begin_and_run.new.session c.begin_and_run.new.core end) c.in-Err-Stopped.field-0-is c.in-Err-Stopped.ensures in
+    let halted = (subst (λ (f : ServeFault). RunsFrom c.args.now c.args.calls.now (Err f) c.new-session.result c.in-Some.core old.disk c.begin_and_run.new.session c.begin_and_run.new.core end) c.in-Err-Stopped.field-0-is c.in-Err-Stopped.ensures).0 in
     let live = ap (λ (w : Within). w.notes.is_spent) c.self.view_is ∙ c.requires.live in
     subst (λ (w : Within). HaveOneBase (bytes_in w) end.now.seen) {x = old} c.self.view_is (halts_on_base old c.in-Some.core is_up (c.self.invariant.kept live) c.args.now c.new-session.result session_is c.next_ltxid-ltxid.new.made c.next_ltxid-ltxid.ensures.counted end halted (g.met.D.Disk.reads_now c.begin_and_run.new.disk) c.take.new.self c.take.ensures.after c.clear.new.self c.clear.ensures)
 
@@ -104,7 +109,7 @@ returns-in-Err-Stopped-clause-broke g c none =
     let end = g.D.Disk.state c.begin_and_run.new.disk in
     let is_up : old.core ≡ Some c.in-Some.core = sym c.in-Some.ensures.value in
     let session_is : c.new-session.result ≡ made_session c.in-Some.core old.notes = c.new-session.ensures.seen ∙ ap begins c.next_ltxid-ltxid.ensures.next in
-    let halted = subst (λ (f : ServeFault). RunsFrom c.args.now c.args.calls.now (Err f) c.new-session.result c.in-Some.core old.disk c.begin_and_run.new.session c.begin_and_run.new.core end) c.in-Err-Stopped.field-0-is c.in-Err-Stopped.ensures in
+    let halted = (subst (λ (f : ServeFault). RunsFrom c.args.now c.args.calls.now (Err f) c.new-session.result c.in-Some.core old.disk c.begin_and_run.new.session c.begin_and_run.new.core end) c.in-Err-Stopped.field-0-is c.in-Err-Stopped.ensures).0 in
     let live = ap (λ (w : Within). w.notes.is_spent) c.self.view_is ∙ c.requires.live in
     let few = subst (λ n. n < 2 ^ 48) (sym (ap (λ (w : Within). w.notes.calls) c.self.view_is)) c.requires.few in
     let new = with_halted old c.in-Some.core is_up (c.self.invariant.kept live) c.args.now c.new-session.result session_is c.next_ltxid-ltxid.new.made c.next_ltxid-ltxid.ensures.counted end halted (g.met.D.Disk.reads_now c.begin_and_run.new.disk) c.take.new.self c.take.ensures.after c.clear.new.self c.clear.ensures c.take.new.self c.clear.new.self c.next_ltxid-ltxid.new.made in
@@ -132,7 +137,7 @@ returns-in-Err-Stopped-clause-halted g c none =
     let end = g.D.Disk.state c.begin_and_run.new.disk in
     let is_up : old.core ≡ Some c.in-Some.core = sym c.in-Some.ensures.value in
     let session_is : c.new-session.result ≡ made_session c.in-Some.core old.notes = c.new-session.ensures.seen ∙ ap begins c.next_ltxid-ltxid.ensures.next in
-    let halted = subst (λ (f : ServeFault). RunsFrom c.args.now c.args.calls.now (Err f) c.new-session.result c.in-Some.core old.disk c.begin_and_run.new.session c.begin_and_run.new.core end) c.in-Err-Stopped.field-0-is c.in-Err-Stopped.ensures in
+    let halted = (subst (λ (f : ServeFault). RunsFrom c.args.now c.args.calls.now (Err f) c.new-session.result c.in-Some.core old.disk c.begin_and_run.new.session c.begin_and_run.new.core end) c.in-Err-Stopped.field-0-is c.in-Err-Stopped.ensures).0 in
     let live = ap (λ (w : Within). w.notes.is_spent) c.self.view_is ∙ c.requires.live in
     let few = subst (λ n. n < 2 ^ 48) (sym (ap (λ (w : Within). w.notes.calls) c.self.view_is)) c.requires.few in
     let new = with_halted old c.in-Some.core is_up (c.self.invariant.kept live) c.args.now c.new-session.result session_is c.next_ltxid-ltxid.new.made c.next_ltxid-ltxid.ensures.counted end halted (g.met.D.Disk.reads_now c.begin_and_run.new.disk) c.take.new.self c.take.ensures.after c.clear.new.self c.clear.ensures c.take.new.self c.clear.new.self c.next_ltxid-ltxid.new.made in
@@ -159,5 +164,5 @@ invariant_of-self-inside-in-Err-Stopped g c =
     let end = g.D.Disk.state c.begin_and_run.new.disk in
     let is_up : old.core ≡ Some c.in-Some.core = sym c.in-Some.ensures.value in
     let session_is : c.new-session.result ≡ made_session c.in-Some.core old.notes = c.new-session.ensures.seen ∙ ap begins c.next_ltxid-ltxid.ensures.next in
-    let halted = subst (λ (f : ServeFault). RunsFrom c.args.now c.args.calls.now (Err f) c.new-session.result c.in-Some.core old.disk c.begin_and_run.new.session c.begin_and_run.new.core end) c.in-Err-Stopped.field-0-is c.in-Err-Stopped.ensures in
+    let halted = (subst (λ (f : ServeFault). RunsFrom c.args.now c.args.calls.now (Err f) c.new-session.result c.in-Some.core old.disk c.begin_and_run.new.session c.begin_and_run.new.core end) c.in-Err-Stopped.field-0-is c.in-Err-Stopped.ensures).0 in
     (λ spent. ap is_some c.take.ensures.after, (λ live. still_fit old c.self.inside.indexes.items end.now.seen (c.self.invariant.kept live) (halts_on_base old c.in-Some.core is_up (c.self.invariant.kept live) c.args.now c.new-session.result session_is c.next_ltxid-ltxid.new.made c.next_ltxid-ltxid.ensures.counted end halted (g.met.D.Disk.reads_now c.begin_and_run.new.disk) c.take.new.self c.take.ensures.after c.clear.new.self c.clear.ensures) (c.self.inside.fitting live), tt))

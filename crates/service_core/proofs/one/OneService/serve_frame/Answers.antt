@@ -16,6 +16,7 @@ use Rattle.service_core.proofs.Growths.{frame_broke, frame_grew}
 use Rattle.service_core.proofs.Serves.{serves, serves_made, serves_on_base, serves_soundly, stops, stops_on_base, stops_soundly, with_served, with_stopped}
 use Rattle.service_core.proofs.Taken.{lives_on, taken_held}
 use Rattle.service_core.proofs.halts.Unanswering.{served_halts, stopped_halts}
+use Rattle.service_core.proofs.Rested.{rests_behind}
 use Rattle.service_core.proofs.one.OneService.serve_frame.Goals as goal
 use Rattle.service_core.proofs.Indexing.{still_fit}
 
@@ -85,18 +86,24 @@ returns-in-Ok-clause-base g c =
     let live = ap (λ (w : Within). w.notes.is_spent) c.self.view_is ∙ c.requires.live in
     subst (λ (w : Within). HaveOneBase (bytes_in w) end.now.seen) {x = old} c.self.view_is (serves_on_base old c.in-Some.core is_up (c.self.invariant.kept live) c.take_session-session.new.held c.take_session-session.new.made c.args.connection c.args.now frame session c.left-self-inside.result c.left-self-inside.ensures taken end c.serve.new.core c.put_back.new.held c.in-Ok.told c.serve.new.self c.put_back.ensures c.in-Ok.ensures.served)
 
-pub invariant_of-self-in-Err-Stopped : goal.invariant_of-self-in-Err-Stopped
-invariant_of-self-in-Err-Stopped g c = record {
+pub invariant_of-self-in-Stopped-1 : goal.invariant_of-self-in-Stopped-1
+invariant_of-self-in-Stopped-1 g c = record {
   kept = λ live.
       let old : Within = record { grants = c.self.inside.grants; disk = g.D.Disk.state c.self.inside.disk; core = c.self.inside.core; held = c.self.inside.held; notes = c.self.inside.notes } in
       let end = g.D.Disk.state c.serve.new.disk in
       let frame = c.args.frame.now in
       let session = c.take_session-session.result in
       let taken = c.take_session-session.ensures in
-      let stopped = subst (λ (f : ServeFault). Serves (served_as frame c.args.now) (1 + sequences_in frame) (Err f) session c.in-Some.core old.disk c.serve.new.self c.serve.new.core end) c.in-Err-Stopped.field-0-is c.in-Err-Stopped.ensures.served in
+      let stopped = (subst (λ (f : ServeFault). Serves (served_as frame c.args.now) (1 + sequences_in frame) (Err f) session c.in-Some.core old.disk c.serve.new.self c.serve.new.core end) c.in-Err-Stopped.field-0-is c.in-Err-Stopped.ensures.served).0 in
       let is_up : old.core ≡ Some c.in-Some.core = sym c.in-Some.ensures.value in
       stops_soundly old c.in-Some.core is_up (c.self.invariant.kept live) c.take_session-session.new.held c.take_session-session.new.made c.args.connection c.args.now frame session c.left-self-inside.result c.left-self-inside.ensures taken end stopped (g.met.D.Disk.reads_now c.serve.new.disk) c.take.new.self c.take.ensures.after c.clear.new.self c.clear.ensures;
-  at_rest = λ live down. tt;
+  at_rest = λ live down.
+      let old : Within = record { grants = c.self.inside.grants; disk = g.D.Disk.state c.self.inside.disk; core = c.self.inside.core; held = c.self.inside.held; notes = c.self.inside.notes } in
+      let end = g.D.Disk.state c.serve.new.disk in
+      let frame = c.args.frame.now in
+      let session = c.take_session-session.result in
+      let stopped = (subst (λ (f : ServeFault). Serves (served_as frame c.args.now) (1 + sequences_in frame) (Err f) session c.in-Some.core old.disk c.serve.new.self c.serve.new.core end) c.in-Err-Stopped.field-0-is c.in-Err-Stopped.ensures.served).1 in
+      rests_behind old c.in-Some.core c.serve.new.core end c.of.result (sym c.in-Some.ensures.value) (c.self.invariant.kept live) stopped c.of.ensures;
 }
 
 pub returns-in-Err-Stopped-clause-served : goal.returns-in-Err-Stopped-clause-served
@@ -106,7 +113,7 @@ returns-in-Err-Stopped-clause-served g c =
     let frame = c.args.frame.now in
     let session = c.take_session-session.result in
     let taken = c.take_session-session.ensures in
-    let stopped = subst (λ (f : ServeFault). Serves (served_as frame c.args.now) (1 + sequences_in frame) (Err f) session c.in-Some.core old.disk c.serve.new.self c.serve.new.core end) c.in-Err-Stopped.field-0-is c.in-Err-Stopped.ensures.served in
+    let stopped = (subst (λ (f : ServeFault). Serves (served_as frame c.args.now) (1 + sequences_in frame) (Err f) session c.in-Some.core old.disk c.serve.new.self c.serve.new.core end) c.in-Err-Stopped.field-0-is c.in-Err-Stopped.ensures.served).0 in
     let is_up : old.core ≡ Some c.in-Some.core = sym c.in-Some.ensures.value in
     let live = ap (λ (w : Within). w.notes.is_spent) c.self.view_is ∙ c.requires.live in
     let few = subst (λ n. n < 2 ^ 48) (sym (ap (λ (w : Within). w.notes.calls) c.self.view_is)) c.requires.few in
@@ -121,7 +128,7 @@ returns-in-Err-Stopped-clause-base g c =
     let frame = c.args.frame.now in
     let session = c.take_session-session.result in
     let taken = c.take_session-session.ensures in
-    let stopped = subst (λ (f : ServeFault). Serves (served_as frame c.args.now) (1 + sequences_in frame) (Err f) session c.in-Some.core old.disk c.serve.new.self c.serve.new.core end) c.in-Err-Stopped.field-0-is c.in-Err-Stopped.ensures.served in
+    let stopped = (subst (λ (f : ServeFault). Serves (served_as frame c.args.now) (1 + sequences_in frame) (Err f) session c.in-Some.core old.disk c.serve.new.self c.serve.new.core end) c.in-Err-Stopped.field-0-is c.in-Err-Stopped.ensures.served).0 in
     let is_up : old.core ≡ Some c.in-Some.core = sym c.in-Some.ensures.value in
     let live = ap (λ (w : Within). w.notes.is_spent) c.self.view_is ∙ c.requires.live in
     subst (λ (w : Within). HaveOneBase (bytes_in w) end.now.seen) {x = old} c.self.view_is (stops_on_base old c.in-Some.core is_up (c.self.invariant.kept live) c.take_session-session.new.held c.take_session-session.new.made c.args.connection c.args.now frame session c.left-self-inside.result c.left-self-inside.ensures taken end stopped (g.met.D.Disk.reads_now c.serve.new.disk) c.take.new.self c.take.ensures.after c.clear.new.self c.clear.ensures)
@@ -146,7 +153,7 @@ returns-in-Err-Stopped-clause-halted g c may =
     let frame = c.args.frame.now in
     let session = c.take_session-session.result in
     let taken = c.take_session-session.ensures in
-    let stopped = subst (λ (f : ServeFault). Serves (served_as frame c.args.now) (1 + sequences_in frame) (Err f) session c.in-Some.core old.disk c.serve.new.self c.serve.new.core end) c.in-Err-Stopped.field-0-is c.in-Err-Stopped.ensures.served in
+    let stopped = (subst (λ (f : ServeFault). Serves (served_as frame c.args.now) (1 + sequences_in frame) (Err f) session c.in-Some.core old.disk c.serve.new.self c.serve.new.core end) c.in-Err-Stopped.field-0-is c.in-Err-Stopped.ensures.served).0 in
     let is_up : old.core ≡ Some c.in-Some.core = sym c.in-Some.ensures.value in
     let live = ap (λ (w : Within). w.notes.is_spent) c.self.view_is ∙ c.requires.live in
     let new = with_stopped old c.in-Some.core is_up (c.self.invariant.kept live) c.take_session-session.new.held c.take_session-session.new.made c.args.connection c.args.now frame session c.left-self-inside.result c.left-self-inside.ensures taken end stopped (g.met.D.Disk.reads_now c.serve.new.disk) c.take.new.self c.take.ensures.after c.clear.new.self c.clear.ensures c.take.new.self c.clear.new.self in
@@ -173,7 +180,7 @@ returns-in-Err-Stopped-clause-broke g c none =
     let frame = c.args.frame.now in
     let session = c.take_session-session.result in
     let taken = c.take_session-session.ensures in
-    let stopped = subst (λ (f : ServeFault). Serves (served_as frame c.args.now) (1 + sequences_in frame) (Err f) session c.in-Some.core old.disk c.serve.new.self c.serve.new.core end) c.in-Err-Stopped.field-0-is c.in-Err-Stopped.ensures.served in
+    let stopped = (subst (λ (f : ServeFault). Serves (served_as frame c.args.now) (1 + sequences_in frame) (Err f) session c.in-Some.core old.disk c.serve.new.self c.serve.new.core end) c.in-Err-Stopped.field-0-is c.in-Err-Stopped.ensures.served).0 in
     let is_up : old.core ≡ Some c.in-Some.core = sym c.in-Some.ensures.value in
     let live = ap (λ (w : Within). w.notes.is_spent) c.self.view_is ∙ c.requires.live in
     let new = with_stopped old c.in-Some.core is_up (c.self.invariant.kept live) c.take_session-session.new.held c.take_session-session.new.made c.args.connection c.args.now frame session c.left-self-inside.result c.left-self-inside.ensures taken end stopped (g.met.D.Disk.reads_now c.serve.new.disk) c.take.new.self c.take.ensures.after c.clear.new.self c.clear.ensures c.take.new.self c.clear.new.self in
@@ -198,6 +205,6 @@ invariant_of-self-inside-in-Err-Stopped g c =
     let frame = c.args.frame.now in
     let session = c.take_session-session.result in
     let taken = c.take_session-session.ensures in
-    let stopped = subst (λ (f : ServeFault). Serves (served_as frame c.args.now) (1 + sequences_in frame) (Err f) session c.in-Some.core old.disk c.serve.new.self c.serve.new.core end) c.in-Err-Stopped.field-0-is c.in-Err-Stopped.ensures.served in
+    let stopped = (subst (λ (f : ServeFault). Serves (served_as frame c.args.now) (1 + sequences_in frame) (Err f) session c.in-Some.core old.disk c.serve.new.self c.serve.new.core end) c.in-Err-Stopped.field-0-is c.in-Err-Stopped.ensures.served).0 in
     let is_up : old.core ≡ Some c.in-Some.core = sym c.in-Some.ensures.value in
     (λ spent. ap is_some c.take.ensures.after, (λ live. still_fit old c.self.inside.indexes.items end.now.seen (c.self.invariant.kept live) (stops_on_base old c.in-Some.core is_up (c.self.invariant.kept live) c.take_session-session.new.held c.take_session-session.new.made c.args.connection c.args.now frame session c.left-self-inside.result c.left-self-inside.ensures taken end stopped (g.met.D.Disk.reads_now c.serve.new.disk) c.take.new.self c.take.ensures.after c.clear.new.self c.clear.ensures) (c.self.inside.fitting live), tt))

@@ -11,6 +11,7 @@ use Rattle.service_core.specs.Within.{Within}
 use Rattle.service_core.proofs.Growths.{ask_broke, ask_grew}
 use Rattle.service_core.proofs.halts.AskHalts.{stopped_telling_halts, told_halts}
 use Rattle.service_core.proofs.Asks.{asks, asks_on_base, asks_soundly, halts, halts_on_base, halts_soundly, with_asked, with_halted}
+use Rattle.service_core.proofs.Rested.{rests_behind}
 use Rattle.service_core.proofs.one.OneService.tell.Goals as goal
 use Rattle.service_core.proofs.Indexing.{still_fit, told_as}
 
@@ -48,9 +49,13 @@ invariant_of-self-in-Err-Stopped g c = record {
       let old : Within = record { grants = c.self.inside.grants; disk = g.D.Disk.state c.self.inside.disk; core = c.self.inside.core; held = c.self.inside.held; notes = c.self.inside.notes } in
       let end = g.D.Disk.state c.tell_outcome.new.disk in
       let is_up : old.core ≡ Some c.in-Some.core = sym c.in-Some.ensures.value in
-      let stopped = subst (λ (f : ServeFault). Tells c.args.x.now (Err f) c.in-Some.core old.disk c.tell_outcome.new.core end) c.in-Err-Stopped.field-0-is c.in-Err-Stopped.ensures in
+      let stopped = (subst (λ (f : ServeFault). Tells c.args.x.now (Err f) c.in-Some.core old.disk c.tell_outcome.new.core end) c.in-Err-Stopped.field-0-is c.in-Err-Stopped.ensures).0 in
       halts_soundly old c.in-Some.core is_up (c.self.invariant.kept live) c.args.x.now end stopped (g.met.D.Disk.reads_now c.tell_outcome.new.disk) c.take.new.self c.take.ensures.after c.clear.new.self c.clear.ensures;
-  at_rest = λ live down. tt;
+  at_rest = λ live down.
+      let old : Within = record { grants = c.self.inside.grants; disk = g.D.Disk.state c.self.inside.disk; core = c.self.inside.core; held = c.self.inside.held; notes = c.self.inside.notes } in
+      let end = g.D.Disk.state c.tell_outcome.new.disk in
+      let stopped = (subst (λ (f : ServeFault). Tells c.args.x.now (Err f) c.in-Some.core old.disk c.tell_outcome.new.core end) c.in-Err-Stopped.field-0-is c.in-Err-Stopped.ensures).1 in
+      rests_behind old c.in-Some.core c.tell_outcome.new.core end c.of.result (sym c.in-Some.ensures.value) (c.self.invariant.kept live) stopped c.of.ensures;
 }
 
 pub returns-in-Err-Stopped-clause-asked : goal.returns-in-Err-Stopped-clause-asked
@@ -58,7 +63,7 @@ returns-in-Err-Stopped-clause-asked g c =
     let old : Within = record { grants = c.self.inside.grants; disk = g.D.Disk.state c.self.inside.disk; core = c.self.inside.core; held = c.self.inside.held; notes = c.self.inside.notes } in
     let end = g.D.Disk.state c.tell_outcome.new.disk in
     let is_up : old.core ≡ Some c.in-Some.core = sym c.in-Some.ensures.value in
-    let stopped = subst (λ (f : ServeFault). Tells c.args.x.now (Err f) c.in-Some.core old.disk c.tell_outcome.new.core end) c.in-Err-Stopped.field-0-is c.in-Err-Stopped.ensures in
+    let stopped = (subst (λ (f : ServeFault). Tells c.args.x.now (Err f) c.in-Some.core old.disk c.tell_outcome.new.core end) c.in-Err-Stopped.field-0-is c.in-Err-Stopped.ensures).0 in
     let live = ap (λ (w : Within). w.notes.is_spent) c.self.view_is ∙ c.requires.live in
     let few = subst (λ n. n < 2 ^ 48) (sym (ap (λ (w : Within). w.notes.calls) c.self.view_is)) c.requires.few in
     let new = with_halted old c.in-Some.core is_up (c.self.invariant.kept live) c.args.x.now end stopped (g.met.D.Disk.reads_now c.tell_outcome.new.disk) c.take.new.self c.take.ensures.after c.clear.new.self c.clear.ensures c.take.new.self c.clear.new.self in
@@ -70,7 +75,7 @@ returns-in-Err-Stopped-clause-base g c =
     let old : Within = record { grants = c.self.inside.grants; disk = g.D.Disk.state c.self.inside.disk; core = c.self.inside.core; held = c.self.inside.held; notes = c.self.inside.notes } in
     let end = g.D.Disk.state c.tell_outcome.new.disk in
     let is_up : old.core ≡ Some c.in-Some.core = sym c.in-Some.ensures.value in
-    let stopped = subst (λ (f : ServeFault). Tells c.args.x.now (Err f) c.in-Some.core old.disk c.tell_outcome.new.core end) c.in-Err-Stopped.field-0-is c.in-Err-Stopped.ensures in
+    let stopped = (subst (λ (f : ServeFault). Tells c.args.x.now (Err f) c.in-Some.core old.disk c.tell_outcome.new.core end) c.in-Err-Stopped.field-0-is c.in-Err-Stopped.ensures).0 in
     let live = ap (λ (w : Within). w.notes.is_spent) c.self.view_is ∙ c.requires.live in
     subst (λ (w : Within). HaveOneBase (bytes_in w) end.now.seen) {x = old} c.self.view_is (halts_on_base old c.in-Some.core is_up (c.self.invariant.kept live) c.args.x.now end stopped (g.met.D.Disk.reads_now c.tell_outcome.new.disk) c.take.new.self c.take.ensures.after c.clear.new.self c.clear.ensures)
 
@@ -89,7 +94,7 @@ returns-in-Err-Stopped-clause-halted g c may =
     let old : Within = record { grants = c.self.inside.grants; disk = g.D.Disk.state c.self.inside.disk; core = c.self.inside.core; held = c.self.inside.held; notes = c.self.inside.notes } in
     let end = g.D.Disk.state c.tell_outcome.new.disk in
     let is_up : old.core ≡ Some c.in-Some.core = sym c.in-Some.ensures.value in
-    let stopped = subst (λ (f : ServeFault). Tells c.args.x.now (Err f) c.in-Some.core old.disk c.tell_outcome.new.core end) c.in-Err-Stopped.field-0-is c.in-Err-Stopped.ensures in
+    let stopped = (subst (λ (f : ServeFault). Tells c.args.x.now (Err f) c.in-Some.core old.disk c.tell_outcome.new.core end) c.in-Err-Stopped.field-0-is c.in-Err-Stopped.ensures).0 in
     let live = ap (λ (w : Within). w.notes.is_spent) c.self.view_is ∙ c.requires.live in
     let new = with_halted old c.in-Some.core is_up (c.self.invariant.kept live) c.args.x.now end stopped (g.met.D.Disk.reads_now c.tell_outcome.new.disk) c.take.new.self c.take.ensures.after c.clear.new.self c.clear.ensures c.take.new.self c.clear.new.self in
     subst (λ (w : Within). Goes (SeesIn w) (IsHaltedAs w new) (λ before behind. HaltedAsk before c.args.x.now (StandsBetween w new) behind)) {x = old} c.self.view_is
@@ -110,7 +115,7 @@ returns-in-Err-Stopped-clause-broke g c none =
     let old : Within = record { grants = c.self.inside.grants; disk = g.D.Disk.state c.self.inside.disk; core = c.self.inside.core; held = c.self.inside.held; notes = c.self.inside.notes } in
     let end = g.D.Disk.state c.tell_outcome.new.disk in
     let is_up : old.core ≡ Some c.in-Some.core = sym c.in-Some.ensures.value in
-    let stopped = subst (λ (f : ServeFault). Tells c.args.x.now (Err f) c.in-Some.core old.disk c.tell_outcome.new.core end) c.in-Err-Stopped.field-0-is c.in-Err-Stopped.ensures in
+    let stopped = (subst (λ (f : ServeFault). Tells c.args.x.now (Err f) c.in-Some.core old.disk c.tell_outcome.new.core end) c.in-Err-Stopped.field-0-is c.in-Err-Stopped.ensures).0 in
     let live = ap (λ (w : Within). w.notes.is_spent) c.self.view_is ∙ c.requires.live in
     let new = with_halted old c.in-Some.core is_up (c.self.invariant.kept live) c.args.x.now end stopped (g.met.D.Disk.reads_now c.tell_outcome.new.disk) c.take.new.self c.take.ensures.after c.clear.new.self c.clear.ensures c.take.new.self c.clear.new.self in
     subst (λ (w : Within). Broke w new) {x = old} c.self.view_is
@@ -130,5 +135,5 @@ invariant_of-self-inside-in-Err-Stopped g c =
     let old : Within = record { grants = c.self.inside.grants; disk = g.D.Disk.state c.self.inside.disk; core = c.self.inside.core; held = c.self.inside.held; notes = c.self.inside.notes } in
     let end = g.D.Disk.state c.tell_outcome.new.disk in
     let is_up : old.core ≡ Some c.in-Some.core = sym c.in-Some.ensures.value in
-    let stopped = subst (λ (f : ServeFault). Tells c.args.x.now (Err f) c.in-Some.core old.disk c.tell_outcome.new.core end) c.in-Err-Stopped.field-0-is c.in-Err-Stopped.ensures in
+    let stopped = (subst (λ (f : ServeFault). Tells c.args.x.now (Err f) c.in-Some.core old.disk c.tell_outcome.new.core end) c.in-Err-Stopped.field-0-is c.in-Err-Stopped.ensures).0 in
     (λ spent. ap is_some c.take.ensures.after, (λ live. still_fit old c.self.inside.indexes.items end.now.seen (c.self.invariant.kept live) (halts_on_base old c.in-Some.core is_up (c.self.invariant.kept live) c.args.x.now end stopped (g.met.D.Disk.reads_now c.tell_outcome.new.disk) c.take.new.self c.take.ensures.after c.clear.new.self c.clear.ensures) (c.self.inside.fitting live), tt))
