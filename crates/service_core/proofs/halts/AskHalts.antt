@@ -1,5 +1,5 @@
 -- An outcome whose asking counts as stopped before its answer.
-use Rattle.std.proofs.Common.{◌≡◌, ◌+◌, ◌≤◌, false, refl, sym, subst, List, [], ◌∷◌, ◌++◌, length, arith}
+use Rattle.std.proofs.Common.{◌≡◌, ◌≤◌, false, refl, sym, subst, List, [], ◌∷◌, ◌++◌, length, arith}
 use Rattle.std.specs.Prelude.{◌≢◌, ℕ, Option, Some}
 use Rattle.disk_model.specs.Moment.{MayLeave}
 use Rattle.svc_values.specs.declared.entry.Ltxid.{Ltxid}
@@ -17,7 +17,7 @@ use Rattle.server_session.specs.Storing.{HasStoppedTelling, HasTold, StopsTellin
 use Rattle.server_session.proofs.Offered.{left_grown}
 use Rattle.service_calls.specs.Kept.{Goes}
 use Rattle.service_core.specs.Seeing.{Came, SeesIn, StandsDown, StandsIn, StandsUp, Stands, store_of}
-use Rattle.service_core.specs.Shipping.{count_in, halted}
+use Rattle.service_core.specs.Shipping.{count_in}
 use Rattle.service_core.specs.Sound.{IsSound, IsSoundWithin, IsUp}
 use Rattle.service_core.specs.Unanswered.{HaltedAsk, IsHaltedAs, LiesBetween, StandsBetween}
 use Rattle.service_core.specs.Within.{Within}

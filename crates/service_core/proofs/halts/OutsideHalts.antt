@@ -1,5 +1,5 @@
 -- Calls from outside that count as stopped before their answer.
-use Rattle.std.proofs.Common.{◌≡◌, ◌≢◌, ◌∙◌, ◌⊎◌, ◌+◌, ℕ, false, refl, sym, ap, subst, inl, List, [], ◌∷◌, ◌++◌, length, length-append, append_assoc, arith}
+use Rattle.std.proofs.Common.{◌≡◌, ◌≢◌, ◌∙◌, ◌⊎◌, ◌+◌, ℕ, false, refl, sym, ap, subst, inl, List, [], ◌∷◌, ◌++◌, length-append, append_assoc, arith}
 use Rattle.std.proofs.lemmas.List.Elements.{All-append, All-cons, All-nil}
 use Rattle.std.specs.Prelude.{All, Option, Some}
 use Rattle.disk_model.specs.Moment.{MayLeave}

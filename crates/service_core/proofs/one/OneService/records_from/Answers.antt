@@ -1,5 +1,5 @@
 use Rattle.std.proofs.Common.{◌∙◌, ◌<◌, ◌+◌, false, sym, ap, subst, arith}
-use Rattle.std.specs.Prelude.{Ok, Err}
+use Rattle.std.specs.Prelude.{Err}
 use Rattle.disk_model.specs.Disk.{DiskState}
 use Rattle.redo_store.proofs.Offered.{few_behind}
 use Rattle.service_core.specs.Held.{Held}
