@@ -4,7 +4,7 @@ use result_digest::{Digesting, digest_of};
 use sha2::Digest;
 use std::alloc::Global;
 use std::test::Fail;
-use svc_values::{Answer, Limited, NoMemory, Value};
+use svc_values::{Answer, NoMemory, Row, Rows, Value};
 
 #[test]
 fn a_list_of_no_answer_has_the_digest_of_eight_zero_bytes(rt: HostRuntime) -> Result<(), Fail> {
@@ -28,8 +28,8 @@ fn a_read_row_has_the_digest_of_its_43_bytes(rt: HostRuntime) -> Result<(), Fail
         )?;
         let bytes = hex::decode(alloc, text.as_str())?;
         assert_eq!(rt; bytes.len(), 43);
-        let row = Limited::from_vec(vec![in alloc; Value::Int(1), Value::Int(balance)]?);
-        let answer = Answer::Rows(Limited::from_vec(vec![in alloc; row]?));
+        let row = Row::from_vec(vec![in alloc; Value::Int(1), Value::Int(balance)]?);
+        let answer = Answer::Rows(Rows::of(alloc, vec![in alloc; row]?)?);
         let wanted = sha2::Sha256::digest(bytes.as_slice());
         assert!(rt; made_of_one(alloc, &answer)? == wanted);
         assert!(rt; digest_of(alloc, [answer].as_slice())? == wanted);

@@ -9,7 +9,8 @@ use svc_values::{
 #[test]
 fn a_lone_commit_is_ten_bytes(rt: HostRuntime) {
     let mut out = Vec::new(rt.alloc());
-    let commit = Call::work(Statements::new(rt.alloc()), true).expect(&rt, "a call");
+    let none = Statements::of(rt.alloc(), Vec::new(rt.alloc())).expect(&rt, "memory");
+    let commit = Call::work(none, true).expect(&rt, "a call");
     put_call(rt.alloc(), &commit, &mut out).expect(&rt, "memory");
     assert_eq!(rt; out.as_slice(), [1, 0, 0, 0, 0, 0, 0, 0, 0, 1].as_slice());
 }

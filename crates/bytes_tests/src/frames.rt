@@ -27,7 +27,8 @@ const FIRST: Ltxid = Ltxid {
 
 #[test]
 fn vectors_to_the_server(rt: HostRuntime) {
-    let call = Call::work(Statements::new(rt.alloc()), true).expect(&rt, "memory");
+    let none = Statements::of(rt.alloc(), Vec::new(rt.alloc())).expect(&rt, "memory");
+    let call = Call::work(none, true).expect(&rt, "memory");
     let commit = Up::Call {
         replay: false,
         kept: Draws::new(rt.alloc()),

@@ -5,11 +5,12 @@ ghost use Rattle.call_forms.specs.meaning.Calls.{call_of, call_of_items as call_
 
 use crate::item::Item;
 use crate::statement::ItemReader;
+use crate::value::shared;
 use document_limits::Count;
 use json_form::{Digits, DocCode, DocFault, Reader, array_from};
 use serde_json::Value as Json;
 use std::alloc::Global;
-use svc_values::{Call, Limited};
+use svc_values::Call;
 
 /// A work call of these items: statements, and a commit at most last.
 fn work_of_items(alloc: Global, items: Vec<Item>) -> Result<Call, DocFault>
@@ -29,7 +30,7 @@ fn work_of_items(alloc: Global, items: Vec<Item>) -> Result<Call, DocFault>
         }
     }
     Ok(Call::Work {
-        statements: Limited::from_vec(statements),
+        statements: shared(alloc, statements)?,
         commit,
     })
 }
@@ -42,12 +43,12 @@ fn lone_call(alloc: Global, item: Item) -> Result<Call, DocFault>
         Item::Statement(statement) => {
             let statements = Vec::from_array(alloc, [statement])?;
             Ok(Call::Work {
-                statements: Limited::from_vec(statements),
+                statements: shared(alloc, statements)?,
                 commit: false,
             })
         }
         Item::Commit => Ok(Call::Work {
-            statements: Limited::new(alloc),
+            statements: shared(alloc, Vec::new(alloc))?,
             commit: true,
         }),
         Item::Set { name, value } => Ok(Call::Set { name, value }),

@@ -10,5 +10,5 @@ pub use call::CallReader;
 pub use item::{ChangeWord, Item, ItemWord};
 pub use statement::ItemReader;
 pub use value::{
-    LineReader, NameReader, NewNameReader, OperandReader, ValueReader, copied, only_member,
+    LineReader, NameReader, NewNameReader, OperandReader, ValueReader, copied, only_member, shared,
 };

@@ -1,5 +1,5 @@
 //! Readers of names, values and operands.
-ghost use Rattle.std.specs.Prelude.{◌≡◌, string_bytes, IfOk, IfErr};
+ghost use Rattle.std.specs.Prelude.{◌≡◌, ◌≤◌, length, string_bytes, IfOk, IfErr};
 ghost use Rattle.std.specs.Str.{bytes_eq};
 ghost use Rattle.serde_json.specs.View.{view, members_view};
 ghost use Rattle.json_form.specs.Faults.{Gives, GivesBy};
@@ -12,7 +12,7 @@ use json_form::{
 };
 use serde_json::{Map, Value as Json};
 use std::alloc::Global;
-use svc_values::{DrawKind, Name, Octets, Operand, Text, TryCopy, Value};
+use svc_values::{DrawKind, Name, Octets, Operand, Shared, Text, TryCopy, Value};
 
 /// Reads a name.
 pub struct NameReader;
@@ -37,6 +37,21 @@ pub fn copied<T: TryCopy>(alloc: Global, item: &T) -> Result<T, DocFault>
 {
     match item.copy(alloc) {
         Ok(copy) => Ok(copy),
+        Err(_) => Err(DocFault::NoMemory),
+    }
+}
+
+/// The list of these items, to be shared by its copies, where there is memory.
+pub fn shared<T: Drop, const LIMIT: usize>(
+    alloc: Global,
+    items: Vec<T>,
+) -> Result<Shared<T, LIMIT>, DocFault>
+    requires { length items.items ≤ LIMIT }
+    ensures made { IfOk result (λ list. list ≡ items.items) }
+    ensures refused { IfErr result (λ e. e ≡ NoMemory) }
+{
+    match Shared::of(alloc, items) {
+        Ok(list) => Ok(list),
         Err(_) => Err(DocFault::NoMemory),
     }
 }

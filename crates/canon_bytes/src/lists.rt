@@ -9,7 +9,7 @@ ghost use Rattle.canon_bytes.specs.Again.{list_again, listed_again};
 use crate::canon::{Put, PutMade, Take};
 use crate::fault::{Fault, ReadFault};
 use std::alloc::Global;
-use svc_values::{Limited, Listed, NoMemory};
+use svc_values::{Limited, Listed, NoMemory, Shared};
 
 /// Writes the items, one after the other.
 fn put_items<T: Put>(items: &[T], out: &mut Vec<u8>) -> Result<(), NoMemory>
@@ -93,6 +93,30 @@ impl<T: Take + Drop, const LIMIT: usize> Take for Limited<T, LIMIT> {
 
 #[tactic(auto, unfolding(crate::specs::meaning::Lists::spell_list))]
 impl<T: Put + Drop, const LIMIT: usize> Put for Limited<T, LIMIT> {
+    fn put(&self, out: &mut Vec<u8>) -> Result<(), NoMemory> {
+        (self.len() as u64).put(out)?;
+        put_items(self.as_slice(), out)
+    }
+}
+
+#[tactic(auto, unfolding(crate::specs::meaning::Lists::list_at, crate::specs::meaning::Lists::spell_list))]
+impl<T: Take + Drop, const LIMIT: usize> Take for Shared<T, LIMIT> {
+    ghost spelling = { spell_list T.spelling };
+
+    ghost fits = { FitsList T.fits LIMIT };
+
+    ghost reading = { list_at T.reading LIMIT };
+
+    ghost again = { list_again T.spelling T.fits T.reading T.again LIMIT };
+
+    fn take(alloc: Global, bytes: &[u8]) -> Result<(Self, &[u8]), ReadFault> {
+        let (list, rest) = <Limited<T, LIMIT> as Take>::take(alloc, bytes)?;
+        Ok((list.into_shared(alloc)?, rest))
+    }
+}
+
+#[tactic(auto, unfolding(crate::specs::meaning::Lists::spell_list))]
+impl<T: Put + Drop, const LIMIT: usize> Put for Shared<T, LIMIT> {
     fn put(&self, out: &mut Vec<u8>) -> Result<(), NoMemory> {
         (self.len() as u64).put(out)?;
         put_items(self.as_slice(), out)

@@ -75,8 +75,8 @@ fn sale(rt: &impl Abort, alloc: Global, number: i64, customer: i64, tick: u8) ->
 
 /// One row is the answer.
 fn one(rt: &impl Abort, alloc: Global, row: Row) -> Answers {
-    let mut rows = Rows::new(alloc);
-    rows.push(row).expect(rt, "a row");
+    let rows = Vec::from_array(alloc, [row]).expect(rt, "memory");
+    let rows = Rows::of(alloc, rows).expect(rt, "memory");
     two(rt, alloc, Answer::Rows(rows), None)
 }
 

@@ -31,7 +31,8 @@ fn each_rule_tells_what_ends_a_replay(rt: HostRuntime) {
     let set = set(&rt, rt.alloc());
     assert!(rt; StaticRule.on_submit(&set, 3) == Some(Why::Settings(3)));
     assert!(rt; DynamicRule.on_submit(&set, 3) == None);
-    let commit = Call::work(Statements::new(rt.alloc()), true).expect(&rt, "a commit");
+    let none = Statements::of(rt.alloc(), Vec::new(rt.alloc())).expect(&rt, "memory");
+    let commit = Call::work(none, true).expect(&rt, "a commit");
     assert!(rt; OffRule.on_submit(&commit, 0) == Some(Why::Off));
 }
 

@@ -4,7 +4,7 @@ ghost use Rattle.svc_values.specs.Calls.{IsMade};
 use crate::names::{name, text, who};
 use std::alloc::Global;
 use std::process::Abort;
-use svc_values::{Call, Change, DrawKind, Operand, Operands, Statement, Statements, Test, Value};
+use svc_values::{Call, Change, DrawKind, Limited, Operand, Operands, Statement, Test, Value};
 
 /// A call of a script. The tables are `t`, with a key and a name; `acc`, with a key and a balance;
 /// and those of a shop, `item` and `sales`, whose customers are told by their number.
@@ -137,7 +137,7 @@ fn statement(rt: &impl Abort, alloc: Global, does: Does) -> Option<Statement> {
 fn work(rt: &impl Abort, alloc: Global, does: Does) -> Call
     ensures { IsMade result }
 {
-    let mut statements = Statements::new(alloc);
+    let mut statements = Limited::new(alloc);
     if let Some(statement) = statement(rt, alloc, does) {
         statements.push(statement).expect(rt, "a statement");
     }
@@ -146,6 +146,7 @@ fn work(rt: &impl Abort, alloc: Global, does: Does) -> Call
             .push(sale(rt, alloc, customer))
             .expect(rt, "a statement");
     }
+    let statements = statements.into_shared(alloc).expect(rt, "memory");
     let commit = matches!(does, Does::InsertCommit | Does::UpdateCommit | Does::Commit);
     Call::work(statements, commit).expect(rt, "a call")
 }

@@ -97,7 +97,7 @@ fn look(alloc: Global, account: u64) -> Result<Call, NoMemory>
         key: number(account as i64),
     };
     Ok(Call::Work {
-        statements: Statements::from_vec(Vec::from_array(alloc, [statement])?),
+        statements: Statements::of(alloc, Vec::from_array(alloc, [statement])?)?,
         commit: false,
     })
 }
@@ -110,19 +110,19 @@ fn pay(alloc: Global, from: u64, to: u64) -> Result<Call, NoMemory>
 {
     let statements = Vec::from_array(alloc, [paid(alloc, from, -1), paid(alloc, to, 1)])?;
     Ok(Call::Work {
-        statements: Statements::from_vec(statements),
+        statements: Statements::of(alloc, statements)?,
         commit: false,
     })
 }
 
 /// A call that commits, and does nothing else.
-fn commit(alloc: Global) -> Call
-    ensures { result ≡ commit_def }
+fn commit(alloc: Global) -> Result<Call, NoMemory>
+    ensures { IfOk result (λ call. call ≡ commit_def) }
 {
-    Call::Work {
-        statements: Statements::new(alloc),
+    Ok(Call::Work {
+        statements: Statements::of(alloc, Vec::new(alloc))?,
         commit: true,
-    }
+    })
 }
 
 /// A request that moves 1 from an account to another one, or to the same.
@@ -135,7 +135,7 @@ pub(crate) fn transfer(alloc: Global, from: u64, to: u64) -> Result<Request, NoM
     let mut calls = Vec::new(alloc);
     calls.push(look(alloc, from)?)?;
     calls.push(pay(alloc, from, to)?)?;
-    calls.push(commit(alloc))?;
+    calls.push(commit(alloc)?)?;
     Ok(Request {
         settings: Settings::new(alloc),
         calls: Calls::from_vec(calls),

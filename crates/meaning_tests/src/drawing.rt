@@ -1,13 +1,12 @@
 //! Transactions whose values are drawn from a source of an opening.
 ghost use Rattle.std.specs.Prelude.{◌≡◌, ◌+ℤ◌, IsTrue, int_le, pos};
 
-use crate::makers::{alone, name, next_of, schemas, sequences, value_of_s};
+use crate::makers::{alone, name, next_of, one_row, schemas, sequences, value_of_s};
 use mutable_values::{Drawn, Grants, Kept, SeqState, Source};
 use std::alloc::Global;
 use std::process::Abort;
 use svc_values::{
-    Answer, Draw, DrawKind, Draws, Names, Row, Rows, Settings, Statement, Value, is_of_kind,
-    is_there,
+    Answer, Draw, DrawKind, Draws, Names, Row, Settings, Statement, Value, is_of_kind, is_there,
 };
 use table_store::Tables;
 use table_txn::{DrawFrom, DrawFromFault, Txn};
@@ -97,9 +96,7 @@ fn source_of(rt: &impl Abort, alloc: Global, next: i64, upto: i64) -> Reserving
 fn one_value(rt: &impl Abort, alloc: Global, value: i64) -> Answer {
     let mut row = Row::new(alloc);
     row.push(Value::Int(value)).expect(rt, "a value");
-    let mut rows = Rows::new(alloc);
-    rows.push(row).expect(rt, "a row");
-    Answer::Rows(rows)
+    one_row(rt, alloc, row)
 }
 
 /// Whether a transaction that shows the next value of s is answered so.

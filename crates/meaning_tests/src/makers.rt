@@ -4,8 +4,8 @@
 use std::alloc::Global;
 use std::process::Abort;
 use svc_values::{
-    Answer, Change, Column, Columns, Draw, DrawKind, Kind, Name, Names, Operand, Operands, Row,
-    Rows, Schema, Schemas, Statement, Statements, Test, Text, Value,
+    Answer, Change, Column, Columns, Draw, DrawKind, Kind, Limited, Name, Names, Operand, Operands,
+    Row, Rows, Schema, Schemas, Statement, Statements, Test, Text, Value,
 };
 
 pub fn name(rt: &impl Abort, alloc: Global, text: &str) -> Name {
@@ -61,12 +61,12 @@ pub fn account(rt: &impl Abort, alloc: Global, id: i64, balance: i64) -> Row {
 
 /// An answer of these accounts.
 pub fn shown(rt: &impl Abort, alloc: Global, accounts: &[(i64, i64)]) -> Answer {
-    let mut rows = Rows::new(alloc);
+    let mut rows = Limited::new(alloc);
     for (id, balance) in accounts {
         let row = account(rt, alloc, *id, *balance);
         rows.push(row).expect(rt, "a row");
     }
-    Answer::Rows(rows)
+    Answer::Rows(rows.into_shared(alloc).expect(rt, "memory"))
 }
 
 pub fn int(number: i64) -> Operand {
@@ -151,7 +151,12 @@ pub fn sum(rt: &impl Abort, alloc: Global, table: &str, column: &str) -> Stateme
 
 /// A call's statements, one.
 pub fn alone(rt: &impl Abort, alloc: Global, statement: Statement) -> Statements {
-    let mut statements = Statements::new(alloc);
-    statements.push(statement).expect(rt, "a statement");
-    statements
+    let list = Vec::from_array(alloc, [statement]).expect(rt, "memory");
+    Statements::of(alloc, list).expect(rt, "memory")
+}
+
+/// An answer of one row.
+pub fn one_row(rt: &impl Abort, alloc: Global, row: Row) -> Answer {
+    let list = Vec::from_array(alloc, [row]).expect(rt, "memory");
+    Answer::Rows(Rows::of(alloc, list).expect(rt, "memory"))
 }

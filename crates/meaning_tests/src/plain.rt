@@ -123,13 +123,14 @@ fn a_missing_row_is_nothing_to_change(rt: HostRuntime) {
 
 /// A deletion, an insert under a new number, and a statement that is refused.
 fn refused_call(rt: &impl Abort, alloc: Global) -> Statements {
-    let mut statements = alone(rt, alloc, delete(rt, alloc, 1));
     let sequence = next_of(rt, alloc, "s");
-    let statement = insert(rt, alloc, "acc", int(2), sequence);
-    statements.push(statement).expect(rt, "a statement");
-    let statement = sum(rt, alloc, "no", "bal");
-    statements.push(statement).expect(rt, "a statement");
-    statements
+    let statements = [
+        delete(rt, alloc, 1),
+        insert(rt, alloc, "acc", int(2), sequence),
+        sum(rt, alloc, "no", "bal"),
+    ];
+    let list = Vec::from_array(alloc, statements).expect(rt, "memory");
+    Statements::of(alloc, list).expect(rt, "memory")
 }
 
 #[test]

@@ -188,16 +188,15 @@ fn a_sum_past_the_integers_is_refused(rt: HostRuntime) {
 
 /// A change, an insert under a new number, an insert over account 1, and a statement that is not run.
 fn refused_call(rt: &impl Abort, alloc: Global) -> Statements {
-    let change = update(rt, alloc, int(2), "bal", Change::To(int(2)));
-    let mut statements = alone(rt, alloc, change);
     let key = next_of(rt, alloc, "s");
-    let statement = insert(rt, alloc, "acc", key, int(5));
-    statements.push(statement).expect(rt, "a statement");
-    let statement = insert(rt, alloc, "acc", int(1), int(5));
-    statements.push(statement).expect(rt, "a statement");
-    let statement = delete(rt, alloc, 1);
-    statements.push(statement).expect(rt, "a statement");
-    statements
+    let statements = [
+        update(rt, alloc, int(2), "bal", Change::To(int(2))),
+        insert(rt, alloc, "acc", key, int(5)),
+        insert(rt, alloc, "acc", int(1), int(5)),
+        delete(rt, alloc, 1),
+    ];
+    let list = Vec::from_array(alloc, statements).expect(rt, "memory");
+    Statements::of(alloc, list).expect(rt, "memory")
 }
 
 #[test]

@@ -5,7 +5,7 @@ ghost use Rattle.hex.specs.Hex.{IsBytes};
 ghost use Rattle.json_form.specs.meaning.Values.{fits_i64};
 ghost use Rattle.report_limits.specs.meaning.Limits.{fits_u64};
 
-use svc_values::{Limited, Listed};
+use svc_values::{Limited, Listed, Shared};
 
 /// A type whose values keep to limits. `fits` is the test of them, and `octets` says besides that
 /// octets are bytes.
@@ -56,6 +56,16 @@ impl<T: Kept + Drop> Kept for Listed<T> {
 }
 
 impl<T: Kept + Drop, const LIMIT: usize> Kept for Limited<T, LIMIT> {
+    ghost fits = { λ items. nat_le (length items) LIMIT && list_all T.Kept.fits items };
+
+    ghost octets = { AllByRecursion T.Kept.octets };
+
+    fn kept(&self) {
+        each_kept(self.as_slice());
+    }
+}
+
+impl<T: Kept + Drop, const LIMIT: usize> Kept for Shared<T, LIMIT> {
     ghost fits = { λ items. nat_le (length items) LIMIT && list_all T.Kept.fits items };
 
     ghost octets = { AllByRecursion T.Kept.octets };

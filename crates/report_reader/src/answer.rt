@@ -5,11 +5,11 @@ ghost use Rattle.json_form.specs.Faults.{Gives};
 ghost use Rattle.report_reader.specs.meaning.Answers.{rows_in, refusal_of as refusal_of_def, answer_of as answer_of_def, answer_named as answer_named_def, answer_in, answers_in};
 
 use crate::part::{NUMBER, RowReader};
-use call_forms::only_member;
+use call_forms::{only_member, shared};
 use json_form::{DocCode, DocFault, Integer, Reader, Whole, array_from, chosen, list_from, within};
 use serde_json::Value as Json;
 use std::alloc::Global;
-use svc_values::{Answer, Answers, Limited, Listed, Rows, StatementFault};
+use svc_values::{Answer, Answers, Listed, Rows, StatementFault};
 
 /// Reads the rows of an answer, at most 32.
 struct RowsReader;
@@ -19,7 +19,7 @@ impl Reader<Rows> for RowsReader {
 
     fn read(&self, alloc: Global, value: Json) -> Result<Rows, DocFault> {
         let rows = array_from(alloc, value, 0, 32, &RowReader)?;
-        Ok(Limited::from_vec(rows))
+        shared(alloc, rows)
     }
 }
 

@@ -76,6 +76,8 @@ fn escaped(rt: &impl Abort, alloc: Global) -> Rows {
     let none = octets(rt, alloc, &[]);
     let row: Row = limited(rt, alloc, [escaped, none]);
     limited(rt, alloc, [row])
+        .into_shared(alloc)
+        .expect(rt, "memory")
 }
 
 fn answers(rt: &impl Abort, alloc: Global) -> Answers {

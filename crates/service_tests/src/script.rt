@@ -5,7 +5,7 @@ ghost use Rattle.svc_values.specs.Calls.{IsMade};
 use std::alloc::Global;
 use std::process::Abort;
 use svc_values::{
-    Call, Change, DrawKind, Name, Operand, Operands, Statement, Statements, Text, Value,
+    Call, Change, DrawKind, Limited, Name, Operand, Operands, Statement, Statements, Text, Value,
 };
 
 /// What an operand asks for.
@@ -90,13 +90,13 @@ fn kind(rt: &impl Abort, alloc: Global, asks: Asks) -> DrawKind {
 
 /// A statement for each of these.
 fn show_each(rt: &impl Abort, alloc: Global, asked: &[Asks]) -> Statements {
-    let mut statements = Statements::new(alloc);
+    let mut statements = Limited::new(alloc);
     for asks in asked {
         let operand = Operand::Draw(kind(rt, alloc, *asks));
         let show = Statement::Show { operand };
         statements.push(show).expect(rt, "a statement");
     }
-    statements
+    statements.into_shared(alloc).expect(rt, "memory")
 }
 
 /// The statement of a call that has one.
@@ -119,11 +119,11 @@ fn statements(rt: &impl Abort, alloc: Global, does: Does) -> Statements {
     if let Does::Show(asked) | Does::ShowCommit(asked) = does {
         return show_each(rt, alloc, asked);
     }
-    let mut statements = Statements::new(alloc);
+    let mut statements = Limited::new(alloc);
     if let Some(statement) = statement(rt, alloc, does) {
         statements.push(statement).expect(rt, "a statement");
     }
-    statements
+    statements.into_shared(alloc).expect(rt, "memory")
 }
 
 /// Work: the statements that are named, and a commit where it is part of the name.

@@ -110,8 +110,7 @@ fn added(
 fn rows_of(alloc: Global, row: Row) -> Result<Rows, NoMemory>
     ensures { IfOk result (λ rows. rows ≡ row ∷ []) }
 {
-    let rows = Vec::from_array(alloc, [row])?;
-    Ok(Rows::from_vec(rows))
+    Rows::of(alloc, Vec::from_array(alloc, [row])?)
 }
 
 /// What is answered to `Show`: one row of the value.
@@ -138,7 +137,7 @@ pub fn row_effect(
         return Ok(match work {
             RowWork::Insert { row } => wrote(table, key, Some(row)),
             RowWork::Set { .. } | RowWork::Add { .. } | RowWork::Delete => only(Answer::Done(0)),
-            RowWork::Get => only(Answer::Rows(Rows::new(alloc))),
+            RowWork::Get => only(Answer::Rows(Rows::of(alloc, Vec::new(alloc))?)),
         });
     };
     match work {

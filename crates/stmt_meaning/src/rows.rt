@@ -48,11 +48,11 @@ fn scan_table(
         if stands_in(row, table) {
             scan = scan.after(alloc, &row.row)?;
             if scan.is_settled() {
-                return Ok(scan.answer());
+                return scan.answer(alloc);
             }
         }
     }
-    Ok(scan.answer())
+    scan.answer(alloc)
 }
 
 /// What a plan answers and writes on these rows.

@@ -7,7 +7,12 @@ ghost use Rattle.stmt_meaning.specs.InnerScans.{scanned, next_scan, last_answer,
 use crate::effect::number_at;
 use crate::plan::TableWork;
 use std::alloc::Global;
-use svc_values::{Answer, NoMemory, Row, Rows, StatementFault, Test, TryCopy, Value, value_meets};
+use svc_values::{
+    Answer, Limited, NoMemory, Row, StatementFault, Test, TryCopy, Value, value_meets,
+};
+
+/// The rows that a select keeps, before they are an answer.
+type Met = Limited<Row, 32>;
 
 /// A select, a count or a sum on its way over the rows of a table: what it has found in those that it
 /// was shown so far. A select keeps no more than 32 rows.
@@ -17,7 +22,7 @@ pub enum Scan {
         column: usize,
         test: Test,
         value: Value,
-        met: Rows,
+        met: Met,
         /// Whether another row meets the test than those that were kept.
         is_over: bool,
     },
@@ -31,7 +36,7 @@ pub enum Scan {
 }
 
 /// The rows with a copy of this one last.
-fn with_row(alloc: Global, mut rows: Rows, row: &Row) -> Result<Rows, NoMemory>
+fn with_row(alloc: Global, mut rows: Met, row: &Row) -> Result<Met, NoMemory>
     requires { length rows < 32 }
     ensures { IfOk result (λ more. more ≡ rows ++ row.now ∷ []) }
 {
@@ -47,7 +52,7 @@ fn selected(
     column: usize,
     test: Test,
     value: Value,
-    mut met: Rows,
+    mut met: Met,
     mut is_over: bool,
     row: &Row,
 ) -> Result<Scan, NoMemory>
@@ -93,7 +98,7 @@ impl Scan {
                 column,
                 test,
                 value,
-                met: Rows::new(alloc),
+                met: Met::new(alloc),
                 is_over: false,
             },
             TableWork::Count => Scan::Count { rows: 0 },
@@ -139,14 +144,14 @@ impl Scan {
     }
 
     /// The answer, once each row of the table was shown in order of key.
-    pub fn answer(self) -> Answer
-        ensures { result ≡ last_answer self }
+    pub fn answer(self, alloc: Global) -> Result<Answer, NoMemory>
+        ensures { IfOk result (λ answer. answer ≡ last_answer self) }
     {
-        match self {
+        Ok(match self {
             Scan::Select { is_over: true, .. } => Answer::Refused(StatementFault::TooManyRows),
-            Scan::Select { met, .. } => Answer::Rows(met),
+            Scan::Select { met, .. } => Answer::Rows(met.into_shared(alloc)?),
             Scan::Count { rows } => Answer::Number(rows),
             Scan::Sum { total, .. } => summed(total),
-        }
+        })
     }
 }

@@ -1,12 +1,13 @@
 //! Answers of statements and calls.
 
-use crate::list::{Limited, Listed};
+use crate::list::Listed;
 use crate::memory::{NoMemory, TryCopy};
+use crate::shared::Shared;
 use crate::value::Row;
 use std::alloc::Global;
 
-/// The rows of one answer: at most 32.
-pub type Rows = Limited<Row, 32>;
+/// The rows of one answer: at most 32. Copies of an answer share them.
+pub type Rows = Shared<Row, 32>;
 
 /// Why a statement was refused. The codes are 1 to 9, in this order.
 #[derive(Clone, Copy, Debug, PartialEq, Eq)]

@@ -15,6 +15,7 @@ mod list;
 mod memory;
 mod schema;
 mod settings;
+mod shared;
 mod statement;
 mod tables;
 mod text;
@@ -34,6 +35,7 @@ pub use schema::{
     values_fit,
 };
 pub use settings::Settings;
+pub use shared::Shared;
 pub use statement::{Change, Operand, Operands, Statement, Statements, Test, value_meets};
 pub use tables::{Place, PlainRow, PlainTables};
 pub use text::{Name, NameFault, Octets, Text, TextFault};

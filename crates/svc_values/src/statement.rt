@@ -5,6 +5,7 @@ ghost use Rattle.svc_values.specs.meaning.Tests.{meets as meets_def, value_meets
 use crate::draw::DrawKind;
 use crate::list::Limited;
 use crate::memory::{NoMemory, TryCopy};
+use crate::shared::Shared;
 use crate::text::Name;
 use crate::value::Value;
 use std::alloc::Global;
@@ -75,8 +76,8 @@ pub enum Statement {
     },
 }
 
-/// The statements of one call: at most eight.
-pub type Statements = Limited<Statement, 8>;
+/// The statements of one call: at most eight. Copies of a call share them.
+pub type Statements = Shared<Statement, 8>;
 
 /// Whether a comparison with this outcome meets the test.
 fn meets(test: Test, order: Ordering) -> bool

@@ -143,11 +143,11 @@ fn committed_answer(
                 test,
                 value,
             };
-            select_committed(tables, own, table, &sought)
+            select_committed(alloc, tables, own, table, &sought)
         }
         work => {
             let scan = Scan::new(alloc, work);
-            Ok(show_committed(alloc, scan, tables, own, table)?.answer())
+            show_committed(alloc, scan, tables, own, table)?.answer(alloc)
         }
     }
 }
@@ -180,7 +180,7 @@ fn answer_over(
         }
         work => {
             let scan = Scan::new(alloc, work);
-            Ok(show_over(alloc, scan, tables, own, table, keys)?.answer())
+            show_over(alloc, scan, tables, own, table, keys)?.answer(alloc)
         }
     }
 }

@@ -32,18 +32,19 @@ pub(crate) struct Sought {
 }
 
 /// The answer of a select that found these rows, or more than it may answer.
-fn answer_of(found: Option<Vec<Row>>) -> Answer
+fn answer_of(alloc: Global, found: Option<Vec<Row>>) -> Result<Answer, NoMemory>
     requires { IfSome found (λ rows. length rows.items ≤ 32) }
-    ensures { result ≡ select_answer (option_map (λ rows. rows.items) found) }
+    ensures { IfOk result (λ answer. answer ≡ select_answer (option_map (λ rows. rows.items) found)) }
 {
-    match found {
+    Ok(match found {
         None => Answer::Refused(StatementFault::TooManyRows),
-        Some(rows) => Answer::Rows(Rows::from_vec(rows)),
-    }
+        Some(rows) => Answer::Rows(Rows::of(alloc, rows)?),
+    })
 }
 
 /// The answer where the transaction wrote nothing in the table.
 pub(crate) fn select_committed(
+    alloc: Global,
     tables: &Tables,
     own: &OwnWrites,
     table: &Name,
@@ -53,7 +54,7 @@ pub(crate) fn select_committed(
     ensures { IfOk result (λ answer. answer ≡ limited (selected sought.now.column sought.now.test sought.now.value (seen_at (with_writes tables.now.rows own.now) (Some (place.Table table.now))))) }
 {
     let found = tables.select(table, sought.column, sought.test, &sought.value)?;
-    Ok(answer_of(found))
+    answer_of(alloc, found)
 }
 
 /// The row of a write, if there is one and it has one.
@@ -109,17 +110,17 @@ pub(crate) fn select_over(
 {
     let found = tables.select_but(table, sought.column, sought.test, &sought.value, keys)?;
     let Some(mut found) = found else {
-        return Ok(answer_of(None));
+        return answer_of(alloc, None);
     };
     let writes = own.writes();
     for (key, at) in keys {
         if is_over(&found) {
-            return Ok(answer_of(None));
+            return answer_of(alloc, None);
         }
         put_own(alloc, &mut found, key, writes.get(*at), sought)?;
     }
     if is_over(&found) {
-        return Ok(answer_of(None));
+        return answer_of(alloc, None);
     }
-    Ok(answer_of(Some(found.into_rows()?)))
+    answer_of(alloc, Some(found.into_rows()?))
 }

@@ -3,7 +3,7 @@
 use std::alloc::Global;
 use std::process::Abort;
 use svc_values::{
-    Answer, Answers, Call, Column, Columns, Draw, Draws, Kind, Name, Row, Rows, Settings,
+    Answer, Answers, Call, Column, Columns, Draw, Draws, Kind, Limited, Name, Row, Settings,
     Statement, Statements, Value,
 };
 
@@ -24,14 +24,14 @@ pub fn columns(rt: &impl Abort, alloc: Global, names: &[&str]) -> Columns {
 
 /// As many counts of one table.
 pub fn counts(rt: &impl Abort, alloc: Global, number: u8) -> Statements {
-    let mut statements = Statements::new(alloc);
+    let mut statements = Limited::new(alloc);
     for _ in 0..number {
         let table = name(rt, alloc, "t");
         statements
             .push(Statement::Count { table })
             .expect(rt, "a statement");
     }
-    statements
+    statements.into_shared(alloc).expect(rt, "memory")
 }
 
 pub fn row(rt: &impl Abort, alloc: Global, number: i64) -> Row {
@@ -42,9 +42,10 @@ pub fn row(rt: &impl Abort, alloc: Global, number: i64) -> Row {
 
 /// One answer of one row.
 pub fn answers(rt: &impl Abort, alloc: Global) -> Answers {
-    let mut rows = Rows::new(alloc);
+    let mut rows = Limited::new(alloc);
     rows.push(row(rt, alloc, 7)).expect(rt, "a row");
     let mut answers = Answers::new(alloc);
+    let rows = rows.into_shared(alloc).expect(rt, "memory");
     answers.push(Answer::Rows(rows)).expect(rt, "an answer");
     answers
 }

@@ -1,4 +1,5 @@
 use Rattle.std.proofs.Common.{sym, ◌∙◌, arith, length, ◌<◌, ◌+◌}
+use Rattle.std.proofs.lemmas.Result.{IfOk-weaker}
 use Rattle.svc_values.specs.declared.tables.Place.TheVariants as place
 use Rattle.stmt_meaning.proofs.TableScans.{scan_more, scan_same, scan_end, scan_settled}
 use Rattle.stmt_meaning.proofs.rows.scan_table.Goals as goal
@@ -18,7 +19,7 @@ returns-then-is_settled c =
     let at = place.Table c.args.table.now in
     let lt : c.loop-row.row-index < length c.args.rows.now = omega arith in
     let more = scan_more at c.args.work c.args.rows.now c.loop-row.row-index c.row-item.result c.loop-row.scan lt c.row-item.is (sym c.stands_in.ensures ∙ c.if-stands_in.true) c.loop-row.invariant in
-    c.answer.ensures ∙ scan_settled at c.args.work c.args.rows.now (c.loop-row.row-index + 1) c.in_ok-scan.scan (c.in_ok-scan.ensures ∙ more) (c.is_settled.ensures.settled c.if-is_settled.true)
+    IfOk-weaker c.answer.result _ _ (λ answer told. told ∙ scan_settled at c.args.work c.args.rows.now (c.loop-row.row-index + 1) c.in_ok-scan.scan (c.in_ok-scan.ensures ∙ more) (c.is_settled.ensures.settled c.if-is_settled.true)) c.answer.ensures
 
 pub returns : goal.returns
-returns c = c.answer-2.ensures ∙ scan_end (place.Table c.args.table.now) c.args.work c.args.rows.now c.loop-row.row-index c.loop-row.scan (omega arith) c.loop-row.invariant
+returns c = IfOk-weaker c.answer-2.result _ _ (λ answer told. told ∙ scan_end (place.Table c.args.table.now) c.args.work c.args.rows.now c.loop-row.row-index c.loop-row.scan (omega arith) c.loop-row.invariant) c.answer-2.ensures

@@ -1,6 +1,7 @@
 use Rattle.std.proofs.Common.{ap, sym, ◌∙◌}
 use Rattle.std.specs.Prelude.{Some, fold}
 use Rattle.std.specs.Option.{option_copied}
+use Rattle.std.proofs.lemmas.Result.{IfOk-weaker}
 use Rattle.svc_values.specs.declared.tables.Place.TheVariants as place
 use Rattle.stmt_meaning.specs.meaning.Effects.{table_answer}
 use Rattle.stmt_meaning.specs.meaning.Meaning.{seen_at}
@@ -18,4 +19,4 @@ returns-in-Count c =
 pub returns-in_ok-show_committed-in_default : goal.returns-in_ok-show_committed-in_default
 returns-in_ok-show_committed-in_default c =
     let rows = seen_at (with_writes c.args.tables.now.rows c.args.own.now) (Some (place.Table c.args.table.now)) in
-    c.answer.ensures ∙ answer_is c.args.work rows c.in_ok-show_committed-in_default.field-0 (c.in_ok-show_committed-in_default.ensures ∙ ap (λ s. last_answer (fold next_scan s rows)) c.new-scan.ensures)
+    IfOk-weaker c.answer.result _ _ (λ answer told. told ∙ answer_is c.args.work rows c.in_ok-show_committed-in_default.field-0 (c.in_ok-show_committed-in_default.ensures ∙ ap (λ s. last_answer (fold next_scan s rows)) c.new-scan.ensures)) c.answer.ensures

@@ -1,6 +1,7 @@
 use Rattle.std.proofs.Common.{arith, ◌≡◌, ◌<◌, ◌≤◌, true, false, length, nat_lt, sym, ap, subst, ◌∙◌}
 use Rattle.std.specs.Prelude.{Some, slice_get}
 use Rattle.std.specs.Option.{option_copied}
+use Rattle.std.proofs.lemmas.Result.{IfOk-weaker}
 use Rattle.std.specs.BTreeMap.{is_at}
 use Rattle.std.specs.Map.{keys_of, lookup}
 use Rattle.std.specs.List.Sorted.{IsStrictlySortedBy}
@@ -16,9 +17,11 @@ use Rattle.table_txn.proofs.selecting.select_over.Goals as goal
 
 pub returns-in_default : goal.returns-in_default
 returns-in_default c =
-    c.answer_of.ensures
+    IfOk-weaker c.answer_of.result _ _
+    (λ answer told. told
     ∙ committed_refused c.args.tables.now.rows c.requires.ordered c.args.own.now c.args.table.now c.args.sought.now.column c.args.sought.now.test c.args.sought.now.value c.args.keys.now c.requires.keys
-    (sym c.in_default.is ∙ c.in_ok-found.ensures)
+    (sym c.in_default.is ∙ c.in_ok-found.ensures))
+    c.answer_of.ensures
 
 pub loop-key-init : goal.loop-key-init
 loop-key-init c =
@@ -42,8 +45,10 @@ returns-then-is_over c =
     let so_far = c.loop-key.invariant.1 in
     let above : nat_lt 32 (length c.loop-key.found) ≡ true = sym c.is_over.ensures.test ∙ c.if-is_over.true in
     let over : 32 < length c.loop-key.found = grind arith in
+    IfOk-weaker c.answer_of-then-is_over.result _ _
+    (λ answer told. told
+    ∙ over_refused c.args.tables.now.rows so_far.0 c.args.own.now c.args.table.now c.args.sought.now.column c.args.sought.now.test c.args.sought.now.value c.loop-key.key-iterator c.loop-key.found so_far.1 c.is_over.ensures.rising over)
     c.answer_of-then-is_over.ensures
-    ∙ over_refused c.args.tables.now.rows so_far.0 c.args.own.now c.args.table.now c.args.sought.now.column c.args.sought.now.test c.args.sought.now.value c.loop-key.key-iterator c.loop-key.found so_far.1 c.is_over.ensures.rising over
 
 pub loop-key-preserved : goal.loop-key-preserved
 loop-key-preserved c =
@@ -70,13 +75,17 @@ returns-then-is_over-2 c =
     let so_far = c.loop-key.invariant.1 in
     let above : nat_lt 32 (length c.loop-key.found) ≡ true = sym c.is_over-2.ensures.test ∙ c.if-is_over-2.true in
     let over : 32 < length c.loop-key.found = grind arith in
+    IfOk-weaker c.answer_of-then-is_over-2.result _ _
+    (λ answer told. told
+    ∙ over_refused c.args.tables.now.rows so_far.0 c.args.own.now c.args.table.now c.args.sought.now.column c.args.sought.now.test c.args.sought.now.value c.loop-key.key-iterator c.loop-key.found so_far.1 c.is_over-2.ensures.rising over)
     c.answer_of-then-is_over-2.ensures
-    ∙ over_refused c.args.tables.now.rows so_far.0 c.args.own.now c.args.table.now c.args.sought.now.column c.args.sought.now.test c.args.sought.now.value c.loop-key.key-iterator c.loop-key.found so_far.1 c.is_over-2.ensures.rising over
 
 pub returns : goal.returns
 returns c =
     let so_far = c.loop-key.invariant.1 in
     let below : nat_lt 32 (length c.loop-key.found) ≡ false = sym c.is_over-2.ensures.test ∙ c.if-is_over-2.false in
     let fits : length c.loop-key.found ≤ 32 = grind arith in
-    c.answer_of-2.ensures ∙ ap (λ rows. select_answer (Some rows)) c.in_ok-into_rows.ensures
-    ∙ all_answered c.args.tables.now.rows so_far.0 c.args.own.now c.args.table.now c.args.sought.now.column c.args.sought.now.test c.args.sought.now.value c.loop-key.key-iterator c.loop-key.found so_far.1 c.is_over-2.ensures.rising c.in-None.ensures.steps.0 fits
+    IfOk-weaker c.answer_of-2.result _ _
+    (λ answer told. told ∙ ap (λ rows. select_answer (Some rows)) c.in_ok-into_rows.ensures
+    ∙ all_answered c.args.tables.now.rows so_far.0 c.args.own.now c.args.table.now c.args.sought.now.column c.args.sought.now.test c.args.sought.now.value c.loop-key.key-iterator c.loop-key.found so_far.1 c.is_over-2.ensures.rising c.in-None.ensures.steps.0 fits)
+    c.answer_of-2.ensures
