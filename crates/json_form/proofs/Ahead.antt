@@ -1,19 +1,21 @@
 -- Values, items and members one after the other, under the conversion to data.
-use Rattle.std.proofs.Common.{◌≡◌, ℕ, ◌-◌, ◌<◌, ◌≤◌, List, [], ◌∷◌, ◌++◌, length, nat_le, true, Option, Some, None, option_map, option_and_then, Result, Ok, refl, ap, ◌∙◌, arith}
+use Rattle.std.proofs.Common.{◌≡◌, ℕ, zero, suc, ◌-◌, ◌<◌, ◌≤◌, ◌==◌, List, [], ◌∷◌, ◌++◌, length, nat_le, true, Option, Some, None, option_map, option_and_then, Result, Ok, Err, refl, sym, ap, ◌∙◌, eq-eqb, arith}
+use Rattle.std.specs.Prelude.{if◌then◌else◌}
 use Rattle.std.proofs.lemmas.Bool.{le-leb}
 use Rattle.json.specs.Token.{Token}
 use Rattle.json.specs.Json as json
-use Rattle.json.specs.Json.{Parse, parse_map, after_end_array, read_key, items, members, value, if_last}
+use Rattle.json.specs.Json.{Parse, parse_map, after_end_array, read_key, items_step, items, members, value, if_last}
 use Rattle.json.specs.Lex.{tokens}
-use Rattle.json.proofs.Grammar.{items_end, items_more, members_end, members_more, value-begin_array, value-begin_object}
-use Rattle.serde_json.specs.Data.{Data, array, object, Items, no_items, item, Members, no_members, put}
+use Rattle.json.proofs.Grammar.{left, items_end, items_more, members_end, members_more, value-begin_array, value-begin_object, value_is, closed_array, skip_value-shorter}
+use Rattle.serde_json.specs.Data.{Data, array, string, object, Items, no_items, item, Members, no_members, put}
 use Rattle.serde_json.specs.Events.{items_len}
 use Rattle.serde_json.specs.Read.{of_json, of_items, of_members, converted, read as read_text, max_depth}
 use Rattle.serde_json.specs.View.{view, items_view}
 use Rattle.serde_json.specs.declared.value.Value.{Value}
-use Rattle.json_form.specs.meaning.Faults.{Fault, ◌>>=◌, within_item}
-use Rattle.json_form.specs.meaning.Arrays.{each_after, array_of}
-use Rattle.json_form.specs.Streams.{value_ahead}
+use Rattle.json_form.specs.declared.fault.DocCode.TheVariants.{WrongKind}
+use Rattle.json_form.specs.meaning.Faults.{Fault, ◌>>=◌, here, within_item}
+use Rattle.json_form.specs.meaning.Arrays.{each_after, array_of, exact_of}
+use Rattle.json_form.specs.Streams.{value_ahead, items_ahead, Begins}
 use Rattle.json_form.proofs.Readings.{each_long}
 
 abbrev or_else : {A : Type 0} → A → Option A → A
@@ -131,10 +133,70 @@ array_read read high (Some p) xs r few e =
     let same = ap (or_else (each_after read [] p.0, p.1)) e in
     ap (λ q. Some (q, p.1)) (few_read read high p.0 xs few (ap (λ q. q.0) same)) ∙ ap (λ s. Some (Ok xs, s)) (ap (λ q. q.1) same)
 
--- the value that a reading began with
-pub begun : {A : Type 0} (f : Data → Result A Fault) (o : Option (Data × List Token)) (x : A) (r : List Token) → parse_map f o ≡ Some (Ok x, r) → (d : Data) × (o ≡ Some (d, r)) × (f d ≡ Ok x)
+-- the value, or the items, that a reading began with
+pub begun : {A D : Type 0} (f : D → Result A Fault) (o : Option (D × List Token)) (x : A) (r : List Token) → parse_map f o ≡ Some (Ok x, r) → (d : D) × (o ≡ Some (d, r)) × (f d ≡ Ok x)
 begun f None x r e = absurd (cc)
 begun f (Some p) x r e = let same = ap (or_else (f p.0, p.1)) e in (p.0, ap (λ s. Some (p.0, s)) (ap (λ q. q.1) same), ap (λ q. q.0) same)
+
+-- exactly so many items were read, behind the bracket that begins their array
+pub exact_read : {A : Type 0} (read : List A → Data → Result A Fault) (n : ℕ) (o : Option (Items × List Token)) (xs : List A) (r : List Token) → length xs ≡ n → parse_map (each_after read []) o ≡ Some (Ok xs, r)
+    → parse_map (λ d. exact_of n d >>= each_after read []) (parse_map array o) ≡ Some (Ok xs, r)
+exact_read read n None xs r long e = absurd (cc)
+exact_read read n (Some p) xs r long e =
+    let same = ap (or_else (each_after read [] p.0, p.1)) e in
+    let gave : each_after read [] p.0 ≡ Ok xs = ap (λ q. q.0) same in
+    let counted : (items_len p.0 == n) ≡ true = eq-eqb (items_len p.0) n (omega (arith, long, each_long read [] p.0 xs gave)) in
+    ap (λ b. Some ((if b then Ok p.0 else Err (here WrongKind)) >>= each_after read [], p.1)) counted ∙ ap (λ q. Some (q, p.1)) gave ∙ ap (λ s. Some (Ok xs, s)) (ap (λ q. q.1) same)
+
+-- ---- a few items, one after the other
+
+pub string_ahead : (depth : ℕ) (word : List ℕ) (ts : List Token) → value_ahead depth (Token.string word ∷ ts) ≡ Some (string word, ts)
+string_ahead depth word ts = ap (converted of_json) (value_is depth (Token.string word ∷ ts))
+
+no_bracket : (depth : ℕ) (ts : List Token) (d : Data) (r : List Token) (o : Option (List Token)) → after_end_array ts ≡ o → value_ahead depth ts ≡ Some (d, r) → o ≡ None
+no_bracket depth ts d r None e h = refl
+no_bracket depth ts d r (Some s) e h =
+    let never = sym h ∙ ap (value_ahead depth) (closed_array ts s e) ∙ ap (converted of_json) (value_is depth (Token.end_array ∷ s)) in
+    absurd (cc)
+
+module _ (more longer : Parse json.Items) (again : (ts : List Token) (js : json.Items) (r : List Token) → more ts ≡ Some (js, r) → longer ts ≡ Some (js, r)) (js : json.Items) (r : List Token) where
+  tail_again : (j : json.Json) (ts : List Token) (o : Option (json.Items × List Token)) → more ts ≡ o → parse_map (json.item j) o ≡ Some (js, r) → parse_map (json.item j) (longer ts) ≡ Some (js, r)
+  tail_again j ts None h e = absurd (cc)
+  tail_again j ts (Some (ks, s)) h e = ap (parse_map (json.item j)) (again ts ks s h) ∙ e
+
+  item_again : (o : Option (json.Json × List Token)) → option_and_then (λ q. parse_map (json.item q.0) (more q.1)) o ≡ Some (js, r) → option_and_then (λ q. parse_map (json.item q.0) (longer q.1)) o ≡ Some (js, r)
+  item_again None e = absurd (cc)
+  item_again (Some q) e = tail_again q.0 q.1 (more q.1) refl e
+
+  turn_again : (p : Parse json.Json) (ts : List Token) (o : Option (List Token)) → items_step p more ts o ≡ Some (js, r) → items_step p longer ts o ≡ Some (js, r)
+  turn_again p ts (Some s) e = e
+  turn_again p ts None e = item_again (p ts) e
+
+-- more turns change nothing
+more_turns : (p : Parse json.Json) (m n : ℕ) → m ≤ n → (ts : List Token) (js : json.Items) (r : List Token) → items p m ts ≡ Some (js, r) → items p n ts ≡ Some (js, r)
+unfolding items
+more_turns p zero n few ts js r e = absurd (cc)
+more_turns p (suc m) zero few ts js r e = let never : ⊥ = omega arith in absurd never
+more_turns p (suc m) (suc n) few ts js r e = turn_again (items p m) (items p n) (more_turns p m n (omega arith)) js r p ts (after_end_array ts) e
+
+-- one item, and those behind it
+item_ahead : (depth : ℕ) (ts r rest : List Token) (d : Data) (ds : Items) → value_ahead depth ts ≡ Some (d, r) → items_ahead depth r ≡ Some (ds, rest) → items_ahead depth ts ≡ Some (item d ds, rest)
+item_ahead depth ts r rest d ds e behind =
+    let p = value depth in
+    let one = parsed of_json (p ts) d r e in
+    let less = skip_value-shorter depth ts r (ap left one.1) in
+    let others = parsed of_items (items p (length r) r) ds rest behind in
+    let longer = more_turns p (length r) (length ts - 1) (omega arith) r others.0 rest others.1 in
+    item_turn p (length ts) ts r d (omega arith) (no_bracket depth ts d r (after_end_array ts) refl e) e
+    ∙ ap (λ o. parse_map (item d) (converted of_items o)) longer ∙ ap (λ o. parse_map (item d) (option_map (λ es. (es, rest)) o)) others.2
+
+pub bracket_ahead : (depth : ℕ) (ts rest : List Token) → after_end_array ts ≡ Some rest → items_ahead depth ts ≡ Some (no_items, rest)
+bracket_ahead depth ts rest e = items_over (value depth) (length ts) ts rest (omega arith) e
+
+-- one item that was read, and those behind it
+pub read_ahead : {A : Type 0} (read : Data → Result A Fault) (depth : ℕ) (ts r rest : List Token) (x : A) (ds : Items) → Begins read depth ts x r → items_ahead depth r ≡ Some (ds, rest)
+    → (d : Data) × (items_ahead depth ts ≡ Some (item d ds, rest)) × (read d ≡ Ok x)
+read_ahead read depth ts r rest x ds begins more = let b = begun read (value_ahead depth ts) x r begins in (b.0, item_ahead depth ts r rest b.0 ds b.1 more, b.2)
 
 -- ---- the whole text
 

@@ -12,6 +12,8 @@ pub use Rattle.json_form.proofs.DistinctKeys.{distinct_read, distinct_all}
 pub use Rattle.json_form.proofs.Readings.{first_true, second_true, both_true}
 -- values, items and members that are read one after the other from the tokens of a text
 pub use Rattle.json_form.proofs.Ahead.{member_turn, members_over, begun, whole_read}
+-- items of a fixed form, and items whose number is told, that are read one after the other
+pub use Rattle.json_form.proofs.Ahead.{read_ahead, one_read, none_left, exact_read}
 -- a name, and the end of an object, leave fewer tokens
 pub use Rattle.json.proofs.Grammar.{read_key-shorter}
 -- parts of which a value of the form is made, by how deep it nests

@@ -10,7 +10,7 @@ ghost use Rattle.json_form.specs.Streams.{Begins};
 use crate::fault::{DocCode, DocFault};
 use crate::reader::Reader;
 use crate::step::within_item;
-use crate::stream::{array_begins, value_from};
+use crate::stream::array_begins;
 use serde_json::Value;
 use std::alloc::Global;
 
@@ -145,8 +145,8 @@ pub fn list_at<T: Drop, R: Reader<T>>(
 }
 
 /// The items of an array of at most `high`, in order, each read as soon as its tokens are passed, so that no
-/// more than one of them is held as a JSON value. There are none where `value_from` gives none, where there
-/// are too many, and where one has a fault: `array_from` tells which.
+/// more than one of them is held as a JSON value. There are none where the reader gives none of one, and
+/// where there are too many: `array_from` tells what is at fault.
 pub fn array_ahead<T: Drop, R: Reader<T>>(
     alloc: Global,
     tokens: &mut json::Reader<'_>,
@@ -165,8 +165,7 @@ pub fn array_ahead<T: Drop, R: Reader<T>>(
         if found.len() >= high {
             return None;
         }
-        let value = value_from(alloc, tokens, inside)?;
-        let item = reader.read(alloc, value).ok()?;
+        let item = reader.ahead(alloc, tokens, inside)?;
         found.push(item).ok()?;
     }
     Some(found)

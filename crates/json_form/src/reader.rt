@@ -1,12 +1,14 @@
 //! Readers of values, and those of numbers and bools.
-ghost use Rattle.std.specs.Prelude.{◌≡◌, ◌≤◌, Result, IfOk};
+ghost use Rattle.std.specs.Prelude.{◌≡◌, ◌≤◌, ◌<◌, length, Result, IfOk, IfSome};
 ghost use Rattle.serde_json.specs.Data.{Data};
 ghost use Rattle.serde_json.specs.View.{view};
 ghost use Rattle.json_form.specs.meaning.Faults.{Fault};
 ghost use Rattle.json_form.specs.Faults.{Gives};
 ghost use Rattle.json_form.specs.meaning.Values.{whole_of, integer_of, bool_of};
+ghost use Rattle.json_form.specs.Streams.{Begins};
 
 use crate::fault::{DocCode, DocFault};
+use crate::stream::value_from;
 use serde_json::{Number, Value};
 use std::alloc::Global;
 
@@ -18,6 +20,16 @@ pub trait Reader<T> {
     /// What the value is read as, or the first fault.
     fn read(&self, alloc: Global, value: Value) -> Result<T, DocFault>
         ensures { Gives result (reads self.now (view value)) };
+
+    /// What the value that the tokens begin with is read as, once they are passed. There is none where there
+    /// is a fault, and in the forms that are read otherwise: `read` says which.
+    fn ahead(&self, alloc: Global, tokens: &mut json::Reader<'_>, depth: usize) -> Option<T>
+        ensures begins { IfSome result (λ x. Begins (reads self.now) depth tokens.old x tokens.new) }
+        ensures shorter { IfSome result (λ _. length tokens.new < length tokens.old) }
+    {
+        let value = value_from(alloc, tokens, depth)?;
+        self.read(alloc, value).ok()
+    }
 }
 
 /// Reads a whole number from `low` to `high`.

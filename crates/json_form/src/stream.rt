@@ -69,7 +69,7 @@ fn members_from(alloc: Global, tokens: &mut Reader<'_>, depth: usize) -> Option<
 }
 
 /// Passes the bracket that begins an array, and gives how deep its items may nest.
-pub(crate) fn array_begins(tokens: &mut Reader<'_>, depth: usize) -> Option<usize>
+pub fn array_begins(tokens: &mut Reader<'_>, depth: usize) -> Option<usize>
     ensures array { IfSome result
         (λ inside. value_ahead depth tokens.old ≡ parse_map array (items_ahead inside tokens.new)) }
     ensures shorter { IfSome result (λ _. length tokens.new < length tokens.old) }

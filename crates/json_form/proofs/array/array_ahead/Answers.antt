@@ -1,11 +1,11 @@
-use Rattle.std.proofs.Common.{◌≡◌, ◌-◌, ◌<◌, [], ◌∷◌, ◌++◌, length, None, Ok, sym, ap, ◌∙◌, arith, rules}
+use Rattle.std.proofs.Common.{◌≡◌, ◌-◌, ◌<◌, [], ◌∷◌, ◌++◌, length, None, sym, ap, ◌∙◌, arith, rules}
 use Rattle.std.proofs.lemmas.List.{length_push}
 use Rattle.json.specs.Json.{parse_map, after_end_array, items, value}
 use Rattle.serde_json.specs.Read.{of_items, converted}
-use Rattle.serde_json.specs.View.{view}
 use Rattle.json_form.specs.meaning.Faults.{within_item}
 use Rattle.json_form.specs.meaning.Arrays.{each_after, array_of}
-use Rattle.json_form.proofs.Ahead.{one_read, none_left, array_read}
+use Rattle.json_form.specs.Streams.{Begins, value_ahead}
+use Rattle.json_form.proofs.Ahead.{begun, one_read, none_left, array_read}
 use Rattle.json_form.proofs.array.array_ahead.Goals as goal
 
 pub items-preserved : goal.items-preserved
@@ -14,13 +14,14 @@ items-preserved g c =
     let p = value c.in_ok-inside.inside in
     let n = l.invariant.turns in
     let x = c.in_ok-item.item in
-    let r = c.value_from.new.tokens in
+    let r = c.ahead.new.tokens in
     let going : (after_end_array l.tokens ≡ None) × (c.take_end_array.new.self ≡ l.tokens) = grind arith in
-    let done = c.in_ok-value.ensures in
+    let done = c.in_ok-item.ensures in
     let less : length r < length l.tokens = rw (← going.1) done.shorter in
-    let told : g.R.Reader.reads c.args.reader.now (view c.in_ok-value.value) ≡ Ok x = search rules in
-    let one = ap (within_item (length l.found.items)) told in
-    let turn = one_read (λ before. g.R.Reader.reads c.args.reader.now) l.found.items p n l.tokens r (view c.in_ok-value.value) x (omega (arith, l.invariant.enough)) going.0 (rw (← going.1) done.read) one in
+    let begins : Begins (g.R.Reader.reads c.args.reader.now) c.in_ok-inside.inside l.tokens x r = search rules in
+    let b = begun (g.R.Reader.reads c.args.reader.now) (value_ahead c.in_ok-inside.inside l.tokens) x r begins in
+    let one = ap (within_item (length l.found.items)) b.2 in
+    let turn = one_read (λ before. g.R.Reader.reads c.args.reader.now) l.found.items p n l.tokens r b.0 x (omega (arith, l.invariant.enough)) going.0 b.1 one in
     let grown : c.push.new.self.items ≡ l.found.items ++ x ∷ [] = search rules in
     record {
       turns = n - 1;
