@@ -19,6 +19,7 @@ use Rattle.stmt_meaning.specs.meaning.Meaning.{AllDone, Meant, commit_answer, me
 use Rattle.stmt_meaning.specs.meaning.SerialTest.{is_nil}
 use Rattle.stmt_meaning.proofs.Offered.{commits_last}
 use Rattle.table_store.specs.Stored.{Stored}
+use Rattle.table_txn.specs.Readings.{StayUnchanged}
 use Rattle.table_txn.specs.Transactions.{Transaction, shape_of, HasRun, HasEnded}
 use Rattle.calls_again.specs.OnWay.{OnWay, on_way, if_used, taken_with, if_none_left, HasGone, GoesBy}
 use Rattle.calls_again.proofs.MoreDraws.{work_more}
@@ -64,7 +65,7 @@ module _ (tables : Stored) (settings : NamedValues) (earlier : Option NamedValue
   abbrev here : OnWay
   here = on_way settings earlier txn
 
-  module _ (answers : List Answer) (draws : List Draw) (new : Transaction) (run : HasRun tables source.names settings txn statements answers draws new) (fits : IsTrue (writes_fit tables.schemas new.writes)) where
+  module _ (answers : List Answer) (draws : List Draw) (new : Transaction) (run : HasRun tables source.names settings txn statements answers draws new) (unchanged : StayUnchanged tables.rows txn.readings new.readings) (fits : IsTrue (writes_fit tables.schemas new.writes)) where
     abbrev with_commit : Meant
     with_commit = record run.meant { answers = closed_by commit run.meant.answers }
 
@@ -75,7 +76,7 @@ module _ (tables : Stored) (settings : NamedValues) (earlier : Option NamedValue
     gone : (ds : List Draw) → HasGone tables here (all ds) (on_way settings earlier new)
     gone ds =
         let kept : run.meant.settings ≡ settings = worked_settings rows settings false (statements_done made rows settings statements draws) run.meant run.means in
-        record { settings = sym kept; at_start = refl; pieces = run.same_pieces; wrote = run.wrote; was_read = run.was_read; fits = fits }
+        record { settings = sym kept; at_start = refl; pieces = run.same_pieces; wrote = run.wrote; was_read = run.was_read; unchanged = unchanged; fits = fits }
 
     by_left : (ds : List Draw) (told : Option (List Answer)) → told ≡ if_none_left (length ds) (closed_by commit answers) → GoesBy tables here (if_used (Some (all ds))) told (on_way settings earlier new)
     by_left [] told is =

@@ -12,7 +12,7 @@ use Rattle.stmt_meaning.specs.meaning.Meaning.{Meant, mean}
 use Rattle.stmt_meaning.specs.meaning.Reads.{Read, reads_at}
 use Rattle.stmt_meaning.specs.meaning.SerialTest.{is_nil}
 use Rattle.table_store.specs.Stored.{Stored}
-use Rattle.table_txn.specs.Readings.{Reading, AreReadings}
+use Rattle.table_txn.specs.Readings.{Reading, AreReadings, StayUnchanged}
 use Rattle.table_txn.specs.Transactions.{Transaction, shape_of}
 
 -- its settings now and at its start, its calls, its writes in order, and its readings
@@ -54,13 +54,14 @@ if_none_left left answers = if left == 0 then Some answers else None
 abbrev pub answered_alone : List Draw → Answer → Option (List Answer)
 answered_alone draws answer = if is_nil draws then Some (answer ∷ []) else None
 
--- The transaction has what the call wrote and read, and its settings. The pieces are as before.
+-- The transaction has what the call wrote and read, and its settings. The pieces are as before. Where each place that was read had what it had, it is so still.
 pub record HasGone (tables : Stored) (old : OnWay) (meant : Meant) (new : OnWay) : Type 0 where
   pub settings : new.settings ≡ meant.settings
   pub at_start : new.at_start ≡ old.at_start
   pub pieces : new.pieces ≡ old.pieces
   pub wrote : new.writes ≡ old.writes ++ meant.writes
   pub was_read : (reads : List Read) → AreReadings old.readings reads → AreReadings new.readings (reads ++ reads_at tables.rows meant.reads)
+  pub unchanged : StayUnchanged tables.rows old.readings new.readings
   pub fits : IsTrue (writes_fit tables.schemas new.writes)
 
 -- whether a call ran, as it means something that uses its draws

@@ -4,6 +4,7 @@ ghost use Rattle.svc_values.specs.meaning.Fitting.{writes_fit};
 ghost use Rattle.svc_values.specs.meaning.Same.{same_answers};
 ghost use Rattle.svc_values.specs.meaning.Tables.{with_writes};
 ghost use Rattle.stmt_meaning.specs.meaning.SerialTest.{replayed};
+ghost use Rattle.table_txn.specs.Readings.{AreUnchanged};
 ghost use Rattle.table_txn.specs.Transactions.{shape_of};
 ghost use Rattle.serial_check.specs.Replaying.{HasReplayed, next_piece};
 
@@ -22,7 +23,8 @@ fn is_answered(piece: &Piece, answers: &Answers) -> bool
 }
 
 /// Runs the call of the next piece. Whether it takes exactly the piece's draws and gives exactly
-/// its answers. A call with statements takes their time, and each other one that of the settings.
+/// its answers. None commits within a transaction, so no table that it read is compared. A call
+/// with statements takes their time, and each other one that of the settings.
 fn replays(
     going: &mut Going,
     alloc: Global,
@@ -30,15 +32,19 @@ fn replays(
     names: &Names,
     piece: &Piece,
 ) -> Result<bool, NoMemory>
-    requires { IsTrue (writes_fit tables.now.schemas going.old.writes) }
+    requires fits { IsTrue (writes_fit tables.now.schemas going.old.writes) }
+    requires unchanged { AreUnchanged tables.now.rows going.old.readings }
     ensures replayed { IfOk result (λ replays.
         HasReplayed tables.now.rows going.new.writes going.new.settings
         (replayed (shape_of tables.now names.now)
         (with_writes tables.now.rows going.old.writes) going.old.settings piece.now) replays) }
     ensures fits { IfOk result (λ replays. IsTrue replays
         → IsTrue (writes_fit tables.now.schemas going.new.writes)) }
+    ensures unchanged { IfOk result (λ replays. IsTrue replays
+        → AreUnchanged tables.now.rows going.new.readings) }
 {
-    match going.run(alloc, tables, names, &piece.call, piece.draws.as_slice())? {
+    let draws = piece.draws.as_slice();
+    match going.run_unchanged(alloc, tables, names, &piece.call, draws)? {
         Some(answers) => Ok(is_answered(piece, &answers)),
         None => Ok(false),
     }
@@ -53,7 +59,8 @@ pub(crate) fn goes_on(
     piece: &Piece,
     is_last: bool,
 ) -> Result<bool, NoMemory>
-    requires { IsTrue (writes_fit tables.now.schemas going.old.writes) }
+    requires fits { IsTrue (writes_fit tables.now.schemas going.old.writes) }
+    requires unchanged { AreUnchanged tables.now.rows going.old.readings }
     ensures replayed { IfOk result (λ goes_on.
         HasReplayed tables.now.rows going.new.writes going.new.settings
         (next_piece (shape_of tables.now names.now)
@@ -61,6 +68,8 @@ pub(crate) fn goes_on(
         goes_on) }
     ensures fits { IfOk result (λ goes_on. IsTrue goes_on
         → IsTrue (writes_fit tables.now.schemas going.new.writes)) }
+    ensures unchanged { IfOk result (λ goes_on. IsTrue goes_on
+        → AreUnchanged tables.now.rows going.new.readings) }
 {
     if ends_committed(piece.answers.as_slice()) != is_last {
         return Ok(false);

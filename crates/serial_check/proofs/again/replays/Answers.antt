@@ -11,7 +11,7 @@ returns-in-Some-clause-replayed c =
     let tables = c.args.tables.now in
     let names = c.args.names.now in
     let old = c.args.going.now in
-    let new = c.run.new.self in
+    let new = c.run_unchanged.new.self in
     let piece = c.args.piece.now in
     let goes = subst (λ (told : Option (List Answer)). GoesBy tables old (taken_with tables names old piece.call piece.draws) told new) c.in-Some.is
     (subst (λ (draws : List Draw). GoesBy tables old (taken_with tables names old piece.call draws) c.in_ok-answers.field-0 new) c.as_slice.ensures c.in_ok-answers.ensures) in

@@ -1,6 +1,7 @@
 use Rattle.std.proofs.Common.{◌+◌, ◌==◌, length, refl, sym, ap, ◌∙◌, subst}
 use Rattle.svc_values.specs.meaning.Fitting.{writes_fit}
 use Rattle.svc_values.specs.meaning.Tables.{with_writes}
+use Rattle.table_txn.specs.Readings.{AreUnchanged}
 use Rattle.table_txn.specs.Transactions.{shape_of}
 use Rattle.calls_again.specs.OnWay.{OnWay, begun_with}
 use Rattle.serial_check.specs.meaning.Places.{piece_at, pieces_course}
@@ -18,6 +19,7 @@ loop-p-init c =
       so_far = course_begins made tables.rows c.args.settings.now c.args.n pieces (sym c.if-is_empty.ensures)
           ∙ ap (λ (g : OnWay). course_left made (with_writes tables.rows g.writes) g.settings c.args.n 0 pieces) (sym begun);
       fits = ap (λ (g : OnWay). writes_fit tables.schemas g.writes) begun;
+      unchanged = subst (λ (g : OnWay). AreUnchanged tables.rows g.readings) (sym begun) (λ at. tt);
     }
 
 pub returns-then-not-branch : goal.returns-then-not-branch
@@ -52,4 +54,5 @@ loop-p-preserved c =
     record {
       so_far = c.loop-p.invariant.so_far ∙ piece_stood made before settings n pieces p piece c.loop-p-test.true c.index-pieces-p.is is_last refl tables.rows new.writes new.settings replayed;
       fits = c.in_ok-goes_on.ensures.fits c.if-not-branch.false;
+      unchanged = c.in_ok-goes_on.ensures.unchanged c.if-not-branch.false;
     }
