@@ -14,5 +14,5 @@ returns-in-Some-clause-replayed c =
     let new = c.run_unchanged.new.self in
     let piece = c.args.piece.now in
     let goes = subst (λ (told : Option (List Answer)). GoesBy tables old (taken_with tables names old piece.call piece.draws) told new) c.in-Some.is
-    (subst (λ (draws : List Draw). GoesBy tables old (taken_with tables names old piece.call draws) c.in_ok-answers.field-0 new) c.as_slice.ensures c.in_ok-answers.ensures) in
+    (subst (λ (draws : List Draw). GoesBy tables old (taken_with tables names old piece.call draws) c.in_ok-answers.field-0 new) c.as_slice-draws.ensures c.in_ok-answers.ensures) in
     ran_again tables names old new piece c.in-Some.answers c.is_answered.result goes c.is_answered.ensures
