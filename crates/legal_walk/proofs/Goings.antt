@@ -1,21 +1,24 @@
 -- The transactions of sessions, one of which changes.
 use Rattle.std.proofs.Common.{◌≡◌, ℕ, Bool, true, false, cond, List, [], ◌∷◌, ◌++◌, refl, sym, ap, ◌∙◌, subst}
+use Rattle.std.specs.Prelude.{Option}
 use Rattle.svc_values.specs.declared.entry.Piece.{Piece}
 use Rattle.svc_values.specs.declared.entry.SessionId.{SessionId}
 use Rattle.svc_values.specs.declared.entry.Write.{Write}
-use Rattle.svc_values.specs.declared.schema.Schema.{Schema}
 use Rattle.svc_values.specs.declared.tables.PlainRow.{PlainRow}
 use Rattle.svc_values.specs.meaning.Identifiers.{same_session}
 use Rattle.svc_values.specs.meaning.SettingsList.{NamedValues}
 use Rattle.svc_values.specs.SameLaws.{same_session_decides}
 use Rattle.stmt_meaning.specs.meaning.Meaning.{Meant}
 use Rattle.stmt_meaning.specs.meaning.Reads.{reads_at}
-use Rattle.table_store.specs.Stored.{Stored}
 use Rattle.table_txn.specs.Readings.{AreReadings}
 use Rattle.server_model.specs.meaning.Walk.{Performed, Transaction, begun, grown, if_ended, transaction_in, with_transaction}
-use Rattle.calls_again.specs.OnWay.{OnWay, HasGone, begun_with}
-use Rattle.legal_walk.specs.Going.{AllGo, Goes, going_in}
+use Rattle.calls_again.specs.OnWay.{HasGone}
+use Rattle.legal_walk.specs.declared.ongoing.Ongoing.{Ongoing}
+use Rattle.legal_walk.specs.declared.service.Service.{Service}
+use Rattle.legal_walk.specs.Alone.{HoldsSince, begun_at}
+use Rattle.legal_walk.specs.Going.{AllGo, GoesAt, begins_with, ongoing_in, with_piece}
 use Rattle.legal_walk.specs.Judging.{ended_if}
+use Rattle.legal_walk.proofs.Holding.{holds_then}
 use Rattle.legal_walk.proofs.Keyed.{same_is}
 
 -- ---- one transaction
@@ -24,26 +27,31 @@ no_reads : AreReadings [] []
 no_reads at = tt
 
 -- it begins
-pub goes_begun : (schemas : List Schema) (transaction : Transaction) (settings : NamedValues) → settings ≡ transaction.settings → Goes schemas (begun transaction.settings) (begun_with settings)
-goes_begun schemas transaction settings is = record { settings = is; at_start = is; pieces = refl; writes = refl; reads = no_reads; fits = refl }
+pub goes_begun : (service : Service) (transaction : Transaction) (settings : NamedValues) → settings ≡ transaction.settings → GoesAt service (begun transaction.settings) (begins_with settings)
+goes_begun service transaction settings is = record {
+  goes = record { settings = is; at_start = is; pieces = refl; writes = refl; reads = no_reads; fits = refl };
+  holds = refl;
+}
 
 -- it goes on by one call
-pub goes_grown : (tables : Stored) (committed : List PlainRow) (transaction : Transaction) (p : Performed) (meant : Meant) (old ran new : OnWay) → committed ≡ tables.rows → Goes tables.schemas transaction old → HasGone tables old meant ran
-    → new ≡ record ran { pieces = ran.pieces ++ record { call = p.called; answers = p.answers; draws = p.draws } ∷ [] } → Goes tables.schemas (grown committed transaction p meant) new
-goes_grown tables committed transaction p meant old ran new stands goes gone noted =
-    subst (Goes tables.schemas (grown committed transaction p meant)) (sym noted) (record {
-      settings = gone.settings;
-      at_start = gone.at_start ∙ goes.at_start;
-      pieces = ap (λ (l : List Piece). l ++ record { call = p.called; answers = p.answers; draws = p.draws } ∷ []) (gone.pieces ∙ goes.pieces);
-      writes = gone.wrote ∙ ap (λ (l : List Write). l ++ meant.writes) goes.writes;
-      reads = subst (λ (rows : List PlainRow). AreReadings ran.readings (transaction.reads ++ reads_at rows meant.reads)) (sym stands) (gone.was_read transaction.reads goes.reads);
-      fits = gone.fits;
-    })
+pub goes_grown : (service : Service) (committed : List PlainRow) (transaction : Transaction) (p : Performed) (meant : Meant) (old ran : Ongoing) → committed ≡ service.tables.rows → GoesAt service transaction old
+    → HasGone service.tables old.going meant ran.going → ran.since ≡ begun_at old.since service.commits → GoesAt service (grown committed transaction p meant) (with_piece ran (record { call = p.called; answers = p.answers; draws = p.draws }))
+goes_grown service committed transaction p meant old ran stands at gone since = record {
+  goes = record {
+    settings = gone.settings;
+    at_start = gone.at_start ∙ at.goes.at_start;
+    pieces = ap (λ (l : List Piece). l ++ record { call = p.called; answers = p.answers; draws = p.draws } ∷ []) (gone.pieces ∙ at.goes.pieces);
+    writes = gone.wrote ∙ ap (λ (l : List Write). l ++ meant.writes) at.goes.writes;
+    reads = subst (λ (rows : List PlainRow). AreReadings ran.going.readings (transaction.reads ++ reads_at rows meant.reads)) (sym stands) (gone.was_read transaction.reads at.goes.reads);
+    fits = gone.fits;
+  };
+  holds = subst (λ (s : Option ℕ). HoldsSince service s ran.going.readings) (sym since) (holds_then service old.since old.going.readings ran.going.readings at.holds gone.unchanged);
+}
 
 -- and may end
-pub goes_ended : (schemas : List Schema) (transaction : Transaction) (going : OnWay) (ends : Bool) → Goes schemas transaction going → Goes schemas (if_ended ends transaction) (ended_if ends going)
-goes_ended schemas transaction going true goes = goes_begun schemas transaction going.settings goes.settings
-goes_ended schemas transaction going false goes = goes
+pub goes_ended : (service : Service) (transaction : Transaction) (one : Ongoing) (ends : Bool) → GoesAt service transaction one → GoesAt service (if_ended ends transaction) (ended_if ends one)
+goes_ended service transaction one true at = goes_begun service transaction one.going.settings at.goes.settings
+goes_ended service transaction one false at = at
 
 -- ---- all of them
 
@@ -75,18 +83,18 @@ transaction_in-other (first ∷ rest) session other transaction apart = by (tran
     by on false is = ap (cond (same_session first.0 other) first.1) on
 
 -- one session has another transaction
-pub all_go : (schemas : List Schema) (sessions : List (SessionId × Transaction)) (session : SessionId) (transaction : Transaction) (old new : List ((ℕ × ℕ) × OnWay)) (going : OnWay)
-    → ((other : SessionId) → same_session session other ≡ false → Goes schemas (transaction_in sessions other) (going_in old other)) → Goes schemas transaction going
-    → ((other : SessionId) → going_in new other ≡ cond (same_session session other) going (going_in old other)) → AllGo schemas (with_transaction sessions session transaction) new
-all_go schemas sessions session transaction old new going others goes put other = by (same_session session other) refl
+pub all_go : (service : Service) (sessions : List (SessionId × Transaction)) (session : SessionId) (transaction : Transaction) (old new : List ((ℕ × ℕ) × Ongoing)) (one : Ongoing)
+    → ((other : SessionId) → same_session session other ≡ false → GoesAt service (transaction_in sessions other) (ongoing_in old other)) → GoesAt service transaction one
+    → ((other : SessionId) → ongoing_in new other ≡ cond (same_session session other) one (ongoing_in old other)) → AllGo service (with_transaction sessions session transaction) new
+all_go service sessions session transaction old new one others goes put other = by (same_session session other) refl
   where
-    by : (b : Bool) → same_session session other ≡ b → Goes schemas (transaction_in (with_transaction sessions session transaction) other) (going_in new other)
+    by : (b : Bool) → same_session session other ≡ b → GoesAt service (transaction_in (with_transaction sessions session transaction) other) (ongoing_in new other)
     by true is =
-        let here : going_in new other ≡ going = put other ∙ ap (λ t. cond t going (going_in old other)) is in
+        let here : ongoing_in new other ≡ one = put other ∙ ap (λ t. cond t one (ongoing_in old other)) is in
         let there : transaction_in (with_transaction sessions session transaction) other ≡ transaction =
         ap (transaction_in (with_transaction sessions session transaction)) (sym (same_is session other is)) ∙ transaction_in-same sessions session transaction in
-        subst (λ (t : Transaction). Goes schemas t (going_in new other)) (sym there) (subst (Goes schemas transaction) (sym here) goes)
+        subst (λ (t : Transaction). GoesAt service t (ongoing_in new other)) (sym there) (subst (GoesAt service transaction) (sym here) goes)
     by false is =
-        let here : going_in new other ≡ going_in old other = put other ∙ ap (λ t. cond t going (going_in old other)) is in
+        let here : ongoing_in new other ≡ ongoing_in old other = put other ∙ ap (λ t. cond t one (ongoing_in old other)) is in
         let there : transaction_in (with_transaction sessions session transaction) other ≡ transaction_in sessions other = transaction_in-other sessions session other transaction is in
-        subst (λ (t : Transaction). Goes schemas t (going_in new other)) (sym there) (subst (Goes schemas (transaction_in sessions other)) (sym here) (others other is))
+        subst (λ (t : Transaction). GoesAt service t (ongoing_in new other)) (sym there) (subst (GoesAt service (transaction_in sessions other)) (sym here) (others other is))

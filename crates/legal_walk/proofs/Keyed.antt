@@ -12,9 +12,9 @@ use Rattle.svc_values.specs.Keys.{value_of}
 use Rattle.svc_values.specs.declared.entry.SessionId.{SessionId}
 use Rattle.svc_values.specs.meaning.Identifiers.{same_session}
 use Rattle.svc_values.specs.SameLaws.{same_session_decides}
-use Rattle.calls_again.specs.OnWay.{OnWay, begun_with}
+use Rattle.legal_walk.specs.declared.ongoing.Ongoing.{Ongoing}
 use Rattle.legal_walk.specs.Counts.{key_of, same_key}
-use Rattle.legal_walk.specs.Going.{going_in}
+use Rattle.legal_walk.specs.Going.{begins_with, ongoing_in}
 
 flipped : (a b : SessionId) → Decides (same_session b a) (a ≡ b)
 flipped a b = let d = same_session_decides b a in (λ h. sym (d.0 h), λ e. d.1 (sym e))
@@ -68,31 +68,31 @@ value_changed old new session other value changed =
 
 -- ---- the transactions of sessions
 
-or_new : Option OnWay → OnWay
-or_new found = unwrap_or found (begun_with [])
+or_new : Option Ongoing → Ongoing
+or_new found = unwrap_or found (begins_with [])
 
-module _ (old seen : List ((ℕ × ℕ) × OnWay)) (is : old ≡ seen) (session : SessionId) (key : ℕ × ℕ) (keyed : key ≡ key_of session) where
-  pub going_found : (going : OnWay) → Some going ≡ at_place key old → going ≡ going_in seen session
+module _ (old seen : List ((ℕ × ℕ) × Ongoing)) (is : old ≡ seen) (session : SessionId) (key : ℕ × ℕ) (keyed : key ≡ key_of session) where
+  pub going_found : (going : Ongoing) → Some going ≡ at_place key old → going ≡ ongoing_in seen session
   unfolding or_new
   going_found going found =
-      ap or_new (found ∙ ap (λ k. at_place k old) keyed ∙ value_at old session) ∙ ap (λ (goings : List ((ℕ × ℕ) × OnWay)). going_in goings session) is
+      ap or_new (found ∙ ap (λ k. at_place k old) keyed ∙ value_at old session) ∙ ap (λ (goings : List ((ℕ × ℕ) × Ongoing)). ongoing_in goings session) is
 
-  module _ (new : List ((ℕ × ℕ) × OnWay)) (other : SessionId) where
-    changed_is : (value : Option OnWay) → at_place (key_of other) new ≡ cond (is_eq (pair_cmp key (key_of other))) value (at_place (key_of other) old)
-        → going_in new other ≡ unwrap_or (cond (same_session session other) value (value_of same_key old (key_of other))) (begun_with [])
+  module _ (new : List ((ℕ × ℕ) × Ongoing)) (other : SessionId) where
+    changed_is : (value : Option Ongoing) → at_place (key_of other) new ≡ cond (is_eq (pair_cmp key (key_of other))) value (at_place (key_of other) old)
+        → ongoing_in new other ≡ unwrap_or (cond (same_session session other) value (value_of same_key old (key_of other))) (begins_with [])
     unfolding or_new
     changed_is value changed =
         ap or_new (value_changed old new session other value (subst (λ (k : ℕ × ℕ). at_place (key_of other) new ≡ cond (is_eq (pair_cmp k (key_of other))) value (at_place (key_of other) old)) keyed changed))
 
-    pub going_put : (going : OnWay) → at_place (key_of other) new ≡ cond (is_eq (pair_cmp key (key_of other))) (Some going) (at_place (key_of other) old)
-        → going_in new other ≡ cond (same_session session other) going (going_in seen other)
+    pub going_put : (going : Ongoing) → at_place (key_of other) new ≡ cond (is_eq (pair_cmp key (key_of other))) (Some going) (at_place (key_of other) old)
+        → ongoing_in new other ≡ cond (same_session session other) going (ongoing_in seen other)
     going_put going changed = changed_is (Some going) changed ∙ by (same_session session other)
       where
-        by : (b : Bool) → unwrap_or (cond b (Some going) (value_of same_key old (key_of other))) (begun_with []) ≡ cond b going (going_in seen other)
+        by : (b : Bool) → unwrap_or (cond b (Some going) (value_of same_key old (key_of other))) (begins_with []) ≡ cond b going (ongoing_in seen other)
         by true = refl
-        by false = ap (λ (goings : List ((ℕ × ℕ) × OnWay)). going_in goings other) is
+        by false = ap (λ (goings : List ((ℕ × ℕ) × Ongoing)). ongoing_in goings other) is
 
     pub going_taken : at_place (key_of other) new ≡ cond (is_eq (pair_cmp key (key_of other))) None (at_place (key_of other) old) → same_session session other ≡ false
-        → going_in new other ≡ going_in seen other
+        → ongoing_in new other ≡ ongoing_in seen other
     going_taken changed apart =
-        changed_is None changed ∙ ap (λ (b : Bool). unwrap_or (cond b None (value_of same_key old (key_of other))) (begun_with [])) apart ∙ ap (λ (goings : List ((ℕ × ℕ) × OnWay)). going_in goings other) is
+        changed_is None changed ∙ ap (λ (b : Bool). unwrap_or (cond b None (value_of same_key old (key_of other))) (begins_with [])) apart ∙ ap (λ (goings : List ((ℕ × ℕ) × Ongoing)). ongoing_in goings other) is

@@ -2,6 +2,7 @@ mod Blocking
 mod Counting
 mod Drawing
 mod Goings
+mod Holding
 mod Judged
 mod Keyed
 mod Looping

@@ -10,7 +10,6 @@ use Rattle.svc_values.specs.declared.draw.DrawKind.{DrawKind}
 use Rattle.svc_values.specs.declared.entry.Ltxid.{Ltxid}
 use Rattle.svc_values.specs.declared.entry.Piece.{Piece}
 use Rattle.svc_values.specs.declared.entry.SessionId.{SessionId}
-use Rattle.svc_values.specs.declared.schema.Schema.{Schema}
 use Rattle.svc_values.specs.meaning.Calls.{has_commit}
 use Rattle.svc_values.specs.meaning.Identifiers.{same_session}
 use Rattle.svc_values.specs.meaning.SettingsList.{NamedValues}
@@ -20,17 +19,19 @@ use Rattle.server_model.specs.meaning.Base.{Base}
 use Rattle.server_model.specs.meaning.Items.{Outcome, Uncommitted, Committed, ServerAhead, ClientAhead, Forgotten, Thing, CallStopped, Did}
 use Rattle.server_model.specs.meaning.Legal.{deed_holds, is_of_now, may_be_blocked, means_commit}
 use Rattle.server_model.specs.meaning.NewValues.{Numbers, meets_with, opened}
-use Rattle.server_model.specs.meaning.Walk.{Performed, Transaction, Walk, after_deed, begun, deed, if_nothing, if_stands, if_uncommitted, meaning, next_of, performed_if, stands, stopped, with_meaning}
-use Rattle.calls_again.specs.OnWay.{OnWay, begun_with, probed}
+use Rattle.server_model.specs.meaning.Walk.{Performed, Transaction, Walk, after_deed, begun, deed, if_nothing, if_stands, if_uncommitted, meaning, next_of, performed_if, stands, stopped, transaction_in, with_meaning}
+use Rattle.calls_again.specs.OnWay.{OnWay, probed}
+use Rattle.legal_walk.specs.declared.ongoing.Ongoing.{Ongoing}
 use Rattle.legal_walk.specs.declared.service.Service.{Service}
 use Rattle.legal_walk.specs.declared.walker.Walker.{Walker}
 use Rattle.legal_walk.specs.Beside.{Moves}
-use Rattle.legal_walk.specs.Going.{AllGo, Goes, going_in}
+use Rattle.legal_walk.specs.Going.{AllGo, GoesAt, begins_with, ongoing_in}
 use Rattle.legal_walk.specs.Items.{after_does, after_item, after_stopped, begins, does_hold, item_holds_here, reaches, standing, stopped_holds}
 use Rattle.legal_walk.specs.Moving.{entered_at, may_block, stopped_at}
 use Rattle.legal_walk.specs.Trying.{commits_with}
 use Rattle.legal_walk.specs.Walks.{Walks}
 use Rattle.legal_walk.proofs.Goings.{all_go, goes_begun}
+use Rattle.legal_walk.proofs.Holding.{goes_later}
 use Rattle.legal_walk.proofs.Served.{beside_sessions, meaning_is}
 
 abbrev pub Does : Base → Walk → ℕ → SessionId → Thing → Bool → Walker → Type 0
@@ -42,8 +43,8 @@ pub moved : (base : Base) (walk : Walk) (old : Walker) (step : Walk → Walk) (n
 moved base walk old step new moves same walks = record {
   beside = moves.beside base walk walks.beside;
   sessions =
-      subst (λ (l : List (SessionId × Transaction)). AllGo new.tables.schemas l old.sessions) (sym same)
-      (subst (λ (s : List Schema). AllGo s walk.sessions old.sessions) (sym moves.schemas) walks.sessions);
+      subst (λ (l : List (SessionId × Transaction)). AllGo new l old.sessions) (sym same)
+      (λ session. goes_later old.service new (transaction_in walk.sessions session) (ongoing_in old.sessions session) moves.schemas moves.on (walks.sessions session));
 }
 
 pub told_sessions : (walk : Walk) (x : Ltxid) (outcome : Outcome) → (if_uncommitted walk x outcome).sessions ≡ walk.sessions
@@ -62,25 +63,25 @@ entered_sessions walk session = by (nat_lt walk.numbers.incarnation session.inca
 
 -- ---- a request begins
 
-pub begun_so : (base : Base) (walk : Walk) (old : Walker) (session : SessionId) (settings : NamedValues) (going : OnWay) (new : List ((ℕ × ℕ) × OnWay)) → going ≡ begun_with settings
-    → ((other : SessionId) → going_in new other ≡ cond (same_session session other) going (going_in old.sessions other)) → Walks base walk old → Walks base (begins walk session settings) (record old { sessions = new })
-begun_so base walk old session settings going new is put walks = record {
+pub begun_so : (base : Base) (walk : Walk) (old : Walker) (session : SessionId) (settings : NamedValues) (one : Ongoing) (new : List ((ℕ × ℕ) × Ongoing)) → one ≡ begins_with settings
+    → ((other : SessionId) → ongoing_in new other ≡ cond (same_session session other) one (ongoing_in old.sessions other)) → Walks base walk old → Walks base (begins walk session settings) (record old { sessions = new })
+begun_so base walk old session settings one new is put walks = record {
   beside = beside_sessions base walk old.service (begins walk session settings).sessions walks.beside;
   sessions =
-      all_go old.service.tables.schemas walk.sessions session (begun settings) old.sessions new going (λ other apart. walks.sessions other)
-      (subst (Goes old.service.tables.schemas (begun settings)) (sym is) (goes_begun old.service.tables.schemas (begun settings) settings refl)) put;
+      all_go old.service walk.sessions session (begun settings) old.sessions new one (λ other apart. walks.sessions other)
+      (subst (GoesAt old.service (begun settings)) (sym is) (goes_begun old.service (begun settings) settings refl)) put;
 }
 
 -- ---- a call that met a block
 
 module _ (base : Base) (walk : Walk) (old : Walker) (walks : Walks base walk old) (now : ℕ) (session : SessionId) (called : Call) where
-  pub reaches_is : (going : OnWay) (asked : List DrawKind) → going ≡ probed (going_in old.sessions session) → asked ≡ asked_by_call called
+  pub reaches_is : (going : OnWay) (asked : List DrawKind) → going ≡ probed (ongoing_in old.sessions session).going → asked ≡ asked_by_call called
       → meets_with (commits_with old.service.tables old.service.names going called) now asked old.service.numbers ≡ reaches base walk now session called
   reaches_is going asked probe kinds =
-      let here = going_in old.sessions session in
+      let here = ongoing_in old.sessions session in
       let same : (draws : List Draw) → commits_with old.service.tables old.service.names going called draws ≡ means_commit (meaning base walk session called draws) =
       λ draws. ap (λ (g : OnWay). commits_with old.service.tables old.service.names g called draws) probe
-      ∙ sym (ap means_commit (meaning_is base walk old.service session here called draws walks.beside (walks.sessions session))) in
+      ∙ sym (ap means_commit (meaning_is base walk old.service session here called draws walks.beside (walks.sessions session).goes)) in
       ap (λ (test : List Draw → Bool). meets_with test now asked old.service.numbers) (fun_ext same)
       ∙ ap (λ (kinds : List DrawKind). meets_with (λ draws. means_commit (meaning base walk session called draws)) now kinds old.service.numbers) kinds
       ∙ ap (λ (numbers : Numbers). meets_with (λ draws. means_commit (meaning base walk session called draws)) now (asked_by_call called) numbers) (sym walks.beside.numbers)

@@ -51,7 +51,7 @@ other_here now read changed = by (same_rows read.found (rows_at now read.at)) re
     by true same = absurd (changed (sym ((same_rows_decide read.found (rows_at now read.at)).0 same)))
     by false same = refl
 
-all_same : (now : List PlainRow) (reads : List Read) → ReadsStand reads now → differs now reads ≡ false
+pub all_same : (now : List PlainRow) (reads : List Read) → ReadsStand reads now → differs now reads ≡ false
 all_same now [] stand = refl
 all_same now (read ∷ reads) stand =
     ap (λ b. b || differs now reads) (same_here now read (All-head (λ (r : Read). rows_at now r.at ≡ r.found) read reads stand))

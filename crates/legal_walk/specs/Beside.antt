@@ -6,6 +6,7 @@ use Rattle.table_txn.specs.Transactions.{shape_of}
 use Rattle.server_model.specs.meaning.Base.{Base}
 use Rattle.server_model.specs.meaning.Walk.{Walk}
 use Rattle.legal_walk.specs.declared.service.Service.{Service}
+use Rattle.legal_walk.specs.Alone.{MovesOn}
 
 -- all of the walk but its sessions, and what stays so of the base
 pub record Beside (base : Base) (walk : Walk) (service : Service) : Type 0 where
@@ -23,4 +24,5 @@ pub record Beside (base : Base) (walk : Walk) (service : Service) : Type 0 where
 -- a service moves as each walk beside it does, with the same tables declared
 pub record Moves (old : Service) (step : Walk → Walk) (new : Service) : Type 0 where
   pub schemas : new.tables.schemas ≡ old.tables.schemas
+  pub on : MovesOn old new
   pub beside : (base : Base) (walk : Walk) → Beside base walk old → Beside base (step walk) new

@@ -12,7 +12,9 @@ use Rattle.svc_values.specs.meaning.Same.{same_bool, same_piece}
 use Rattle.svc_values.specs.meaning.SettingsList.{same_settings}
 use Rattle.ltxid_book.specs.meaning.Journal.{is_blocked}
 use Rattle.server_model.specs.meaning.Legal.{ending_with, verdict}
-use Rattle.calls_again.specs.OnWay.{OnWay, begun_with}
+use Rattle.calls_again.specs.OnWay.{OnWay}
+use Rattle.legal_walk.specs.declared.ongoing.Ongoing.{Ongoing}
+use Rattle.legal_walk.specs.Going.{begins_with}
 
 -- answers that mean a commit are told with the verdict last
 abbrev pub answered_by : List Answer → Bool → Bool → List Answer
@@ -36,6 +38,6 @@ abbrev pub stores_with : Ltxid → OnWay → List Answer → Call → List Entry
 stores_with next going answers called left = if ends_committed answers then is_first_with next going (is_lone_commit called) left else true
 
 -- the next transaction begins where this one is ended
-abbrev pub ended_if : Bool → OnWay → OnWay
-ended_if true going = begun_with going.settings
-ended_if false going = going
+abbrev pub ended_if : Bool → Ongoing → Ongoing
+ended_if true one = begins_with one.going.settings
+ended_if false one = one

@@ -1,3 +1,4 @@
+pub mod Alone
 pub mod Beside
 pub mod Counts
 pub mod Going

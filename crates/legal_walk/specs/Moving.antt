@@ -2,6 +2,7 @@
 use Rattle.std.specs.Prelude.{◌||◌, nat_lt, Bool, false, if◌then◌else◌}
 use Rattle.svc_values.specs.declared.call.Call.{Call}
 use Rattle.svc_values.specs.declared.entry.Ltxid.{Ltxid}
+use Rattle.svc_values.specs.declared.entry.Piece.{Piece}
 use Rattle.svc_values.specs.declared.entry.SessionId.{SessionId}
 use Rattle.ltxid_book.specs.meaning.Journal.{is_blocked}
 use Rattle.server_model.specs.meaning.NewValues.{opened, stopped_in, unseen_in}
@@ -23,6 +24,10 @@ stopped_at walk called = record walk { numbers = stopped_in called walk.numbers 
 -- a call that met a block
 abbrev pub passed : Walk → Call → Walk
 passed walk called = record walk { numbers = unseen_in called walk.numbers }
+
+-- the call with its answers and draws
+abbrev pub piece_of : PerformedAt → Piece
+piece_of one = record { call = one.call.now; answers = one.answers.now; draws = one.draws.now }
 
 abbrev pub performed_as : PerformedAt → Performed
 performed_as one = record { session = one.session; now = one.now; replay = one.replay; kept = one.kept.now; called = one.call.now; answers = one.answers.now; draws = one.draws.now }

@@ -9,7 +9,7 @@ use Rattle.legal_walk.specs.Going.{AllGo}
 -- what all sessions share stands beside the walk, and each session's transaction
 pub record Walks (base : Base) (walk : Walk) (walker : Walker) : Type 0 where
   pub beside : Beside base walk walker.service
-  pub sessions : AllGo walker.service.tables.schemas walk.sessions walker.sessions
+  pub sessions : AllGo walker.service walk.sessions walker.sessions
 
 -- some walk is beside it
 abbrev pub IsWalked : Walker → Type 0

@@ -1,21 +1,25 @@
 //! Whether a call that was served is right, and what comes of it.
-ghost use Rattle.std.specs.Prelude.{◌≡◌, ◌&&◌, IsTrue, IfOk, OnOk};
+ghost use Rattle.std.specs.Prelude.{◌≡◌, ◌&&◌, List, IsTrue, IfOk, OnOk};
 ghost use Rattle.svc_values.specs.meaning.Endings.{ends_committed as ends_committed_def};
 ghost use Rattle.svc_values.specs.meaning.Fitting.{writes_fit};
+ghost use Rattle.svc_values.specs.meaning.Same.{same_answers};
 ghost use Rattle.stmt_meaning.specs.meaning.Meaning.{Meant};
+ghost use Rattle.stmt_meaning.specs.meaning.Reads.{Read};
+ghost use Rattle.table_txn.specs.Readings.{AreReadings};
 ghost use Rattle.server_model.specs.meaning.Base.{Base};
-ghost use Rattle.server_model.specs.meaning.Legal.{answers_hold, is_free, stores};
+ghost use Rattle.server_model.specs.meaning.Legal.{answers_hold, differs, is_free, stores};
 ghost use Rattle.server_model.specs.meaning.Walk.{Walk, ends as ends_def, if_commits, with_call};
+ghost use Rattle.legal_walk.specs.Alone.{HoldsSince};
 ghost use Rattle.legal_walk.specs.Beside.{Beside, Moves};
 ghost use Rattle.legal_walk.specs.Going.{Goes};
-ghost use Rattle.legal_walk.specs.Judging.{ended_if, is_free_at, stores_with};
+ghost use Rattle.legal_walk.specs.Judging.{answered_by, ended_if, is_free_at, stores_with};
 ghost use Rattle.legal_walk.specs.Moving.{performed_as};
 
+use crate::ongoing::Ongoing;
 use crate::performed::Performed;
 use crate::service::Service;
 use crate::storing::{ends, is_entry_of, must_be_free};
 use crate::telling::is_told_so;
-use calls_again::Going;
 use svc_values::{Answer, Answers, Ltxid, NoMemory, ends_committed};
 
 impl Service<'_> {
@@ -28,62 +32,103 @@ impl Service<'_> {
     }
 
     /// Whether a call that was answered as committed stores the entry that comes next.
-    fn stores(&self, next: &Ltxid, going: &Going, performed: &Performed<'_>) -> bool
-        ensures { result ≡ stores_with next.now going.now performed.entry.now.answers.now
+    fn stores(&self, next: &Ltxid, ongoing: &Ongoing, performed: &Performed<'_>) -> bool
+        ensures { result ≡ stores_with next.now ongoing.now.going performed.entry.now.answers.now
             performed.entry.now.call.now self.now.ledger.left }
     {
         if !ends_committed(performed.answers) {
             return true;
         }
         match self.ledger.first() {
-            Some(entry) => is_entry_of(entry, next, going, performed.call.is_lone_commit()),
+            Some(entry) => is_entry_of(
+                entry,
+                next,
+                &ongoing.going,
+                performed.call.is_lone_commit(),
+            ),
             None => false,
         }
     }
 
-    /// Whether a call that means these answers was told as it has to be, and stores what it has to:
-    /// all of the test of a call but its draws. `going` is its transaction with the call last.
-    pub(crate) fn is_right(
+    /// Whether a call that means these answers was told so. A commit beside which others have
+    /// committed since its transaction began to read is linear in what that read, and each other
+    /// call in its answers.
+    fn is_told_so(
         &self,
-        going: &Going,
+        ongoing: &Ongoing,
         performed: &Performed<'_>,
         answers: Answers,
     ) -> Result<bool, NoMemory>
+        requires { HoldsSince self.now ongoing.now.since ongoing.now.going.readings }
+        ensures { IfOk result (λ so. (reads : List Read)
+            → AreReadings ongoing.now.going.readings reads
+            → so ≡ same_answers performed.entry.now.answers.now
+            (answered_by answers performed.entry.now.replay (differs self.now.tables.rows reads))) }
+    {
+        let is_unchanged = self.is_alone(ongoing.since);
+        let Performed {
+            replay,
+            answers: told,
+            ..
+        } = performed;
+        is_told_so(
+            &self.tables,
+            &ongoing.going,
+            is_unchanged,
+            *replay,
+            answers,
+            told,
+        )
+    }
+
+    /// Whether a call that means these answers was told as it has to be, and stores what it has to:
+    /// all of the test of a call but its draws. `ongoing` is its transaction with the call last.
+    pub(crate) fn is_right(
+        &self,
+        ongoing: &Ongoing,
+        performed: &Performed<'_>,
+        answers: Answers,
+    ) -> Result<bool, NoMemory>
+        requires { HoldsSince self.now ongoing.now.since ongoing.now.going.readings }
         ensures { IfOk result (λ right. (base : Base) (walk : Walk) (meant : Meant)
             → Beside base walk self.now → answers ≡ meant.answers
             → Goes self.now.tables.schemas
-            (with_call walk (performed_as performed.entry.now) meant) going.now
+            (with_call walk (performed_as performed.entry.now) meant) ongoing.now
             → right ≡ (answers_hold walk (performed_as performed.entry.now) meant
             && (is_free walk (performed_as performed.entry.now)
             && stores walk (performed_as performed.entry.now) meant))) }
     {
-        let replay = performed.replay;
-        if !is_told_so(&self.tables, going, replay, answers, performed.answers)? {
+        if !self.is_told_so(ongoing, performed, answers)? {
             return Ok(false);
         }
         let next = self.next_of(&performed.session);
         if !self.is_free(&next, performed.answers) {
             return Ok(false);
         }
-        Ok(self.stores(&next, going, performed))
+        Ok(self.stores(&next, ongoing, performed))
     }
 
     /// The transaction of a session behind a call with these answers: the next one, where they end
     /// it. A commit stores what was written.
-    pub(crate) fn settle(&mut self, mut going: Going, answers: &[Answer]) -> Result<Going, NoMemory>
-        requires { IsTrue (writes_fit self.old.tables.schemas going.writes) }
-        ensures after { IfOk result (λ after. after ≡ ended_if (ends_def answers.now) going) }
+    pub(crate) fn settle(
+        &mut self,
+        mut ongoing: Ongoing,
+        answers: &[Answer],
+    ) -> Result<Ongoing, NoMemory>
+        requires { IsTrue (writes_fit self.old.tables.schemas ongoing.going.writes) }
+        ensures after { IfOk result (λ after. after ≡ ended_if (ends_def answers.now) ongoing) }
         ensures moves { OnOk result (Moves self.old
-            (λ walk. if_commits (ends_committed_def answers.now) walk going.writes) self.new) }
+            (λ walk. if_commits (ends_committed_def answers.now) walk ongoing.going.writes)
+            self.new) }
     {
         if !ends(answers) {
-            return Ok(going);
+            return Ok(ongoing);
         }
-        let writes = going.end(self.alloc);
+        let writes = ongoing.end(self.alloc);
         if !ends_committed(answers) {
-            return Ok(going);
+            return Ok(ongoing);
         }
         self.commit(&writes)?;
-        Ok(going)
+        Ok(ongoing)
     }
 }

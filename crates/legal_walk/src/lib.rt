@@ -1,10 +1,12 @@
 //! Whether what a service did is legal, item after item, by what was told of it alone.
 #![tactic(auto)]
 
+mod alone;
 mod attempt;
 mod counts;
 mod judging;
 mod ledger;
+mod ongoing;
 mod performed;
 mod service;
 mod sessions;

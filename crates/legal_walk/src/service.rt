@@ -14,6 +14,7 @@ ghost use Rattle.legal_walk.specs.Items.{standing};
 ghost use Rattle.legal_walk.specs.Moving.{entered_at, may_block, passed, performed_as, stopped_at};
 ghost use Rattle.legal_walk.specs.Starting.{IsStart};
 
+use crate::alone::counted;
 use crate::ledger::Ledger;
 use crate::performed::Performed;
 use crate::start::Start;
@@ -31,6 +32,8 @@ use table_store::Tables;
 pub(crate) struct Service<'a> {
     pub(crate) alloc: Global,
     pub(crate) tables: Tables,
+    /// How many commits were applied to the tables. The largest number stands for all above it.
+    pub(crate) commits: u64,
     pub(crate) names: Names,
     sequences: Vec<Sequence>,
     grants: Grants,
@@ -82,6 +85,7 @@ impl<'a> Service<'a> {
         Ok(Service {
             alloc,
             tables,
+            commits: 0,
             names,
             sequences,
             grants,
@@ -206,7 +210,8 @@ impl<'a> Service<'a> {
             → holds ≡ draws_hold base walk (performed_as performed.entry.now)) }
         ensures moves { OnOk result ((base : Base) (walk : Walk) → Beside base walk self.old
             → Beside base (with_numbers base walk (performed_as performed.entry.now)) self.new) }
-        ensures schemas { self.new.tables ≡ self.old.tables }
+        ensures tables { self.new.tables ≡ self.old.tables }
+        ensures commits { self.new.commits ≡ self.old.commits }
     {
         let kept = granted(
             self.alloc,
@@ -227,6 +232,7 @@ impl<'a> Service<'a> {
         ensures { OnOk result (Moves self.old (λ walk. if_commits true walk writes.now) self.new) }
     {
         self.tables.apply(writes)?;
+        self.commits = counted(self.commits);
         self.ledger.store()?;
         Ok(())
     }

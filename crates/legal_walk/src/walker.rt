@@ -11,11 +11,11 @@ ghost use Rattle.legal_walk.specs.Starting.{IsStart};
 ghost use Rattle.legal_walk.specs.Walks.{IsWalked, Steps, Walks};
 
 use crate::attempt::Attempt;
+use crate::ongoing::Ongoing;
 use crate::performed::Performed;
 use crate::service::Service;
 use crate::sessions::Sessions;
 use crate::start::Start;
-use calls_again::Going;
 use legal_draws::{asked_by_call, meets_with};
 use plain_items::{Item, Thing};
 use std::alloc::Global;
@@ -164,7 +164,7 @@ impl<'a> Walker<'a> {
     {
         let settings = begun_with(self.alloc, settings)?;
         self.sessions
-            .put(session, Going::new(self.alloc, settings))?;
+            .put(session, Ongoing::new(self.alloc, settings))?;
         Ok(())
     }
 
@@ -255,26 +255,20 @@ impl<'a> Walker<'a> {
             (λ base walk. after_deed base walk
             (deed base walk (Some (performed_as performed.entry.now)))) holds self.new) }
     {
-        let mut going = self.sessions.take(&performed.session);
-        let Service { tables, names, .. } = &self.service;
-        let told = going.run(self.alloc, tables, names, performed.call, performed.draws)?;
+        let mut ongoing = self.sessions.take(&performed.session);
+        let told = ongoing.run(&self.service, performed)?;
         let Some(answers) = told else {
             return Ok(false);
         };
-        going.note(
-            self.alloc,
-            performed.call,
-            performed.answers,
-            performed.draws,
-        )?;
-        if !self.service.is_right(&going, performed, answers)? {
+        ongoing.note(self.alloc, performed)?;
+        if !self.service.is_right(&ongoing, performed, answers)? {
             return Ok(false);
         }
         if !self.service.draw(performed)? {
             return Ok(false);
         }
-        let going = self.service.settle(going, performed.answers)?;
-        self.sessions.put(&performed.session, going)?;
+        let ongoing = self.service.settle(ongoing, performed.answers)?;
+        self.sessions.put(&performed.session, ongoing)?;
         Ok(true)
     }
 }

@@ -8,5 +8,5 @@ use Rattle.legal_walk.proofs.service.Service.settle.Goals as goal
 pub returns-clause-moves : goal.returns-clause-moves
 returns-clause-moves c =
     let commits : true ≡ ends_committed c.args.answers.now = sym c.if-not-ends_committed.false ∙ c.ends_committed.ensures in
-    subst (λ (b : Bool). Moves c.args.self.now (λ walk. if_commits b walk c.args.going.writes) c.commit.new.self) commits
+    subst (λ (b : Bool). Moves c.args.self.now (λ walk. if_commits b walk c.args.ongoing.going.writes) c.commit.new.self) commits
     (subst (λ (writes : List Write). Moves c.args.self.now (λ walk. if_commits true walk writes) c.commit.new.self) c.end-writes.ensures.writes c.in_ok-commit.ensures)
