@@ -162,7 +162,7 @@ rest_read schedule clients begin document is h =
 abbrev with_begin : Named → Data → Result Document Fault
 with_begin ms clients = begin_of ms >>= λ begin. rest_of (ms (codes "schedule")) clients begin
 
-document_read : (d : Data) (document : Document) → document_of d ≡ Ok document → IsDocument document
+pub document_read : (d : Data) (document : Document) → document_of d ≡ Ok document → IsDocument document
 unfolding document_of
 document_read d document h =
     let a = after (object_with document_members d) (λ ms. required (codes "clients") ms >>= with_begin ms) document h in

@@ -8,3 +8,4 @@ mod streamed;
 
 pub use document::{document_from, read_document};
 pub use document_limits::DOCUMENT_LIMIT;
+pub use streamed::document_ahead;

@@ -5,10 +5,11 @@ ghost use Rattle.serde_json.specs.Data.{Data, Members as MemberData, object};
 ghost use Rattle.serde_json.specs.Read.{read};
 ghost use Rattle.json_form.specs.meaning.Objects.{Named, named, known, is_among as is_among_def};
 ghost use Rattle.json_form.specs.Objects.{members_at};
-ghost use Rattle.json_form.specs.Streams.{members_ahead as members_ahead_def};
+ghost use Rattle.json_form.specs.Streams.{Begins, members_ahead as members_ahead_def};
 ghost use Rattle.document_forms.specs.Keeping.{takes_store};
 ghost use Rattle.document_forms.specs.meaning.Tables.{tables_of};
 ghost use Rattle.doc_reader.specs.meaning.Documents.{begin_of, document_members, document_of, document_at};
+ghost use Rattle.doc_reader.specs.Keeping.{IsDocument};
 ghost use Rattle.doc_reader.specs.Ahead.{held_members, held_back, AreRead, Passes};
 
 use crate::counts::small;
@@ -126,8 +127,9 @@ impl Ahead {
 
 /// What is read of the members of an object, behind the bracket that begins it.
 fn members_ahead(alloc: Global, tokens: &mut Reader<'_>, depth: usize) -> Option<Ahead>
-    ensures { IfSome result (λ ahead. (ms : MemberData) × (members_ahead_def depth tokens.old ≡ Some (ms, tokens.new))
+    ensures read { IfSome result (λ ahead. (ms : MemberData) × (members_ahead_def depth tokens.old ≡ Some (ms, tokens.new))
         × (known document_members ms ≡ Ok tt) × AreRead ahead (named ms)) }
+    ensures shorter { IfSome result (λ _. length tokens.new < length tokens.old) }
 {
     let mut ahead = Ahead::new(alloc);
     'members: while let Some(name) = tokens.next_key().ok()? {
@@ -163,7 +165,7 @@ fn lose_all(standby: bool, events: &[Event]) -> bool
 }
 
 /// The document of which this was read.
-fn document_ahead(alloc: Global, ahead: Ahead) -> Option<Document>
+fn joined(alloc: Global, ahead: Ahead) -> Option<Document>
     ensures { IfSome result (λ document. (ms : MemberData) → known document_members ms ≡ Ok tt → AreRead ahead (named ms)
         → document_of (object ms) ≡ Ok document) }
 {
@@ -182,18 +184,32 @@ fn document_ahead(alloc: Global, ahead: Ahead) -> Option<Document>
     small(alloc, document_with(begin, clients, events)).ok()
 }
 
+/// The document that the tokens begin with, nested no deeper than `depth`. Its tables, clients and events
+/// are read one after the other, so that no more than one of them stands as a JSON value. There is none
+/// where there is a fault, and in the forms that are read otherwise: `read_document` says which. How many
+/// bytes the tokens were read from is no matter. The cost is that of `read_document`.
+pub fn document_ahead(alloc: Global, tokens: &mut Reader<'_>, depth: usize) -> Option<Document>
+    ensures read { IfSome result
+        (λ document. Begins document_of depth tokens.old document tokens.new) }
+    ensures document { IfSome result IsDocument }
+    ensures shorter { IfSome result (λ _. length tokens.new < length tokens.old) }
+{
+    let inside = object_begins(tokens, depth)?;
+    let ahead = members_ahead(alloc, tokens, inside)?;
+    joined(alloc, ahead)
+}
+
 /// The document that the text spells.
 fn text_ahead(alloc: Global, text: &str) -> Option<Document>
     ensures { IfSome result (λ document. (d : Data) × (read text.now ≡ Some d) × (document_of d ≡ Ok document)) }
 {
     let mut scratch = Scratch::new(alloc);
     let mut tokens = Reader::new(text, &mut scratch).ok()?;
-    let inside = object_begins(&mut tokens, DEPTH)?;
-    let ahead = members_ahead(alloc, &mut tokens, inside)?;
+    let document = document_ahead(alloc, &mut tokens, DEPTH)?;
     if tokens.next().is_some() {
         return None;
     }
-    document_ahead(alloc, ahead)
+    Some(document)
 }
 
 /// The document that the bytes spell, whose tables, clients and events are read one after the other. There is

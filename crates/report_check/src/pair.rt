@@ -11,9 +11,9 @@ ghost use Rattle.doc_reader.specs.meaning.Documents.{document_of};
 ghost use Rattle.report_reader.specs.Keeping.{IsTold};
 ghost use Rattle.report_check.specs.meaning.Pairs.{pair_of, pair_at};
 
-use doc_reader::document_from;
+use doc_reader::{document_ahead, document_from};
 use json::{Reader, Scratch};
-use json_form::{DocFault, json_from, object_begins, object_with, value_from, within};
+use json_form::{DocFault, json_from, object_begins, object_with, within};
 use outage_schedule::{Document, Report};
 use report_reader::{report_ahead, report_from};
 use serde_json::Value as Json;
@@ -62,17 +62,6 @@ fn pass_end(tokens: &mut Reader<'_>) -> Option<()>
     }
 }
 
-/// The document that the tokens begin with, whose JSON value stands there meanwhile.
-fn document_ahead(alloc: Global, tokens: &mut Reader<'_>, depth: usize) -> Option<Document>
-    ensures read { IfSome result
-        (λ document. Begins document_of depth tokens.old document tokens.new) }
-    ensures document { IfSome result IsDocument }
-    ensures shorter { IfSome result (λ _. length tokens.new < length tokens.old) }
-{
-    let value = value_from(alloc, tokens, depth)?;
-    document_from(alloc, value).ok()
-}
-
 /// The document and then the report that are the members of an object, behind the brace that begins
 /// it. There is nothing behind the object.
 fn pair_ahead(alloc: Global, tokens: &mut Reader<'_>, depth: usize) -> Option<(Document, Report)>
@@ -119,12 +108,14 @@ fn streamed(alloc: Global, bytes: &[u8]) -> Option<(Document, Report)>
 
 /// The document and its report that the bytes spell as a JSON object (RFC 8259), of at most 64 MiB,
 /// or the first fault and its place. A fault of the object comes first, then one of the document,
-/// and then one of the report, which has code 11. The document stands there as a JSON value, and
-/// of the report no more than one client, entry, note, served item or table, beside its alert
-/// lines, blocked identifiers and the bytes of its disk. But where there is a fault, a number that
-/// is no integer of 64 bits or is `-0`, a report before the document or served items before the
-/// notes, the whole object does so. The cost is linear in the number of bytes, but for the n log n
-/// comparisons of keys and names that stand in no rising order.
+/// and then one of the report, which has code 11. No more than one table, client or event of the
+/// document stands there as a JSON value, and of the report one client, entry, note, served item or
+/// table, beside its alert lines, blocked identifiers and the bytes of its disk. But where there is
+/// a fault, a number that is no integer of 64 bits or is `-0`, a report before the document, a
+/// schedule before the clients or served items before the notes, the whole object does so. The cost
+/// is linear in the number of bytes, but for the n log n comparisons of keys and names that stand in
+/// no rising order. Memory is what is read, the bytes, and as many once more meanwhile, as room for
+/// texts with escapes.
 pub fn pair_from(alloc: Global, bytes: &[u8]) -> Result<(Document, Report), DocFault>
     ensures read { Gives result (pair_at bytes.now) }
     ensures document { IfOk result (λ pair. IsDocument pair.0) }

@@ -1,4 +1,4 @@
-use Rattle.std.proofs.Common.{◌≡◌, ◌-◌, ◌<◌, length, Some, sym, subst, ◌∙◌, arith, rules, refl}
+use Rattle.std.proofs.Common.{◌≡◌, ◌-◌, ◌<◌, length, Some, None, sym, subst, ◌∙◌, arith, rules, refl}
 use Rattle.json.specs.Json.{read_key, value}
 use Rattle.serde_json.specs.Data.{no_members, put}
 use Rattle.json_form.specs.meaning.Objects.{named}
@@ -48,8 +48,15 @@ members-smaller c =
     let lesser : length c.take.new.tokens < length c.next_key.new.self = c.in_ok-take.ensures.shorter in
     omega (arith, less, lesser)
 
-pub returns : goal.returns
-returns c =
+pub returns-clause-read : goal.returns-clause-read
+returns-clause-read c =
     let l = c.members in
     let over = members_over (value c.args.depth) l.invariant.passed l.invariant.turns l.tokens c.next_key.new.self l.invariant.enough (grind arith) in
     (l.invariant.passed, l.invariant.so_far ∙ over, l.invariant.all_known, l.invariant.are_read)
+
+pub returns-clause-shorter : goal.returns-clause-shorter
+returns-clause-shorter c =
+    let l = c.members in
+    let ended : read_key l.tokens ≡ Some (None, c.next_key.new.self) = grind arith in
+    let less = read_key-shorter l.tokens None c.next_key.new.self ended in
+    omega (arith, less, l.invariant.shorter)
