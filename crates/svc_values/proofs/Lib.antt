@@ -1,9 +1,7 @@
-mod Derived
 mod Endings
 mod KeyLookups
 mod Local
 pub mod Offered
 mod RowOrder
 mod SettingsOrder
-mod ValueOrder
 mod Writes

@@ -1,9 +1,11 @@
 -- Lemmas on this crate's words that the crates above cite.
 
 -- the order of values is total, and values that compare as equal are one value
-pub use Rattle.svc_values.proofs.ValueOrder.{value_cmp_total, exact_values}
+pub use Rattle.svc_values.specs.OrderLaws.{value_cmp_total, exact_values}
+-- two places are equal in their order exactly where they are the same
+pub use Rattle.svc_values.specs.OrderLaws.{place_tied}
 -- the derived comparisons of values are their order and their test
-pub use Rattle.svc_values.proofs.Derived.{cmp_is, same_is_eq}
+pub use Rattle.svc_values.specs.OrderLaws.{cmp_is, same_is_eq}
 -- a name that was put last behind lower ones keeps settings rising, and is their last name
 pub use Rattle.svc_values.proofs.SettingsOrder.{AreSettings-last, last_name-last}
 -- the last answer stands at the last place

@@ -12,7 +12,7 @@ use Rattle.svc_values.specs.declared.value.Value.{Value}
 use Rattle.svc_values.specs.meaning.Order.{value_cmp}
 use Rattle.svc_values.specs.meaning.Same.{same_value}
 use Rattle.svc_values.specs.SameLaws.{bytes_decide, same_value_decides}
-use Rattle.svc_values.proofs.ValueOrder.{value_cmp_total, exact_values}
+use Rattle.svc_values.specs.OrderLaws.{value_cmp_total, exact_values}
 use Rattle.svc_values.specs.declared.tables.PlainRow.{PlainRow}
 use Rattle.svc_values.specs.declared.tables.Place.TheVariants as place
 use Rattle.svc_values.specs.meaning.Tables.{is_at, comes_before}

@@ -18,7 +18,7 @@ use Rattle.svc_values.specs.SameLaws.{bytes_decide, same_value_decides}
 use Rattle.svc_values.specs.declared.tables.PlainRow.{PlainRow}
 use Rattle.svc_values.specs.declared.tables.Place.{Place}
 use Rattle.svc_values.specs.declared.tables.Place.TheVariants as place
-use Rattle.svc_values.specs.contracts.tables.PlaceOrd.TheImpl.{cmp-value as cmp-place}
+use Rattle.svc_values.specs.Tables.{place_cmp}
 use Rattle.svc_values.specs.meaning.Tables.{rows_at}
 use Rattle.table_store.specs.Rows.{Keyed, plain_rows, row_if_any}
 use Rattle.table_txn.specs.declared.found.Found.{Found}
@@ -71,9 +71,9 @@ abbrev pub Entries : Type 0
 Entries = List (Place × ReadPlace)
 
 abbrev pub looked_up : Entries → Place → Option ReadPlace
-looked_up entries q = lookup (is_at (cmp-place.it q)) entries
+looked_up entries q = lookup (is_at (place_cmp q)) entries
 
-at_key : (q p : Place) → is_at (cmp-place.it q) p ≡ same_place p q
+at_key : (q p : Place) → is_at (place_cmp q) p ≡ same_place p q
 at_key q p = cmp_place_is q p ∙ same_place_sym q p
 
 -- the reading of a place is that of its entry
@@ -93,7 +93,7 @@ reading_of-lookup (entry ∷ rest) q = by_place (reading_of-lookup rest q) (case
         ∙ sym (ap (λ b. option_map (λ one. reading (q, one)) (cond b (Some entry.1) (looked_up rest q))) (at_key q entry.0 ∙ apart))
 
 -- a change of one entry
-has_read : (old new : Entries) (at : Place) (one : ReadPlace) (what : Found) → ((q : Place) → looked_up new q ≡ cond (is_at (cmp-place.it at) q) (Some one) (looked_up old q))
+has_read : (old new : Entries) (at : Place) (one : ReadPlace) (what : Found) → ((q : Place) → looked_up new q ≡ cond (is_at (place_cmp at) q) (Some one) (looked_up old q))
     → Some (reading (at, one)) ≡ Some (read_more (reading_of (readings_of old) at) at (found_rows at what)) → HasRead (readings_of old) at (found_rows at what) (readings_of new)
 has_read old new at one what changed is q = by_place (cases_Bool (same_place at q))
   where
@@ -121,7 +121,7 @@ fits entry = is_for entry.0 entry.1.found
 
 lookup_fits : (entries : Entries) (at : Place) (one : ReadPlace) → are_for entries ≡ true → looked_up entries at ≡ Some one → is_for at one.found ≡ true
 lookup_fits [] at one all there = cc
-lookup_fits (entry ∷ rest) at one all there = by_place (lookup_fits rest at one) (cases_Bool (is_at (cmp-place.it at) entry.0))
+lookup_fits (entry ∷ rest) at one all there = by_place (lookup_fits rest at one) (cases_Bool (is_at (place_cmp at) entry.0))
   where
     parts : (fits entry ≡ true) × (are_for rest ≡ true)
     parts = both (fits entry) (are_for rest) all
@@ -129,48 +129,48 @@ lookup_fits (entry ∷ rest) at one all there = by_place (lookup_fits rest at on
     some_inj : (a b : ReadPlace) → ◌≡◌ {A = Option ReadPlace} (Some a) (Some b) → a ≡ b
     some_inj a b e = cc
 
-    by_place : (are_for rest ≡ true → looked_up rest at ≡ Some one → is_for at one.found ≡ true) → (is_at (cmp-place.it at) entry.0 ≡ true) ⊎ (is_at (cmp-place.it at) entry.0 ≡ false) → is_for at one.found ≡ true
+    by_place : (are_for rest ≡ true → looked_up rest at ≡ Some one → is_for at one.found ≡ true) → (is_at (place_cmp at) entry.0 ≡ true) ⊎ (is_at (place_cmp at) entry.0 ≡ false) → is_for at one.found ≡ true
     by_place others (inl here) =
         let same : entry.0 ≡ at = (same_place_decides entry.0 at).0 (sym (at_key at entry.0) ∙ here) in
         let is : entry.1 ≡ one = some_inj entry.1 one (sym (ap (λ b. cond b (Some entry.1) (looked_up rest at)) here) ∙ there) in
         subst (λ (p : Place). is_for p one.found ≡ true) same (subst (λ (n : ReadPlace). is_for entry.0 n.found ≡ true) is parts.0)
     by_place others (inr apart) = others parts.1 (sym (ap (λ b. cond b (Some entry.1) (looked_up rest at)) apart) ∙ there)
 
-set_fits : (entries : Entries) (at : Place) (one : ReadPlace) → are_for entries ≡ true → is_for at one.found ≡ true → are_for (set_value (is_at (cmp-place.it at)) entries one) ≡ true
+set_fits : (entries : Entries) (at : Place) (one : ReadPlace) → are_for entries ≡ true → is_for at one.found ≡ true → are_for (set_value (is_at (place_cmp at)) entries one) ≡ true
 set_fits [] at one all here = refl
-set_fits (entry ∷ rest) at one all fit = by_place (λ h. set_fits rest at one h fit) (cases_Bool (is_at (cmp-place.it at) entry.0))
+set_fits (entry ∷ rest) at one all fit = by_place (λ h. set_fits rest at one h fit) (cases_Bool (is_at (place_cmp at) entry.0))
   where
     parts : (fits entry ≡ true) × (are_for rest ≡ true)
     parts = both (fits entry) (are_for rest) all
 
-    by_place : (are_for rest ≡ true → are_for (set_value (is_at (cmp-place.it at)) rest one) ≡ true) → (is_at (cmp-place.it at) entry.0 ≡ true) ⊎ (is_at (cmp-place.it at) entry.0 ≡ false) → are_for (set_value (is_at (cmp-place.it at)) (entry ∷ rest) one) ≡ true
+    by_place : (are_for rest ≡ true → are_for (set_value (is_at (place_cmp at)) rest one) ≡ true) → (is_at (place_cmp at) entry.0 ≡ true) ⊎ (is_at (place_cmp at) entry.0 ≡ false) → are_for (set_value (is_at (place_cmp at)) (entry ∷ rest) one) ≡ true
     by_place others (inl here) =
         let same : entry.0 ≡ at = (same_place_decides entry.0 at).0 (sym (at_key at entry.0) ∙ here) in
-        ap (λ b. are_for (cond b ((entry.0, one) ∷ rest) (entry ∷ set_value (is_at (cmp-place.it at)) rest one))) here
+        ap (λ b. are_for (cond b ((entry.0, one) ∷ rest) (entry ∷ set_value (is_at (place_cmp at)) rest one))) here
         ∙ both_if (is_for entry.0 one.found) (are_for rest) (subst (λ (p : Place). is_for p one.found ≡ true) (sym same) fit) parts.1
     by_place others (inr apart) =
-        ap (λ b. are_for (cond b ((entry.0, one) ∷ rest) (entry ∷ set_value (is_at (cmp-place.it at)) rest one))) apart
-        ∙ both_if (fits entry) (are_for (set_value (is_at (cmp-place.it at)) rest one)) parts.0 (others parts.1)
+        ap (λ b. are_for (cond b ((entry.0, one) ∷ rest) (entry ∷ set_value (is_at (place_cmp at)) rest one))) apart
+        ∙ both_if (fits entry) (are_for (set_value (is_at (place_cmp at)) rest one)) parts.0 (others parts.1)
 
-insert_fits : (entries : Entries) (at : Place) (one : ReadPlace) → are_for entries ≡ true → is_for at one.found ≡ true → are_for (insert_entry cmp-place.it entries at one) ≡ true
+insert_fits : (entries : Entries) (at : Place) (one : ReadPlace) → are_for entries ≡ true → is_for at one.found ≡ true → are_for (insert_entry place_cmp entries at one) ≡ true
 insert_fits [] at one all fit = both_if (is_for at one.found) true fit refl
-insert_fits (entry ∷ rest) at one all fit = by_order (λ h. insert_fits rest at one h fit) (cmp-place.it at entry.0) refl
+insert_fits (entry ∷ rest) at one all fit = by_order (λ h. insert_fits rest at one h fit) (place_cmp at entry.0) refl
   where
     parts : (fits entry ≡ true) × (are_for rest ≡ true)
     parts = both (fits entry) (are_for rest) all
 
-    by_order : (are_for rest ≡ true → are_for (insert_entry cmp-place.it rest at one) ≡ true) → (o : Ordering) → cmp-place.it at entry.0 ≡ o → are_for (match_ordering o ((at, one) ∷ entry ∷ rest) ((entry.0, one) ∷ rest) (entry ∷ insert_entry cmp-place.it rest at one)) ≡ true
+    by_order : (are_for rest ≡ true → are_for (insert_entry place_cmp rest at one) ≡ true) → (o : Ordering) → place_cmp at entry.0 ≡ o → are_for (match_ordering o ((at, one) ∷ entry ∷ rest) ((entry.0, one) ∷ rest) (entry ∷ insert_entry place_cmp rest at one)) ≡ true
     by_order others Less e = both_if (is_for at one.found) (are_for (entry ∷ rest)) fit all
     by_order others Equal e =
         let same : entry.0 ≡ at = (same_place_decides entry.0 at).0 (sym (at_key at entry.0) ∙ ap is_eq e) in
         both_if (is_for entry.0 one.found) (are_for rest) (subst (λ (p : Place). is_for p one.found ≡ true) (sym same) fit) parts.1
-    by_order others Greater e = both_if (fits entry) (are_for (insert_entry cmp-place.it rest at one)) parts.0 (others parts.1)
+    by_order others Greater e = both_if (fits entry) (are_for (insert_entry place_cmp rest at one)) parts.0 (others parts.1)
 
 -- ---- one more read
 
 -- of a place that was read_more before
 pub again_read : (old new : BTreeMap Place ReadPlace) (at : Place) (there one : ReadPlace) (what : Found) → are_for old.entries ≡ true → is_for at what ≡ true → Some there ≡ looked_up old.entries at
-    → one ≡ record { found = there.found; is_torn = there.is_torn || not (same_found there.found what) } → WritesThrough cmp-place.it (cmp-place.it at) old one new → IsRead old.entries at what new.entries
+    → one ≡ record { found = there.found; is_torn = there.is_torn || not (same_found there.found what) } → WritesThrough place_cmp (place_cmp at) old one new → IsRead old.entries at what new.entries
 again_read old new at there one what all kind found is written = record {
   has = has_read old.entries new.entries at one what ((written.3 (subst IsSome found refl)).0)
       (ap (λ (n : ReadPlace). Some (reading (at, n))) is
@@ -187,7 +187,7 @@ pub not_read : (old : Entries) (at : Place) → None ≡ looked_up old at → re
 not_read old at away = reading_of-lookup old at ∙ ap (option_map (λ n. reading (at, n))) (sym away)
 
 pub first_read : (old new : BTreeMap Place ReadPlace) (at : Place) (one : ReadPlace) (what : Found) → are_for old.entries ≡ true → is_for at what ≡ true → reading_of (readings_of old.entries) at ≡ None
-    → one ≡ record { found = what; is_torn = false } → Updates cmp-place.it old new at (Some one) → new.entries ≡ insert_entry cmp-place.it old.entries at one → IsRead old.entries at what new.entries
+    → one ≡ record { found = what; is_torn = false } → Updates place_cmp old new at (Some one) → new.entries ≡ insert_entry place_cmp old.entries at one → IsRead old.entries at what new.entries
 first_read old new at one what all kind away is updated put = record {
   has = has_read old.entries new.entries at one what updated.0
       (ap (λ (n : ReadPlace). Some (reading (at, n))) is ∙ sym (ap (λ o. Some (read_more o at (found_rows at what))) away));

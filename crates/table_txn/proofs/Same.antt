@@ -1,24 +1,19 @@
 -- Places, values and rows that are compared as the same are the same.
-use Rattle.std.proofs.Common.{◌≡◌, ℕ, Bool, true, false, List, refl, sym, ap, ◌∙◌, subst}
+use Rattle.std.proofs.Common.{◌≡◌, ℕ, Bool, true, false, List, refl, sym, ap, ◌∙◌}
 use Rattle.std.specs.Prelude.{◌&&◌}
 use Rattle.std.specs.Bool.{Decides, one_answer}
 use Rattle.std.specs.Str.{bytes_eq}
-use Rattle.std.specs.declared.cmp.Ordering.{Ordering}
-use Rattle.std.specs.declared.cmp.Ordering.TheVariants.{Less, Equal, Greater}
-use Rattle.std.specs.Ordering.{nat_cmp, is_eq, ordering_then}
-use Rattle.std.specs.Cmp.Lexicographic.{slice_cmp, pointwise, pointwise_decides}
-use Rattle.std.proofs.lemmas.Cmp.{nat_list_cmp_total, tied_itself}
-use Rattle.std.proofs.lemmas.Map.Lookups.{exact_bytes}
+use Rattle.std.specs.Ordering.{is_eq}
+use Rattle.std.specs.Cmp.Lexicographic.{pointwise, pointwise_decides}
 use Rattle.svc_values.specs.declared.value.Value.{Value}
-use Rattle.svc_values.specs.contracts.value.ValueOrd.TheImpl.{cmp-value}
 use Rattle.svc_values.specs.meaning.Same.{same_value, same_row, same_rows}
 use Rattle.svc_values.specs.Same.{same_place}
 use Rattle.svc_values.specs.SameLaws.{bytes_decide, same_value_decides}
-use Rattle.svc_values.proofs.Offered.{value_cmp_total, exact_values, cmp_is}
+use Rattle.svc_values.specs.Tables.{place_cmp}
+use Rattle.svc_values.proofs.Offered.{place_tied}
 use Rattle.svc_values.specs.declared.tables.PlainRow.{PlainRow}
 use Rattle.svc_values.specs.declared.tables.Place.{Place}
 use Rattle.svc_values.specs.declared.tables.Place.TheVariants as place
-use Rattle.svc_values.specs.contracts.tables.PlaceOrd.TheImpl.{cmp-value as cmp-place}
 
 pub both : (a b : Bool) → (a && b) ≡ true → (a ≡ true) × (b ≡ true)
 both true true h = (refl, refl)
@@ -42,39 +37,9 @@ same_place_decides (place.Row t k) (place.Table u) = (λ h. cc, λ e. cc)
 same_place_decides (place.Table t) (place.Row u l) = (λ h. cc, λ e. cc)
 same_place_decides (place.Table t) (place.Table u) = let d = bytes_decide t u in (λ h. ap place.Table (d.0 h), λ e. d.1 (cc))
 
-equal_from : (o : Ordering) → is_eq o ≡ true → o ≡ Equal
-equal_from Less h = cc
-equal_from Equal h = refl
-equal_from Greater h = cc
-
-then_parts : (o p : Ordering) → ordering_then o p ≡ Equal → (o ≡ Equal) × (p ≡ Equal)
-then_parts Less p h = cc
-then_parts Equal p h = (refl, h)
-then_parts Greater p h = cc
-
-exact_derived : (a b : Value) → cmp-value.it a b ≡ Equal → a ≡ b
-exact_derived a b h = exact_values a b (subst (λ (f : Value → Value → Ordering). f a b ≡ Equal) cmp_is h)
-
-exact_place : (a b : Place) → cmp-place.it a b ≡ Equal → a ≡ b
-exact_place (place.Row t k) (place.Row u l) h =
-    let p = then_parts (slice_cmp nat_cmp t u) (cmp-value.it k l) h in
-    rows_alike t u k l (exact_bytes t u p.0) (exact_derived k l p.1)
-exact_place (place.Row t k) (place.Table u) h = cc
-exact_place (place.Table t) (place.Row u l) h = cc
-exact_place (place.Table t) (place.Table u) h = ap place.Table (exact_bytes t u h)
-
-tied_place : (a : Place) → cmp-place.it a a ≡ Equal
-tied_place (place.Row t k) =
-    let keys : cmp-value.it k k ≡ Equal = subst (λ (f : Value → Value → Ordering). f k k ≡ Equal) (sym cmp_is) (tied_itself value_cmp_total k) in
-    ap (λ o. ordering_then o (cmp-value.it k k)) (tied_itself nat_list_cmp_total t) ∙ keys
-tied_place (place.Table t) = tied_itself nat_list_cmp_total t
-
-cmp_place_decides : (a b : Place) → Decides (is_eq (cmp-place.it a b)) (a ≡ b)
-cmp_place_decides a b = (λ h. exact_place a b (equal_from (cmp-place.it a b) h), λ e. ap is_eq (subst (λ (c : Place). cmp-place.it a c ≡ Equal) e (tied_place a)))
-
 -- the order of places tells them apart
-pub cmp_place_is : (a b : Place) → is_eq (cmp-place.it a b) ≡ same_place a b
-cmp_place_is a b = one_answer (is_eq (cmp-place.it a b)) (same_place a b) (cmp_place_decides a b) (same_place_decides a b)
+pub cmp_place_is : (a b : Place) → is_eq (place_cmp a b) ≡ same_place a b
+cmp_place_is a b = sym (place_tied a b)
 
 pub same_place_sym : (a b : Place) → same_place a b ≡ same_place b a
 same_place_sym a b = one_answer (same_place a b) (same_place b a) (same_place_decides a b) (let d = same_place_decides b a in (λ h. sym (d.0 h), λ e. d.1 (sym e)))

@@ -120,7 +120,8 @@ impl Readings {
         if self.has(&at) {
             return Ok(());
         }
-        self.add(tables, at)
+        let committed = committed_at(tables, &at);
+        read_first(self.alloc, &mut self.places, at, committed)
     }
 
     /// Reads a place, which is known to have what it had, if it was read before, or is not.

@@ -1,5 +1,5 @@
 use Rattle.svc_values.specs.SameLaws.{same_value_decides, same_answers_decide, same_call_decides, same_draw_decides, same_piece_decides, same_rows_decide, same_place_decides, same_ltxid_decides, same_session_decides}
-use Rattle.svc_values.proofs.Derived.{by_kind, same_here}
+use Rattle.svc_values.specs.OrderLaws.{by_kind, same_here}
 use Rattle.svc_values.proofs.laws.compares_exactly.Goals as goal
 
 pub returns-clause-exact : goal.returns-clause-exact
