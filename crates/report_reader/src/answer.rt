@@ -4,6 +4,7 @@ ghost use Rattle.serde_json.specs.View.{view};
 ghost use Rattle.json_form.specs.Faults.{Gives};
 ghost use Rattle.report_reader.specs.meaning.Answers.{rows_in, refusal_of as refusal_of_def, answer_of as answer_of_def, answer_named as answer_named_def, answer_in, answers_in};
 
+use crate::known::KnownRows;
 use crate::part::{NUMBER, RowReader};
 use call_forms::{only_member, shared};
 use json_form::{DocCode, DocFault, Integer, Reader, Whole, array_from, chosen, list_from, within};
@@ -11,15 +12,22 @@ use serde_json::Value as Json;
 use std::alloc::Global;
 use svc_values::{Answer, Answers, Listed, Rows, StatementFault};
 
-/// Reads the rows of an answer, at most 32.
-struct RowsReader;
+/// Reads the rows of an answer, at most 32. Known ones are held once.
+#[derive(Clone, Copy)]
+struct RowsReader<'a> {
+    known: Option<&'a KnownRows>,
+}
 
-impl Reader<Rows> for RowsReader {
+impl Reader<Rows> for RowsReader<'_> {
     ghost reads = { λ s. rows_in };
 
     fn read(&self, alloc: Global, value: Json) -> Result<Rows, DocFault> {
         let rows = array_from(alloc, value, 0, 32, &RowReader)?;
-        shared(alloc, rows)
+        let rows = shared(alloc, rows)?;
+        match self.known {
+            Some(known) => Ok(known.once(alloc, rows)),
+            None => Ok(rows),
+        }
     }
 }
 
@@ -69,7 +77,12 @@ fn answer_of(word: AnswerWord) -> Answer
 }
 
 /// The answer that the member of this name says.
-fn answer_named(alloc: Global, name: &str, inner: Json) -> Result<Answer, DocFault>
+fn answer_named(
+    alloc: Global,
+    known: Option<&KnownRows>,
+    name: &str,
+    inner: Json,
+) -> Result<Answer, DocFault>
     ensures { Gives result (answer_named_def name.now (view inner)) }
 {
     if name == "done" {
@@ -77,7 +90,7 @@ fn answer_named(alloc: Global, name: &str, inner: Json) -> Result<Answer, DocFau
         return Ok(Answer::Done(count));
     }
     if name == "rows" {
-        let rows = within(alloc, name, RowsReader.read(alloc, inner))?;
+        let rows = within(alloc, name, RowsReader { known }.read(alloc, inner))?;
         return Ok(Answer::Rows(rows));
     }
     if name == "number" {
@@ -92,9 +105,12 @@ fn answer_named(alloc: Global, name: &str, inner: Json) -> Result<Answer, DocFau
 }
 
 /// Reads an answer: a word, or an object with one member.
-struct AnswerReader;
+#[derive(Clone, Copy)]
+struct AnswerReader<'a> {
+    known: Option<&'a KnownRows>,
+}
 
-impl Reader<Answer> for AnswerReader {
+impl Reader<Answer> for AnswerReader<'_> {
     ghost reads = { λ s. answer_in };
 
     #[tactic(auto, unfolding(crate::specs::meaning::Answers::answer_in))]
@@ -103,7 +119,7 @@ impl Reader<Answer> for AnswerReader {
             Json::String(text) => Ok(answer_of(chosen(alloc, text.as_str(), &WORDS)?)),
             Json::Object(members) => {
                 let (name, inner) = only_member(alloc, members)?;
-                answer_named(alloc, name.as_str(), inner)
+                answer_named(alloc, self.known, name.as_str(), inner)
             }
             Json::Null | Json::Bool(_) | Json::Number(_) | Json::Array(_) => {
                 Err(DocFault::here(alloc, DocCode::WrongKind))
@@ -112,14 +128,17 @@ impl Reader<Answer> for AnswerReader {
     }
 }
 
-/// Reads the answers of a call, in order.
-pub(crate) struct AnswersReader;
+/// Reads the answers of a call, in order. Known rows are held once.
+#[derive(Clone, Copy)]
+pub(crate) struct AnswersReader<'a> {
+    pub(crate) known: Option<&'a KnownRows>,
+}
 
-impl Reader<Answers> for AnswersReader {
+impl Reader<Answers> for AnswersReader<'_> {
     ghost reads = { λ s. answers_in };
 
     fn read(&self, alloc: Global, value: Json) -> Result<Answers, DocFault> {
-        let answers = list_from(alloc, value, &AnswerReader)?;
+        let answers = list_from(alloc, value, &AnswerReader { known: self.known })?;
         Ok(Listed::from_vec(answers))
     }
 }

@@ -5,6 +5,7 @@ ghost use Rattle.report_reader.specs.meaning.Entries.{piece_in, pieces_in, entry
 
 use crate::answer::AnswersReader;
 use crate::draw::DrawsReader;
+use crate::known::KnownRows;
 use crate::part::{CALL, LtxidReader, RowReader, SettingsReader, list_ahead};
 use call_forms::NameReader;
 use json_form::{DocFault, Flag, Reader, fixed, list_from, object_with};
@@ -14,16 +15,25 @@ use std::alloc::Global;
 use svc_values::{Entry, Listed, Piece, Pieces};
 
 /// Reads a call of an entry.
-struct PieceReader;
+#[derive(Clone, Copy)]
+struct PieceReader<'a> {
+    known: &'a KnownRows,
+}
 
-impl Reader<Piece> for PieceReader {
+impl Reader<Piece> for PieceReader<'_> {
     ghost reads = { λ s. piece_in };
 
     #[tactic(auto, unfolding(crate::specs::meaning::Entries::piece_in), using(json_form::proofs::Offered::others_stay))]
     fn read(&self, alloc: Global, value: Json) -> Result<Piece, DocFault> {
         let mut parts = fixed(alloc, value, 3)?;
         let call = parts.read(alloc, 0, &CALL)?;
-        let answers = parts.read(alloc, 1, &AnswersReader)?;
+        let answers = parts.read(
+            alloc,
+            1,
+            &AnswersReader {
+                known: Some(self.known),
+            },
+        )?;
         let draws = parts.read(alloc, 2, &DrawsReader)?;
         Ok(Piece {
             call,
@@ -34,23 +44,29 @@ impl Reader<Piece> for PieceReader {
 }
 
 /// Reads the calls of an entry, in order.
-struct PiecesReader;
+#[derive(Clone, Copy)]
+struct PiecesReader<'a> {
+    known: &'a KnownRows,
+}
 
-impl Reader<Pieces> for PiecesReader {
+impl Reader<Pieces> for PiecesReader<'_> {
     ghost reads = { λ s. pieces_in };
 
     fn read(&self, alloc: Global, value: Json) -> Result<Pieces, DocFault> {
-        let pieces = list_from(alloc, value, &PieceReader)?;
+        let pieces = list_from(alloc, value, &PieceReader { known: self.known })?;
         Ok(Listed::from_vec(pieces))
     }
 }
 
 const MEMBERS: [&str; 4] = ["completed", "ltxid", "pieces", "settings"];
 
-/// Reads an entry, which shows no writes.
-struct EntryReader;
+/// Reads an entry, which shows no writes. Known rows are held once.
+#[derive(Clone, Copy)]
+struct EntryReader<'a> {
+    known: &'a KnownRows,
+}
 
-impl Reader<Entry> for EntryReader {
+impl Reader<Entry> for EntryReader<'_> {
     ghost reads = { λ s. entry_in };
 
     #[tactic(auto, unfolding(crate::specs::meaning::Entries::entry_in), using(json_form::proofs::Offered::others_stay))]
@@ -59,7 +75,7 @@ impl Reader<Entry> for EntryReader {
         members.require(alloc, &MEMBERS)?;
         let completed = members.read(alloc, "completed", &Flag)?;
         let ltxid = members.read(alloc, "ltxid", &LtxidReader)?;
-        let pieces = members.read(alloc, "pieces", &PiecesReader)?;
+        let pieces = members.read(alloc, "pieces", &PiecesReader { known: self.known })?;
         let settings = members.read(alloc, "settings", &SettingsReader)?;
         Ok(Entry {
             ltxid,
@@ -72,13 +88,16 @@ impl Reader<Entry> for EntryReader {
 }
 
 /// Reads the entries of a run, in order.
-pub(crate) struct EntriesReader;
+#[derive(Clone, Copy)]
+pub(crate) struct EntriesReader<'a> {
+    pub(crate) known: &'a KnownRows,
+}
 
-impl Reader<ReportEntries> for EntriesReader {
+impl Reader<ReportEntries> for EntriesReader<'_> {
     ghost reads = { λ s. entries_in };
 
     fn read(&self, alloc: Global, value: Json) -> Result<ReportEntries, DocFault> {
-        let entries = list_from(alloc, value, &EntryReader)?;
+        let entries = list_from(alloc, value, &EntryReader { known: self.known })?;
         Ok(Listed::from_vec(entries))
     }
 }
@@ -88,12 +107,13 @@ pub(crate) fn entries_ahead(
     alloc: Global,
     tokens: &mut json::Reader<'_>,
     depth: usize,
+    known: &KnownRows,
 ) -> Option<ReportEntries>
     ensures read { IfSome result
         (λ entries. Begins entries_in depth tokens.old entries tokens.new) }
     ensures shorter { IfSome result (λ _. length tokens.new < length tokens.old) }
 {
-    let entries = list_ahead(alloc, tokens, depth, &EntryReader)?;
+    let entries = list_ahead(alloc, tokens, depth, &EntryReader { known })?;
     Some(Listed::from_vec(entries))
 }
 

@@ -8,6 +8,7 @@ ghost use Rattle.report_reader.specs.meaning.Items.{is_of_frame as is_of_frame_d
 
 use crate::answer::AnswersReader;
 use crate::draw::DrawsReader;
+use crate::known::KnownRows;
 use crate::note::count_from;
 use crate::part::{CALL, LtxidReader, NUMBER, SessionReader, SettingsReader, if_count};
 use crate::told::{ToldReader, told_by};
@@ -116,11 +117,12 @@ fn served_at(place: ServedAt, item: Item) -> Served
 }
 
 /// Reads an item behind those before it, of which the last one stands at the event `last`, and at
-/// an event of these notes.
+/// an event of these notes. Known rows are held once.
 #[derive(Clone, Copy)]
 pub(crate) struct ServedReader<'a> {
     pub(crate) notes: &'a [Note],
     pub(crate) last: u64,
+    pub(crate) known: &'a KnownRows,
 }
 
 impl ServedReader<'_> {
@@ -138,7 +140,7 @@ impl ServedReader<'_> {
             parts_at parts.new ≡ taken_at 2 (taken_at 1 (parts_at parts.old))) }
         ensures count { count_at parts.new ≡ count_at parts.old }
     {
-        let ServedReader { notes, last } = *self;
+        let ServedReader { notes, last, .. } = *self;
         let event = parts.read(alloc, 1, &EventReader { notes, word, last })?;
         let session = parts.read(alloc, 2, &SessionReader)?;
         Ok(ServedAt { event, session })
@@ -180,7 +182,13 @@ impl ServedReader<'_> {
         let place = self.place(alloc, &mut parts, ServedWord::Call)?;
         let replay = parts.read(alloc, 3, &Flag)?;
         let call = parts.read(alloc, 4, &CALL)?;
-        let answers = parts.read(alloc, 5, &AnswersReader)?;
+        let answers = parts.read(
+            alloc,
+            5,
+            &AnswersReader {
+                known: Some(self.known),
+            },
+        )?;
         let draws = parts.read(alloc, 6, &DrawsReader)?;
         let item = Item::Call {
             replay,
@@ -317,7 +325,12 @@ impl Reader<Served> for ServedReader<'_> {
 
 /// The items that these values say, in order, each behind the event of the one before.
 #[tactic(auto, using(crate::proofs::Stays::last_pushed))]
-fn each_served(alloc: Global, notes: &[Note], values: Vec<Json>) -> Result<Vec<Served>, DocFault>
+fn each_served(
+    alloc: Global,
+    notes: &[Note],
+    known: &KnownRows,
+    values: Vec<Json>,
+) -> Result<Vec<Served>, DocFault>
     ensures { GivesBy (λ v. v.items) result
         (each_after (λ before. one_served notes.now (last_event before)) []
         (items_view values.items)) }
@@ -325,7 +338,7 @@ fn each_served(alloc: Global, notes: &[Note], values: Vec<Json>) -> Result<Vec<S
     let mut found = Vec::with_capacity(alloc, values.len())?;
     let mut last = 0;
     for value in values {
-        let reader = ServedReader { notes, last };
+        let reader = ServedReader { notes, last, known };
         let served = within_item(alloc, found.len(), reader.read(alloc, value))?;
         last = served.event;
         found.push(served)?;
@@ -337,6 +350,7 @@ fn each_served(alloc: Global, notes: &[Note], values: Vec<Json>) -> Result<Vec<S
 #[derive(Clone, Copy)]
 pub(crate) struct ItemsReader<'a> {
     pub(crate) notes: &'a Notes,
+    pub(crate) known: &'a KnownRows,
 }
 
 impl Reader<ServedItems> for ItemsReader<'_> {
@@ -344,7 +358,7 @@ impl Reader<ServedItems> for ItemsReader<'_> {
 
     fn read(&self, alloc: Global, value: Json) -> Result<ServedItems, DocFault> {
         let values = parts_from(alloc, value)?;
-        let served = each_served(alloc, self.notes.as_slice(), values.items)?;
+        let served = each_served(alloc, self.notes.as_slice(), self.known, values.items)?;
         Ok(Listed::from_vec(served))
     }
 }

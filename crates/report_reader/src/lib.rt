@@ -7,6 +7,7 @@ mod entry;
 mod failure;
 mod go;
 mod item;
+mod known;
 pub mod laws;
 mod note;
 mod part;

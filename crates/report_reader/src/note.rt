@@ -215,7 +215,7 @@ impl Reader<NoteRun> for RunReader {
     #[tactic(auto, unfolding(crate::specs::meaning::Notes::run_in), using(json_form::proofs::Offered::others_stay))]
     fn read(&self, alloc: Global, value: Json) -> Result<NoteRun, DocFault> {
         let mut parts = fixed(alloc, value, 2)?;
-        let answers = parts.read(alloc, 0, &AnswersReader)?;
+        let answers = parts.read(alloc, 0, &AnswersReader { known: None })?;
         let draws = parts.read(alloc, 1, &DrawsReader)?;
         Ok(NoteRun { answers, draws })
     }

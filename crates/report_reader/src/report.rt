@@ -9,6 +9,7 @@ ghost use Rattle.report_reader.specs.meaning.Reports.{alerts_in, image_bytes_in,
 
 use crate::entry::{EntriesReader, TablesReader};
 use crate::item::ItemsReader;
+use crate::known::KnownRows;
 use crate::note::NotesReader;
 use crate::part::{HORIZON, LtxidsReader};
 use crate::request::ClientsReader;
@@ -101,12 +102,17 @@ pub(crate) fn image_from(
 
 /// The second part of the report, among its members, which are taken out.
 #[tactic(auto, unfolding(crate::specs::meaning::Reports::middle_in), using(json_form::proofs::Offered::others_stay, crate::proofs::Stays::image_stays, crate::proofs::Stays::back_stays))]
-fn middle_from(alloc: Global, members: &mut Members, print: bool) -> Result<Middle, DocFault>
+fn middle_from(
+    alloc: Global,
+    members: &mut Members,
+    known: &KnownRows,
+    print: bool,
+) -> Result<Middle, DocFault>
     ensures read { Gives result (middle_in print (members_at members.old)) }
     ensures back { IfOk result (λ _.
         back_in (members_at members.new) ≡ back_in (members_at members.old)) }
 {
-    let entries = members.read(alloc, "entries", &EntriesReader)?;
+    let entries = members.read(alloc, "entries", &EntriesReader { known })?;
     let forgotten = members.optional(alloc, "forgotten", &HORIZON, 0)?;
     let image = image_from(alloc, members, print)?;
     Ok(Middle {
@@ -126,11 +132,15 @@ pub struct Back {
 
 /// The last part of the report, among its members, which are taken out.
 #[tactic(auto, unfolding(crate::specs::meaning::Reports::back_in), using(json_form::proofs::Offered::others_stay))]
-fn back_from(alloc: Global, members: &mut Members) -> Result<Back, DocFault>
+fn back_from(alloc: Global, members: &mut Members, known: &KnownRows) -> Result<Back, DocFault>
     ensures { Gives result (back_in (members_at members.old)) }
 {
     let notes = members.read(alloc, "notes", &NotesReader)?;
-    let served = members.read(alloc, "served", &ItemsReader { notes: &notes })?;
+    let reader = ItemsReader {
+        notes: &notes,
+        known,
+    };
+    let served = members.read(alloc, "served", &reader)?;
     let tables = members.read(alloc, "tables", &TablesReader)?;
     Ok(Back {
         notes,
@@ -225,8 +235,9 @@ fn report_in_form(alloc: Global, value: Json, print: bool) -> Result<Report, Doc
 {
     let mut members = members_of(alloc, value, print)?;
     let front = front_from(alloc, &mut members)?;
-    let middle = middle_from(alloc, &mut members, print)?;
-    let back = back_from(alloc, &mut members)?;
+    let known = KnownRows::shown(alloc, &front.clients);
+    let middle = middle_from(alloc, &mut members, &known, print)?;
+    let back = back_from(alloc, &mut members, &known)?;
     Ok(report_with(front, middle, back))
 }
 

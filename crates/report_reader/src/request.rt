@@ -24,7 +24,7 @@ impl Reader<ShownCall> for ShownReader {
     #[tactic(auto, unfolding(crate::specs::meaning::Requests::shown_in), using(json_form::proofs::Offered::others_stay))]
     fn read(&self, alloc: Global, value: Json) -> Result<ShownCall, DocFault> {
         let mut parts = fixed(alloc, value, 3)?;
-        let answers = parts.read(alloc, 0, &AnswersReader)?;
+        let answers = parts.read(alloc, 0, &AnswersReader { known: None })?;
         let draws = parts.read(alloc, 1, &DrawsReader)?;
         let ltxid = parts.read(alloc, 2, &LtxidReader)?;
         Ok(ShownCall {

@@ -5,6 +5,7 @@ ghost use Rattle.report_reader.specs.meaning.Items.{served_in};
 ghost use Rattle.report_reader.specs.Ahead.{events_rise as events_rise_def};
 
 use crate::item::ServedReader;
+use crate::known::KnownRows;
 use crate::part::list_ahead;
 use outage_schedule::{Notes, Served, ServedItems};
 use std::alloc::Global;
@@ -31,13 +32,19 @@ pub(crate) fn served_ahead(
     tokens: &mut json::Reader<'_>,
     depth: usize,
     notes: &Notes,
+    known: &KnownRows,
 ) -> Option<ServedItems>
     ensures read { IfSome result
         (λ items. Begins (served_in notes.now) depth tokens.old items tokens.new) }
     ensures shorter { IfSome result (λ _. length tokens.new < length tokens.old) }
 {
     let notes = notes.as_slice();
-    let items = list_ahead(alloc, tokens, depth, &ServedReader { notes, last: 0 })?;
+    let reader = ServedReader {
+        notes,
+        last: 0,
+        known,
+    };
+    let items = list_ahead(alloc, tokens, depth, &reader)?;
     if !events_rise(items.as_slice()) {
         return None;
     }

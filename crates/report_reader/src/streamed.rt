@@ -11,6 +11,7 @@ ghost use Rattle.report_reader.specs.meaning.Reports.{report_members, report_in,
 ghost use Rattle.report_reader.specs.Ahead.{held_members, others_in, AreRead};
 
 use crate::entry::{entries_ahead, tables_ahead};
+use crate::known::KnownRows;
 use crate::note::notes_ahead;
 use crate::part::{HORIZON, LtxidsReader};
 use crate::report::{AlertsReader, image_from};
@@ -67,6 +68,14 @@ impl Ahead {
         }
     }
 
+    /// The rows that clients were shown, if clients were read.
+    fn known(&self, alloc: Global) -> KnownRows {
+        match self.clients.as_ref() {
+            Some(clients) => KnownRows::shown(alloc, clients),
+            None => KnownRows::new(alloc),
+        }
+    }
+
     fn take_clients(
         &mut self,
         alloc: Global,
@@ -92,7 +101,8 @@ impl Ahead {
             → Passes print depth (codes "entries") self.old tokens.old self.new tokens.new) }
         ensures shorter { IfSome result (λ _. length tokens.new < length tokens.old) }
     {
-        let entries = entries_ahead(alloc, tokens, depth)?;
+        let known = self.known(alloc);
+        let entries = entries_ahead(alloc, tokens, depth, &known)?;
         self.entries = Some(entries);
         Some(())
     }
@@ -127,7 +137,8 @@ impl Ahead {
         ensures shorter { IfSome result (λ _. length tokens.new < length tokens.old) }
     {
         let notes = self.notes.as_ref()?;
-        let served = served_ahead(alloc, tokens, depth, notes)?;
+        let known = self.known(alloc);
+        let served = served_ahead(alloc, tokens, depth, notes, &known)?;
         self.served = Some(served);
         Some(())
     }
