@@ -2,6 +2,8 @@ pub mod Steps
 pub mod Parts
 pub mod OneByOne
 pub mod TablesAhead
+pub mod RowsAhead
+pub mod EventsAhead
 pub mod ReadNumbers
 pub mod ReadTables
 pub mod ReadSequences

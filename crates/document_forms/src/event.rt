@@ -7,6 +7,7 @@ ghost use Rattle.document_forms.specs.meaning.Events.{count_of, pick_of, lost_pi
 ghost use Rattle.document_forms.specs.Keeping.{takes_store as takes_store_def};
 ghost use Rattle.json_form.specs.Streams.{Begins};
 
+use crate::event_ahead::{event_ahead, ltxid_ahead};
 use crate::number::whole;
 use call_forms::CallReader;
 use document_limits::{Count, Number};
@@ -36,7 +37,7 @@ pub enum EventWord {
 }
 
 /// Reads a connection, a number of bytes or of device calls, or a part of an identifier.
-struct CountReader;
+pub(crate) struct CountReader;
 
 impl Reader<u64> for CountReader {
     ghost reads = { λ s. count_of };
@@ -47,7 +48,7 @@ impl Reader<u64> for CountReader {
 }
 
 /// Reads which image a crash leaves.
-struct PickReader;
+pub(crate) struct PickReader;
 
 impl Reader<u8> for PickReader {
     ghost reads = { λ s. pick_of };
@@ -62,7 +63,7 @@ impl Reader<u8> for PickReader {
 }
 
 /// Reads which image a crash leaves of the second store, once the first one is lost.
-struct LostPickReader;
+pub(crate) struct LostPickReader;
 
 impl Reader<u8> for LostPickReader {
     ghost reads = { λ s. lost_pick_of };
@@ -74,7 +75,7 @@ impl Reader<u8> for LostPickReader {
 }
 
 /// Reads the calls of an `outside`.
-struct CallsReader;
+pub(crate) struct CallsReader;
 
 impl Reader<Calls> for CallsReader {
     ghost use Rattle.json_form.specs.meaning.Arrays.{array_of, each_of};
@@ -94,7 +95,7 @@ impl Reader<Calls> for CallsReader {
 }
 
 /// Reads an identifier.
-struct LtxidReader;
+pub(crate) struct LtxidReader;
 
 impl Reader<Ltxid> for LtxidReader {
     ghost reads = { λ s. ltxid_of };
@@ -110,6 +111,10 @@ impl Reader<Ltxid> for LtxidReader {
             session,
             number,
         })
+    }
+
+    fn ahead(&self, alloc: Global, tokens: &mut json::Reader<'_>, depth: usize) -> Option<Ltxid> {
+        ltxid_ahead(alloc, tokens, depth)
     }
 }
 
@@ -248,7 +253,7 @@ fn event_by(
     }
 }
 
-const WORDS: [(&str, EventWord); 12] = [
+pub(crate) const WORDS: [(&str, EventWord); 12] = [
     ("go", EventWord::Go),
     ("serve", EventWord::Serve),
     ("cut", EventWord::Cut),
@@ -278,6 +283,10 @@ impl Reader<Event> for EventReader {
         let EventReader { clients, standby } = *self;
         let word = head_from(alloc, &value, &WORDS)?;
         event_by(alloc, value, word, clients, standby)
+    }
+
+    fn ahead(&self, alloc: Global, tokens: &mut json::Reader<'_>, depth: usize) -> Option<Event> {
+        event_ahead(alloc, tokens, depth, self.clients, self.standby)
     }
 }
 

@@ -2,7 +2,9 @@
 #![tactic(auto)]
 
 mod event;
+mod event_ahead;
 mod number;
+mod row_ahead;
 mod script;
 mod sequence;
 mod service;

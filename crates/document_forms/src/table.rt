@@ -9,6 +9,7 @@ ghost use Rattle.document_forms.specs.meaning.Tables.{column_of, columns_of, kin
 ghost use Rattle.svc_values.specs.meaning.Schemas.{key_of as key_of_row};
 ghost use Rattle.json_form.specs.declared.fault.DocFault.TheVariants.{NoMemory};
 
+use crate::row_ahead::row_ahead;
 use crate::table_ahead::table_ahead;
 use call_forms::{NewNameReader, ValueReader, copied};
 use document_limits::Count;
@@ -74,7 +75,7 @@ pub(crate) fn columns_from(alloc: Global, value: Json) -> Result<Columns, DocFau
 }
 
 /// One value of a row: the first is the key, which does not stand before.
-fn field_from(
+pub(crate) fn field_from(
     alloc: Global,
     taken: &Taken<Value>,
     before: &[Value],
@@ -111,7 +112,7 @@ fn fields_from(
 }
 
 /// The row, if it fits the columns.
-fn fitting_row(alloc: Global, columns: &[Column], row: Row) -> Result<Row, DocFault>
+pub(crate) fn fitting_row(alloc: Global, columns: &[Column], row: Row) -> Result<Row, DocFault>
     ensures { Gives result (fitting columns.now row) }
 {
     if !values_fit(columns, row.as_slice()) {
@@ -154,6 +155,16 @@ impl KeyedReader<Row> for RowReader<'_> {
         let values = exact_from(alloc, value, self.columns.len())?;
         let fields = fields_from(alloc, taken, values)?;
         fitting_row(alloc, self.columns.as_slice(), Limited::from_vec(fields))
+    }
+
+    fn ahead(
+        &self,
+        alloc: Global,
+        taken: &Taken<Value>,
+        tokens: &mut json::Reader<'_>,
+        depth: usize,
+    ) -> Option<Row> {
+        row_ahead(alloc, taken, tokens, depth, self.columns)
     }
 }
 

@@ -1,13 +1,12 @@
 //! Reader of an object that has a document and a report.
-ghost use Rattle.std.specs.Prelude.{◌≡◌, ◌<◌, length, [], Some, None, Ok, IfOk, IfSome};
+ghost use Rattle.std.specs.Prelude.{◌≡◌, ◌<◌, [], Some, None, Ok, IfOk, IfSome};
 ghost use Rattle.json.specs.Json.{read_key};
 ghost use Rattle.serde_json.specs.Data.{Data, Members as MemberData, object};
 ghost use Rattle.serde_json.specs.Read.{read};
 ghost use Rattle.serde_json.specs.View.{view};
 ghost use Rattle.json_form.specs.Faults.{Gives};
-ghost use Rattle.json_form.specs.Streams.{Begins, members_ahead};
+ghost use Rattle.json_form.specs.Streams.{members_ahead};
 ghost use Rattle.doc_reader.specs.Keeping.{IsDocument};
-ghost use Rattle.doc_reader.specs.meaning.Documents.{document_of};
 ghost use Rattle.report_reader.specs.Keeping.{IsTold};
 ghost use Rattle.report_check.specs.meaning.Pairs.{pair_of, pair_at};
 
