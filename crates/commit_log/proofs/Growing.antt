@@ -148,10 +148,10 @@ module _ (old : List ℕ) (one : Record) (journal : Journal) (is_opened has_hori
   grown_by_one image (inr also) = grown_by_all old (one ∷ []) image (has_one image also)
 
 -- the base, in a store without a record
-pub journal_of_base : (old image : List ℕ) (base : Base) → IsBase base → records_of old ≡ Ok [] → HasAlso old (kept.Base base) image → journal_of image ≡ Ok (new_journal base)
-journal_of_base old image base is none also =
+pub begins_with_base : (old image : List ℕ) (base : Base) → IsBase base → records_of old ≡ Ok [] → HasAlso old (kept.Base base) image → so_far_of image ≡ Ok (Begun (new_journal base) false false)
+begins_with_base old image base is none also =
     let may : after Empty (kept.Base base) ≡ Some (Begun (new_journal base) false false) = ap (λ (b : Bool). if b then Some (Begun (new_journal base) false false) else None) is in
-    ap journal_in (so_far_after old image (kept.Base base) Empty (Begun (new_journal base) false false) (so_far_by_records old [] none) may also)
+    so_far_after old image (kept.Base base) Empty (Begun (new_journal base) false false) (so_far_by_records old [] none) may also
 
 -- ---- from call to call
 

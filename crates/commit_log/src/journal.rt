@@ -1,4 +1,6 @@
 //! What a journal holds.
+ghost use Rattle.std.specs.Prelude.{◌≡◌};
+ghost use Rattle.commit_log.specs.meaning.Rules.{new_journal};
 
 use crate::base::Base;
 use std::alloc::Global;
@@ -34,6 +36,23 @@ pub struct Journal {
     pub blocked: Ltxids,
     pub reserved: Blocks,
     pub alerts: Lines,
+}
+
+impl Journal {
+    /// A journal of nothing but its base. It takes no memory.
+    pub fn new(alloc: Global, base: Base) -> Journal
+        ensures { result ≡ new_journal base }
+    {
+        Journal {
+            base,
+            incarnation: 0,
+            horizon: 0,
+            entries: Entries::new(alloc),
+            blocked: Ltxids::new(alloc),
+            reserved: Blocks::new(alloc),
+            alerts: Lines::new(alloc),
+        }
+    }
 }
 
 impl TryCopy for Reservation {

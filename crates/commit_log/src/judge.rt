@@ -2,14 +2,13 @@
 ghost use Rattle.std.specs.Prelude.{◌≡◌, Some, None, OnOk, IfOk, IsErrOf, false};
 ghost use Rattle.svc_values.specs.meaning.Fitting.{writes_fit as writes_fit_def};
 ghost use Rattle.canon_bytes.specs.Entries.{FitsEntry};
-ghost use Rattle.commit_log.specs.meaning.Rules.{Empty, new_journal as new_journal_def, after, rises, may_forget, may_commit, may_block, may_reserve};
+ghost use Rattle.commit_log.specs.meaning.Rules.{Empty, after, rises, may_forget, may_commit, may_block, may_reserve};
 ghost use Rattle.commit_log.specs.meaning.Journals.{after_payload};
 ghost use Rattle.commit_log.specs.Judging.{so_far_in, Keeps};
 
-use crate::base::Base;
 use crate::checks::{is_base, shape_of};
 use crate::ends::{first_ends, is_next, note};
-use crate::journal::{Blocks, Entries, Journal, Lines, Ltxids, Reservation};
+use crate::journal::{Journal, Reservation};
 use crate::records::{Record, record_of};
 use ltxid_book::Book;
 use redo_store::RedoFault;
@@ -69,21 +68,6 @@ pub struct Judge {
     ends: Vec<i64>,
 }
 
-// A journal of nothing but its base.
-fn new_journal(alloc: Global, base: Base) -> Journal
-    ensures { result ≡ new_journal_def base }
-{
-    Journal {
-        base,
-        incarnation: 0,
-        horizon: 0,
-        entries: Entries::new(alloc),
-        blocked: Ltxids::new(alloc),
-        reserved: Blocks::new(alloc),
-        alerts: Lines::new(alloc),
-    }
-}
-
 // Whether each write fits what is declared.
 fn writes_fit(shape: &Shape, writes: &[Write]) -> bool
     ensures { result ≡ writes_fit_def shape.now.schemas writes.now }
@@ -107,7 +91,7 @@ impl Judge {
         let shape = shape_of(alloc, &base)?;
         let ends = first_ends(alloc, base.sequences.as_slice())?;
         Ok(Judge {
-            journal: new_journal(alloc, base),
+            journal: Journal::new(alloc, base),
             is_opened: false,
             has_horizon: false,
             book: Book::new(alloc),

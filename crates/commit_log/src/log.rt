@@ -1,5 +1,5 @@
 //! The log: a store that is opened for commits.
-ghost use Rattle.std.specs.Prelude.{◌≡◌, ◌+◌, ◌*◌, ◌<◌, ◌≤◌, ◌^◌, ◌⊎◌, [], ℕ, Bool, length, OnErr, OnOk, IfOk, IfSome, IfNone, IsErrOf, Ok, Err, Some};
+ghost use Rattle.std.specs.Prelude.{◌≡◌, ◌+◌, ◌*◌, ◌<◌, ◌≤◌, ◌^◌, ◌⊎◌, [], ℕ, Bool, false, length, OnErr, OnOk, IfOk, IfSome, IfNone, IsErrOf, Ok, Err, Some};
 ghost use Rattle.disk_model.specs.Disk.{Meanwhile, IsSettled, SameBytes, Lowers, Caused, OnlyReads};
 ghost use Rattle.redo_store.specs.meaning.Records.{records_of};
 ghost use Rattle.redo_store.specs.Redo.{CanAppend, StoreGoesOn, tail_of};
@@ -47,6 +47,8 @@ fn known_record(alloc: Global, payload: &[u8]) -> Result<Record, LogFault>
 pub struct Found {
     pub log: Log,
     pub journal: Journal,
+    /// It was opened before.
+    pub is_opened: bool,
     /// A horizon is stored in it.
     pub has_horizon: bool,
 }
@@ -76,16 +78,17 @@ impl Log {
         self.redo.count()
     }
 
-    /// Makes a store with this base on an empty disk, in six device calls.
+    /// Makes a store with this base on an empty disk, in six device calls, and gives the log to go on with behind it.
     ///
     /// The bytes of the base are made before the first of them. Nothing is claimed of a crash before it has answered
     /// `Ok`. After `Stopped` the disk may hold any part of the store.
-    pub fn create<D: Disk>(alloc: Global, disk: &mut D, base: &Base) -> Result<(), LogFault>
+    pub fn create<D: Disk>(alloc: Global, disk: &mut D, base: &Base) -> Result<Log, LogFault>
         requires empty { (D.state disk.old).now.seen ≡ [] }
         requires base { IsBase base.now }
 
         // The journal is that of the base alone, and it is durable.
-        ensures made { OnOk result (journal_of (D.state disk.new).now.seen ≡ Ok (new_journal base.now)) }
+        ensures made { OnOk result (so_far_of (D.state disk.new).now.seen ≡ Ok (Begun (new_journal base.now) false false)) }
+        ensures ready { IfOk result (λ log. CanAdd log (D.state disk.new)) }
         ensures settled { OnOk result (IsSettled (D.state disk.new)) }
 
         // For want of memory the disk is as it was, or holds a store without a record.
@@ -101,7 +104,8 @@ impl Log {
         };
         Redo::create(disk)?;
         let mut redo = Walk::begin(alloc, disk)?.finish();
-        redo.append_made(disk, made)
+        redo.append_made(disk, made)?;
+        Ok(Log { alloc, redo })
     }
 
     /// Reads the journal, and changes nothing.
@@ -135,7 +139,7 @@ impl Log {
 
     /// Reads the journal, and gives the log to go on with behind it, at the cost of one `read`. It changes nothing.
     pub fn find<D: Disk>(alloc: Global, disk: &mut D) -> Result<Found, LogFault>
-        ensures found { IfOk result (λ found. (is_opened : Bool) × (so_far_of (D.state disk.old).now.seen ≡ Ok (Begun found.journal is_opened found.has_horizon))) }
+        ensures found { IfOk result (λ found. so_far_of (D.state disk.old).now.seen ≡ Ok (Begun found.journal found.is_opened found.has_horizon)) }
         ensures ready { IsSettled (D.state disk.old) → IfOk result (λ found. CanAdd found.log (D.state disk.new)) }
 
         // The place is the first at which the bytes are no journal.
@@ -143,10 +147,12 @@ impl Log {
         ensures only_reads { OnlyReads (IsErrOf result LogFault.Stopped) (D.state disk.old) (D.state disk.new) }
     {
         let (redo, judge) = judge_all(alloc, disk)?;
+        let is_opened = judge.is_opened();
         let has_horizon = judge.has_horizon();
         Ok(Found {
             log: Log { alloc, redo },
             journal: judge.into_journal(),
+            is_opened,
             has_horizon,
         })
     }

@@ -1,4 +1,4 @@
-use Rattle.std.proofs.Common.{◌∷◌, ◌++◌, [], ℕ, Vec, Global, Some, sym, ap, ◌∙◌, arith, rules}
+use Rattle.std.proofs.Common.{◌∷◌, ◌++◌, [], ℕ, Vec, Global, sym, ap, ◌∙◌, arith, rules}
 use Rattle.redo_store.specs.Walk.{HasRead}
 use Rattle.redo_store.proofs.Offered.{few_behind}
 use Rattle.commit_log.specs.meaning.Journals.{whole_record}
