@@ -3,6 +3,7 @@ ghost use Rattle.std.specs.Prelude.{IfOk};
 ghost use Rattle.doc_reader.specs.Keeping.{IsDocument};
 ghost use Rattle.continuity_run.specs.meaning.Clauses.{IsReported, IsCovered, Tells};
 
+use crate::leaving::leave;
 use crate::run::run_document;
 use cover_core::{counts_of_run, cover_bytes};
 use outage_schedule::Document;
@@ -40,9 +41,12 @@ fn report_text(alloc: Global, document: Document) -> Result<Vec<u8>, NoMemory>
     requires document { IsDocument document }
     ensures { IfOk result (λ text. IsReported document text.items) }
 {
-    let (_, report) = run_document(alloc, document)?;
+    let (clients, report) = run_document(alloc, document)?;
     report_kept(&report);
-    report_bytes(alloc, &report)
+    let text = report_bytes(alloc, &report)?;
+    leave(clients);
+    leave(report);
+    Ok(text)
 }
 
 /// The text that tells how many calls of the document's report were protected.
@@ -53,5 +57,7 @@ fn cover_text(alloc: Global, document: Document) -> Result<Vec<u8>, NoMemory>
     let of = document.service;
     let (clients, report) = run_document(alloc, document)?;
     let counts = counts_of_run(alloc, &of, clients.as_slice(), report.clients.as_slice())?;
+    leave(clients);
+    leave(report);
     cover_bytes(alloc, counts.as_slice())
 }

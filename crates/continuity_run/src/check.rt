@@ -10,6 +10,7 @@ ghost use Rattle.continuity_run.specs.meaning.Clauses.{IsChecked, IsDenied, IsRe
 ghost use Rattle.continuity_run.specs.Clauses.{IsCheckedInPart, HasFault, IfDocument, IfNo, IsBefore, UnlessRead};
 ghost use Rattle.continuity_run.specs.Complete.{IsFaultlessOn, IsNo};
 
+use crate::leaving::leave;
 use crate::status::Status;
 use byte_streams::{ReadError, Sink, Source, read_to_limit, write_whole};
 use json_form::DocFault;
@@ -27,7 +28,10 @@ fn verdict_on(alloc: Global, bytes: Vec<u8>) -> Result<Verdict, DocFault>
     let pair = pair_from(alloc, bytes.as_slice());
     drop(bytes);
     let (document, report) = pair?;
-    match judge(alloc, &document, &report) {
+    let judged = judge(alloc, &document, &report);
+    leave(document);
+    leave(report);
+    match judged {
         Ok(verdict) => Ok(verdict),
         Err(NoMemory) => Err(DocFault::NoMemory),
     }

@@ -5,6 +5,7 @@ mod answer;
 mod check;
 mod indexes;
 pub mod laws;
+mod leaving;
 mod load;
 mod reporting;
 mod run;

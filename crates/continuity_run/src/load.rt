@@ -4,6 +4,7 @@ ghost use Rattle.doc_reader.specs.Keeping.{IsDocument};
 ghost use Rattle.continuity_run.specs.meaning.Load.{IsLined, IsLoaded};
 ghost use Rattle.command_words.specs.LoadWords.{HasLoadNumbers};
 
+use crate::leaving::leave;
 use crate::run::run_document;
 use load_document::{line_bytes, line_of, load_document};
 use load_laws::laws::loads_keep_total;
@@ -16,8 +17,10 @@ pub(crate) fn line_text(alloc: Global, document: Document) -> Result<Vec<u8>, No
     requires document { IsDocument document }
     ensures { IfOk result (λ text. IsLined document text.items) }
 {
-    let (_, report) = run_document(alloc, document)?;
+    let (clients, report) = run_document(alloc, document)?;
     let line = line_of(&report)?;
+    leave(clients);
+    leave(report);
     line_bytes(alloc, &line)
 }
 

@@ -1,6 +1,6 @@
 -- What a feed that carries frames answers, and what it carries behind each change.
 use Rattle.std.proofs.Common.{◌≡◌, ℕ, ◌-◌, Bool, true, false, List, [], ◌∷◌, ◌++◌, Option, Some, None, Result, Ok, Err, length, take, min, refl, sym, ap, ◌∙◌, subst, append_assoc}
-use Rattle.std.specs.Prelude.{sum_by, nat_le, if◌then◌else◌}
+use Rattle.std.specs.Prelude.{is_some, sum_by, nat_le, if◌then◌else◌}
 use Rattle.std.proofs.lemmas.Grind.{flat_map-append}
 use Rattle.std.proofs.lemmas.List.{append-nil, take_min}
 use Rattle.std.proofs.lemmas.List.Concat.{length-flat_map}
@@ -14,6 +14,10 @@ use Rattle.world_core.specs.Carrying.{Carries}
 no_bytes : first_payload [] ≡ None
 unfolding first_payload
 no_bytes = refl
+
+none_found : {A : Type 0} (found : Option A) → is_some found ≡ false → found ≡ None
+none_found None e = refl
+none_found (Some found) e = absurd (let none : ⊥ = cc in none)
 
 true_false : {A : Type 0} → false ≡ true → A
 true_false e = absurd (let none : ⊥ = cc in none)
@@ -85,6 +89,14 @@ module _ {F : Type 0} (spell : F → List ℕ) (fits : F → Type 0) where
       let left : Pending = record { bytes = stream spell fits fs ++ c.part; bad = false } in
       let stands : StandsFirst spell fits held.bytes f left.bytes = record { front = c.bytes ∙ append_assoc (spell_bytes (spell f)) (stream spell fits fs) c.part; fitting = c.are.0.0; short = c.are.0.1 } in
       (Some f, (left, (c.good, stands, refl)))
+
+  -- where no whole frame stands, the bytes of a part are given up
+  pub carries_back : (one : OneAnswer) (held : Pending) → is_some (first_payload held.bytes) ≡ false → (is_open : Bool) (frames : List F) → Carries spell fits is_open frames held
+      → Carries spell fits is_open frames (with_first held 0)
+  carries_back one held none is_open [] c = record { good = c.good; are = tt; part = []; bytes = refl; rest = no_bytes; whole = λ e. refl }
+  carries_back one held none is_open (f ∷ fs) c =
+      let told = front_is_next one is_open f fs held held None c (c.good, none_found (first_payload held.bytes) none, refl) in
+      absurd (let clash : ◌≡◌ {A = Option F} None (Some f) = told.0 in let no : ⊥ = cc in no)
 
   bad_memory : ◌≡◌ {A = Answer} (Err BadFrame) (Err NoMemory) → ⊥
   bad_memory e = cc

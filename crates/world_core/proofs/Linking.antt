@@ -21,7 +21,7 @@ use Rattle.outage_schedule.specs.declared.note.Reached.{Reached}
 use Rattle.world_model.specs.meaning.Frames.{Sent, Reply, up_size, down_size, whole_front}
 use Rattle.world_model.specs.meaning.Links.{Link, new_link, ends, is_close, sends, told_by}
 use Rattle.world_model.specs.meaning.Serving.{Front, first_of, front_of}
-use Rattle.world_model.specs.meaning.Cutting.{reached_of, cut_link}
+use Rattle.world_model.specs.meaning.Cutting.{reached_of, cut_link, reaped_link}
 use Rattle.world_model.specs.meaning.Crashing.{fallen_link}
 use Rattle.world_core.specs.declared.connection.Connection.{Connection}
 use Rattle.world_core.specs.Carrying.{Carries}
@@ -137,9 +137,13 @@ sends_by event frames b closes link sent same =
 
 -- SERVING AND TAKING ------------------------------------------------------------------------------
 
-gives_front : (c : Connection) (after : Pending) (frame : Option Up) → OneAnswer spell_up FitsUp → IsNext spell_up FitsUp c.up (Ok frame) after
-    → (link : Link) (sent : List Sent) → link.up ≡ sent → IsLink c link → GivesFront link (first_of link sent) frame (record c { up = after })
-gives_front c after frame one next link [] same is =
+-- whatever the one carries, the other does
+abbrev Carried : {F : Type 0} → (F → List ℕ) → (F → Type 0) → Pending → Pending → Type 0
+Carried {F} spell fits after kept = (is_open : Bool) (frames : List F) → Carries spell fits is_open frames after → Carries spell fits is_open frames kept
+
+gives_front : (c : Connection) (after kept : Pending) (frame : Option Up) → OneAnswer spell_up FitsUp → IsNext spell_up FitsUp c.up (Ok frame) after → Carried spell_up FitsUp after kept
+    → (link : Link) (sent : List Sent) → link.up ≡ sent → IsLink c link → GivesFront link (first_of link sent) frame (record c { up = kept })
+gives_front c after kept frame one next back link [] same is =
     let before : Ups link.is_open [] c.up = subst (λ (s : List Sent). Ups link.is_open (up_frames s) c.up) same is.up in
     let told = none_is_next spell_up FitsUp one link.is_open c.up after frame before next in (
       told.0,
@@ -150,14 +154,14 @@ gives_front c after frame one next link [] same is =
         living = is.living;
         session = is.session;
         ltxid = is.ltxid;
-        up = subst (λ (s : List Sent). Ups link.is_open (up_frames s) after) (sym same) told.1;
+        up = subst (λ (s : List Sent). Ups link.is_open (up_frames s) kept) (sym same) (back link.is_open [] told.1);
         made = is.made;
         down = is.down;
         told = is.told;
         known = is.known;
       },
     )
-gives_front c after frame one next link (first ∷ later) same is =
+gives_front c after kept frame one next back link (first ∷ later) same is =
     let before : Ups link.is_open (first.frame ∷ up_frames later) c.up = subst (λ (s : List Sent). Ups link.is_open (up_frames s) c.up) same is.up in
     let told = front_is_next spell_up FitsUp one link.is_open first.frame (up_frames later) c.up after frame before next in (
       told.0,
@@ -168,7 +172,7 @@ gives_front c after frame one next link (first ∷ later) same is =
         living = is.living;
         session = is.session;
         ltxid = is.ltxid;
-        up = told.1;
+        up = back link.is_open (up_frames later) told.1;
         made = (subst AreMade same is.made).1;
         down = is.down;
         told = is.told;
@@ -180,10 +184,10 @@ living_front : (b : Bool) (link : Link) → b ≡ true → first_of link link.up
 living_front true link e = refl
 living_front false link e = absurd (let none : ⊥ = cc in none)
 
-pub gives_living_front : (c : Connection) (after : Pending) (frame : Option Up) → OneAnswer spell_up FitsUp → IsNext spell_up FitsUp c.up (Ok frame) after → c.is_living ≡ true
-    → (link : Link) → IsLink c link → GivesFront link (front_of link) frame (record c { up = after })
-gives_living_front c after frame one next living link is =
-    subst (λ (front : Option Front). GivesFront link front frame (record c { up = after })) (living_front link.is_living link (is.living ∙ living)) (gives_front c after frame one next link link.up refl is)
+pub gives_living_front : (c : Connection) (after kept : Pending) (frame : Option Up) → OneAnswer spell_up FitsUp → IsNext spell_up FitsUp c.up (Ok frame) after → Carried spell_up FitsUp after kept → c.is_living ≡ true
+    → (link : Link) → IsLink c link → GivesFront link (front_of link) frame (record c { up = kept })
+gives_living_front c after kept frame one next back living link is =
+    subst (λ (front : Option Front). GivesFront link front frame (record c { up = kept })) (living_front link.is_living link (is.living ∙ living)) (gives_front c after kept frame one next back link link.up refl is)
 
 no_front : (link : Link) (up : List Sent) (after : Connection) → GivesFront link (first_of link up) None after → is_some (first_of link up) ≡ false
 no_front link [] after gives = refl
@@ -197,7 +201,7 @@ some_front c link [] payload same is some =
 some_front c link (first ∷ later) payload same is some = refl
 
 front_found : (c : Connection) → OneAnswer spell_up FitsUp → (link : Link) → IsLink c link → (found : Option (List ℕ)) → first_payload c.up.bytes ≡ found → is_some found ≡ is_some (first_of link link.up)
-front_found c one link is None none = sym (no_front link link.up (record c { up = c.up }) (gives_front c c.up None one (is.up.good, none, refl) link link.up refl is))
+front_found c one link is None none = sym (no_front link link.up (record c { up = c.up }) (gives_front c c.up c.up None one (is.up.good, none, refl) (λ is_open frames there. there) link link.up refl is))
 front_found c one link is (Some payload) some = sym (some_front c link link.up payload refl is some)
 
 -- whether a frame may be served is told by whether a whole one stands there
@@ -207,6 +211,22 @@ front_stands c one link is = by c.is_living is.living
     by : (living : Bool) → link.is_living ≡ living → (living && is_some (first_payload c.up.bytes)) ≡ is_some (front_of link)
     by true lives = front_found c one link is (first_payload c.up.bytes) refl ∙ ap (λ (front : Option Front). is_some front) (living_front link.is_living link lives)
     by false dead = ap (λ (front : Option Front). is_some front) (sym (ap (λ (b : Bool). if b then first_of link link.up else None) dead))
+
+-- its session is ended
+pub reaped_is_link : (c : Connection) (kept : Pending) → Carried spell_up FitsUp c.up kept → (link : Link) → IsLink c link → IsLink (record c { is_living = false; up = kept }) (reaped_link link)
+reaped_is_link c kept back link is = record {
+  is_open = is.is_open;
+  ended = is.ended;
+  cut = is.cut;
+  living = refl;
+  session = is.session;
+  ltxid = is.ltxid;
+  up = back link.is_open (up_frames link.up) is.up;
+  made = is.made;
+  down = is.down;
+  told = is.told;
+  known = is.known;
+}
 
 told_same : (frame : Down) (alive : Bool) → told_by_frame frame ≡ told_by (Took frame alive)
 told_same (down.Hello ltxid) alive = refl
@@ -219,9 +239,9 @@ told_same (down.Refused cause) alive = refl
 abbrev taken : Connection → Pending → Option Down → Connection
 taken c after reply = record c { held = option_or (option_and_then told_by_frame reply) c.held; down = after }
 
-pub gives_reply : (c : Connection) (after : Pending) (reply : Option Down) → OneAnswer spell_down FitsDown → IsNext spell_down FitsDown c.down (Ok reply) after
-    → (link : Link) (replies : List Reply) → link.down ≡ replies → IsLink c link → GivesReply link replies reply (taken c after reply)
-gives_reply c after reply one next link [] same is =
+pub gives_reply : (c : Connection) (after kept : Pending) (reply : Option Down) → OneAnswer spell_down FitsDown → IsNext spell_down FitsDown c.down (Ok reply) after → Carried spell_down FitsDown after kept
+    → (link : Link) (replies : List Reply) → link.down ≡ replies → IsLink c link → GivesReply link replies reply (taken c kept reply)
+gives_reply c after kept reply one next back link [] same is =
     let before : Downs link.is_open [] c.down = subst (λ (r : List Reply). Downs link.is_open (down_frames r) c.down) same is.down in
     let told = none_is_next spell_down FitsDown one link.is_open c.down after reply before next in (
       told.0,
@@ -234,12 +254,12 @@ gives_reply c after reply one next link [] same is =
         ltxid = is.ltxid ∙ ap (λ (r : Option Down). option_or (option_and_then told_by_frame r) c.held) (sym told.0);
         up = is.up;
         made = is.made;
-        down = subst (λ (r : List Reply). Downs link.is_open (down_frames r) after) (sym same) told.1;
+        down = subst (λ (r : List Reply). Downs link.is_open (down_frames r) kept) (sym same) (back link.is_open [] told.1);
         told = is.told;
         known = subst (λ (r : Option Down). IfSome (option_or (option_and_then told_by_frame r) c.held) IsLtxid) (sym told.0) is.known;
       },
     )
-gives_reply c after reply one next link (first ∷ left) same is =
+gives_reply c after kept reply one next back link (first ∷ left) same is =
     let before : Downs link.is_open (first.frame ∷ down_frames left) c.down = subst (λ (r : List Reply). Downs link.is_open (down_frames r) c.down) same is.down in
     let told = front_is_next spell_down FitsDown one link.is_open first.frame (down_frames left) c.down after reply before next in
     let identifier : option_or (told_by (Took first.frame link.is_open)) link.held ≡ option_or (option_and_then told_by_frame reply) c.held =
@@ -254,7 +274,7 @@ gives_reply c after reply one next link (first ∷ left) same is =
         ltxid = identifier;
         up = is.up;
         made = is.made;
-        down = told.1;
+        down = back link.is_open (down_frames left) told.1;
         told = (subst AreTold same is.told).1;
         known = subst (λ (r : Option Down). IfSome (option_or (option_and_then told_by_frame r) c.held) IsLtxid) (sym told.0) (known_by first.frame c.held (subst AreTold same is.told).0 is.known);
       },

@@ -1,5 +1,5 @@
 //! A connection, with its session.
-ghost use Rattle.std.specs.Prelude.{◌≡◌, ◌⊎◌, List, [], OnOk, IfOk, IfSome, is_some, option_and_then, if◌then◌else◌};
+ghost use Rattle.std.specs.Prelude.{◌≡◌, ◌⊎◌, Bool, List, [], OnOk, IfOk, IfSome, is_some, option_and_then, if◌then◌else◌};
 ghost use Rattle.std.specs.Option.{option_or};
 ghost use Rattle.outage_schedule.specs.declared.item.Served.{Served};
 ghost use Rattle.std.specs.List.{list_any, AllByRecursion};
@@ -14,11 +14,13 @@ ghost use Rattle.world_model.specs.meaning.Links.{Link, new_link, ends, is_close
 ghost use Rattle.world_model.specs.meaning.Serving.{Front, is_last as is_last_def, front_of, after_front};
 ghost use Rattle.world_model.specs.meaning.Cutting.{reached_of, cut_link, reaped_link};
 ghost use Rattle.world_model.specs.meaning.Crashing.{fallen_link};
+ghost use Rattle.world_core.specs.Carrying.{Carries};
 ghost use Rattle.world_core.specs.CutBytes.{KeepsFirst};
 ghost use Rattle.world_core.specs.Linked.{up_frames, told_by_frame, lives_on, may_be_served, IsLink, IsSomeLink, GivesFront, GivesReply};
 
+use canon_bytes::Take;
 use frame_wire::{
-    DownFeed, FrameFault, UpFeed, any_cut, cut_leaves_whole_frames, encode_down, encode_up,
+    DownFeed, Feed, FrameFault, UpFeed, any_cut, cut_leaves_whole_frames, encode_down, encode_up,
 };
 use outage_schedule::Reached;
 use pool_core::Pool;
@@ -79,6 +81,19 @@ fn push_up(alloc: Global, feed: &mut UpFeed, frames: &[Up]) -> Result<(), NoMemo
     Ok(())
 }
 
+/// Gives back the memory of a feed in which no whole frame stands: a part of one is all that may
+/// be there, and what is pushed behind one stands alone. Constant.
+fn give_back<F: Take>(feed: &mut Feed<F>)
+    ensures { (is_open : Bool) (frames : List F)
+        → Carries F.spelling F.fits is_open frames feed.old
+        → Carries F.spelling F.fits is_open frames feed.new }
+{
+    any_cut::<F>();
+    if !feed.has_frame() {
+        feed.keep_first(0);
+    }
+}
+
 impl Connection {
     /// A connection that was opened now. It takes no memory.
     pub(crate) fn new(alloc: Global) -> Connection
@@ -129,11 +144,13 @@ impl Connection {
             return Ok(None);
         }
         any_cut::<Up>();
-        match self.up.next() {
-            Ok(frame) => Ok(frame),
-            Err(FrameFault::NoMemory) => Err(NoMemory),
+        let frame = match self.up.next() {
+            Ok(frame) => frame,
+            Err(FrameFault::NoMemory) => return Err(NoMemory),
             Err(FrameFault::BadFrame) => unreachable!(),
-        }
+        };
+        give_back(&mut self.up);
+        Ok(frame)
     }
 
     /// Whether a frame may be served: a whole one stands there, and the session lives. Constant.
@@ -184,6 +201,7 @@ impl Connection {
             Err(FrameFault::NoMemory) => return Err(NoMemory),
             Err(FrameFault::BadFrame) => unreachable!(),
         };
+        give_back(&mut self.down);
         self.held = told_by(&reply).or(self.held);
         Ok(reply)
     }
@@ -224,6 +242,7 @@ impl Connection {
         ensures { (link : Link) → IsLink self.old link → IsLink self.new (reaped_link link) }
     {
         self.is_living = false;
+        give_back(&mut self.up);
     }
 
     /// Leaves the pool, where it is idle under this number, if it is open.

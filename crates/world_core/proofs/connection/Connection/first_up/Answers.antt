@@ -8,8 +8,8 @@ use Rattle.world_core.proofs.Carrying.{never_bad}
 use Rattle.world_core.proofs.Linking.{gives_living_front}
 use Rattle.world_core.proofs.connection.Connection.first_up.Goals as goal
 
-pub returns-in-Ok : goal.returns-in-Ok
-returns-in-Ok c = gives_living_front c.args.self.now c.next.new.self c.in-Ok.frame c.any_cut.ensures.one_answer c.in-Ok.ensures c.if-not-self.false
+pub returns : goal.returns
+returns c = gives_living_front c.args.self.now c.next.new.self c.give_back.new.feed c.in-Ok.frame c.any_cut.ensures.one_answer c.in-Ok.ensures c.give_back.ensures c.if-not-self.false
 
 -- what stands there was spelled
 pub unreachable-requires : goal.unreachable-requires
