@@ -59,7 +59,7 @@ module _ (document : Document) (is : IsDocument document) (store : Store) (made 
   -- whatever is seen of a new service that goes by the document
   begins_so : (sees : Seen → Type 0) (scripts : List Client) (schedule : List Event) (seen : Seen) → scripts ≡ document.clients → schedule ≡ document.schedule → sees seen → IsNew seen → seen.state.is_quiet ≡ true
       → seen.state.per_record ≡ per_record_of document.service → seen.start ≡ service_base document → IsSound (service_base document)
-      → IsRunOf sees (rules_of document.service.failover document.service.consistency) document.service scripts schedule store.opened document
+      → IsRunOf sees (rules_of document.service.failover document.service.consistency) document.service scripts schedule store.found.is_opened document
   begins_so sees scripts schedule seen same_scripts same_schedule seen_so new quiet records start sound = record {
     kept = is;
     schedule_is = sym same_schedule;
@@ -87,7 +87,7 @@ module _ (document : Document) (is : IsDocument document) (store : Store) (made 
       → service ≡ made_on (mem_state store.disk) grants
       → ((journal : Journal) → journal_of (mem_state store.disk).now.seen ≡ Ok journal → IsSound (begins_with journal grants))
       → ((journal : Journal) → journal_of (mem_state store.disk).now.seen ≡ Ok journal → SeesIn service (seen_new service (begins_with journal grants)) × IsNew (seen_new service (begins_with journal grants)))
-      → IsRunOf (SeesIn service) (rules_of document.service.failover document.service.consistency) document.service scripts schedule store.opened document
+      → IsRunOf (SeesIn service) (rules_of document.service.failover document.service.consistency) document.service scripts schedule store.found.is_opened document
   run_begins scripts schedule grants service alone same_scripts same_schedule granted on sound seen =
       let base = begins grants granted in
       let new = seen (journal_before document) made.reads in
@@ -99,7 +99,7 @@ module _ (document : Document) (is : IsDocument document) (store : Store) (made 
       → grants ≡ grants_of document.service.keep → mem_state second ≡ new_disk bytes → pair ≡ made_of (mem_state store.disk) (mem_state second) grants
       → ((journal : Journal) → journal_of (mem_state store.disk).now.seen ≡ Ok journal → IsSound (begins_with journal grants))
       → ((journal : Journal) → journal_of (mem_state store.disk).now.seen ≡ Ok journal → SeesPair pair (seen_new_pair pair (begins_with journal grants)) × IsNew (seen_new_pair pair (begins_with journal grants)))
-      → IsRunOf (SeesPair pair) (rules_of document.service.failover document.service.consistency) document.service scripts schedule store.opened document
+      → IsRunOf (SeesPair pair) (rules_of document.service.failover document.service.consistency) document.service scripts schedule store.found.is_opened document
   pair_begins scripts schedule grants second bytes pair two same_scripts same_schedule granted fresh of sound seen =
       let base = begins grants granted in
       let new = seen (journal_before document) made.reads in

@@ -2,6 +2,7 @@ mod Beginning
 mod Checked
 mod Documents
 mod Ending
+mod Founding
 mod Headlines
 mod Images
 mod Indexing

@@ -177,13 +177,14 @@ pub fn run_document(alloc: Global, document: Document) -> Result<(Clients, Repor
     let indexes = indexes_of(alloc, tables.as_slice())?;
     let Store {
         disk,
-        opened,
+        found,
         before,
     } = store_of(alloc, tables, sequences, image)?;
+    let opened = found.is_opened;
     let grants = grants_of(of.keep);
     if of.standby {
         let second = MemDisk::of(alloc, disk.bytes())?;
-        let service = Pair::indexed(alloc, disk, second, grants, indexes);
+        let service = Pair::known(alloc, disk, second, grants, indexes, found)?;
         let report = run_over(
             alloc,
             &of,
@@ -196,7 +197,7 @@ pub fn run_document(alloc: Global, document: Document) -> Result<(Clients, Repor
         )?;
         return Ok((clients, report));
     }
-    let service = OneService::indexed(alloc, disk, grants, indexes);
+    let service = OneService::known(alloc, disk, grants, indexes, found)?;
     let report = run_over(
         alloc,
         &of,

@@ -3,30 +3,32 @@ ghost use Rattle.std.specs.Prelude.{◌≡◌, ◌≤◌, ℕ, None, Some, Err, 
 ghost use Rattle.std.specs.List.{list_all};
 ghost use Rattle.std.specs.Str.{bytes_eq};
 ghost use Rattle.json_form.specs.Arrays.{have_distinct_keys};
-ghost use Rattle.disk_model.specs.Disk.{OnlyReads};
+ghost use Rattle.disk_model.specs.Disk.{IsSettled, OnlyReads};
 ghost use Rattle.disk_model.specs.Mem.{mem_state};
 ghost use Rattle.commit_log.specs.declared.base.Base.{Base as Start};
 ghost use Rattle.commit_log.specs.Bases.{IsBase};
-ghost use Rattle.commit_log.specs.meaning.Journals.{so_far_of, journal_of, is_opened};
+ghost use Rattle.commit_log.specs.meaning.Journals.{journal_of};
 ghost use Rattle.document_forms.specs.Keeping.{is_sequence, is_table};
 ghost use Rattle.doc_reader.specs.Keeping.{is_begin};
 ghost use Rattle.run_clauses.specs.meaning.Before.{base_table, base_sequence};
-ghost use Rattle.continuity_run.specs.Stores.{CountsOf, IsStoreOf, IsUntroubled, table_name, sequence_name};
+ghost use Rattle.service_core.specs.Starting.{IsFoundOn};
+ghost use Rattle.continuity_run.specs.Stores.{Counts, IsStoreOf, IsUntroubled, table_name, sequence_name};
 
 use commit_log::{
-    Base, BaseRows, BaseSequence, BaseSequences, BaseTable, BaseTables, Log, LogFault,
+    Base, BaseRows, BaseSequence, BaseSequences, BaseTable, BaseTables, Found, Journal, Log,
+    LogFault,
 };
 use disk_model::MemDisk;
 use outage_schedule::{DocSequences, DocTable, DocTables, Image};
 use std::alloc::Global;
 use svc_values::{NoMemory, Schema};
 
-/// A disk with a store, whether the store was opened before, and how many entries, blocks and lines
-/// it has.
+/// A disk with a store, what is known of the store without a further reading, and how many entries,
+/// blocks and lines it has.
 #[derive(Drop)]
 pub(crate) struct Store {
     pub(crate) disk: MemDisk,
-    pub(crate) opened: bool,
+    pub(crate) found: Found,
     pub(crate) before: Before,
 }
 
@@ -82,47 +84,55 @@ fn sequences_in(alloc: Global, sequences: DocSequences) -> Result<BaseSequences,
     Ok(BaseSequences::from_vec(all))
 }
 
-/// A new store of this base.
+/// What a journal has.
+fn counts_of(journal: &Journal) -> Before
+    ensures { Counts journal.now result }
+{
+    Before {
+        entries: journal.entries.len(),
+        blocked: journal.blocked.len(),
+        alerts: journal.alerts.len(),
+    }
+}
+
+/// A new store of this base, whose rows are what is known of it.
 fn created(alloc: Global, base: Base) -> Result<Store, NoMemory>
     requires { IsBase base }
     ensures { IfOk result (IsStoreOf base None) }
 {
     let mut disk = MemDisk::new(alloc);
     match Log::create(alloc, &mut disk, &base) {
-        Ok(()) => Ok(Store {
-            disk,
-            opened: false,
-            before: Before {
-                entries: 0,
-                blocked: 0,
-                alerts: 0,
-            },
-        }),
+        Ok(log) => {
+            let journal = Journal::new(alloc, base);
+            let before = counts_of(&journal);
+            let found = Found {
+                log,
+                journal,
+                is_opened: false,
+                has_horizon: false,
+            };
+            Ok(Store {
+                disk,
+                found,
+                before,
+            })
+        }
         Err(LogFault::NoMemory) => Err(NoMemory),
         Err(LogFault::Stopped) => unreachable!(),
         Err(LogFault::Damaged(_)) => unreachable!(),
     }
 }
 
-/// What the store of this disk has, and whether it was opened.
-fn looked_at(alloc: Global, disk: &mut MemDisk) -> Result<(Before, bool), NoMemory>
+/// What is found of the store of this disk, by one reading.
+fn found_on(alloc: Global, disk: &mut MemDisk) -> Result<Found, NoMemory>
+    requires settled { IsSettled (mem_state disk.old) }
     requires untroubled { IsUntroubled (mem_state disk.old) }
     requires whole { (place : ℕ) → journal_of (mem_state disk.old).now.seen ≡ Err place → ⊥ }
-    ensures counts { IfOk result (λ found.
-        CountsOf (journal_of (mem_state disk.old).now.seen) found.0) }
-    ensures opened { IfOk result (λ found.
-        found.1 ≡ is_opened (so_far_of (mem_state disk.old).now.seen)) }
+    ensures found { IfOk result (IsFoundOn (mem_state disk.new)) }
     ensures only_reads { OnOk result (OnlyReads ⊥ (mem_state disk.old) (mem_state disk.new)) }
 {
-    match Log::look(alloc, disk) {
-        Ok((journal, is_opened)) => {
-            let before = Before {
-                entries: journal.entries.len(),
-                blocked: journal.blocked.len(),
-                alerts: journal.alerts.len(),
-            };
-            Ok((before, is_opened))
-        }
+    match Log::find(alloc, disk) {
+        Ok(found) => Ok(found),
         Err(LogFault::NoMemory) => Err(NoMemory),
         Err(LogFault::Stopped) => unreachable!(),
         Err(LogFault::Damaged(_)) => unreachable!(),
@@ -135,10 +145,11 @@ fn pictured(alloc: Global, image: Image) -> Result<Store, NoMemory>
     ensures { IfOk result (λ store. (base : Start) → IsStoreOf base (Some image) store) }
 {
     let mut disk = MemDisk::over(alloc, image.into_vec())?;
-    let (before, opened) = looked_at(alloc, &mut disk)?;
+    let found = found_on(alloc, &mut disk)?;
+    let before = counts_of(&found.journal);
     Ok(Store {
         disk,
-        opened,
+        found,
         before,
     })
 }

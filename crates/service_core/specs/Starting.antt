@@ -3,8 +3,11 @@ use Rattle.std.specs.Prelude.{◌≡◌, ◌≤◌, ◌^◌, true, false, [], No
 use Rattle.disk_model.specs.Disk.{DiskState, IsSettled}
 use Rattle.mutable_values.specs.declared.grants.Grants.{Grants}
 use Rattle.commit_log.specs.declared.journal.Journal.{Journal}
+use Rattle.commit_log.specs.declared.log.Found.{Found}
+use Rattle.commit_log.specs.Logs.{CanAdd}
 use Rattle.commit_log.specs.meaning.Bases.{shape_of}
-use Rattle.commit_log.specs.meaning.Journals.{journal_of}
+use Rattle.commit_log.specs.meaning.Journals.{so_far_of, journal_of}
+use Rattle.commit_log.specs.meaning.Rules.{Begun}
 use Rattle.server_model.specs.meaning.Base.{Base}
 use Rattle.server_model.specs.Seen.{Seen}
 use Rattle.server_session.specs.Fits.{tables_of, sequence_of}
@@ -20,6 +23,11 @@ pub record CanBegin (disk : DiskState) : Type 0 where
   pub journal : Journal
   pub reads : journal_of disk.now.seen ≡ Ok journal
   pub room : journal.incarnation ≤ 2 ^ 62
+
+-- This was found of the disk's store: its journal, and the log to go on with behind it.
+pub record IsFoundOn (disk : DiskState) (found : Found) : Type 0 where
+  pub so_far : so_far_of disk.now.seen ≡ Ok (Begun found.journal found.is_opened found.has_horizon)
+  pub log : CanAdd found.log disk
 
 -- nothing was called
 abbrev pub first_notes : Notes

@@ -15,7 +15,7 @@ ghost use Rattle.service_core.specs.Keeping.{RestsBy};
 use crate::again::renewed;
 use crate::resting::Resting;
 use commit_log::laws::{keeps_journal, raises_horizon};
-use commit_log::{BaseSequence, Journal, Log, LogFault};
+use commit_log::{BaseSequence, Found, Journal, Log, LogFault};
 use disk_model::Disk;
 use journal_tables::indexed_tables_of;
 use ltxid_book::Book;
@@ -105,17 +105,31 @@ fn read_whole<D: Disk>(
 {
     keeps_journal();
     match Log::find(alloc, disk) {
-        Ok(found) => {
-            let core = core_of(alloc, found.log, found.journal, grants, indexes)?;
-            Ok(Resting {
-                core,
-                has_horizon: found.has_horizon,
-            })
-        }
+        Ok(found) => Ok(resting_of(alloc, found, grants, indexes)?),
         Err(LogFault::NoMemory) => Err(ServeFault::NoMemory),
         Err(LogFault::Stopped) => Err(ServeFault::Stopped),
         Err(LogFault::Damaged(_)) => unreachable!(),
     }
+}
+
+/// What is kept of a service on a store of which this was found. The journal's rows are moved into
+/// the tables.
+pub(crate) fn resting_of(
+    alloc: Global,
+    found: Found,
+    grants: Grants,
+    indexes: &[IndexOf],
+) -> Result<Resting, NoMemory>
+    requires journal { CanGoOn found.journal }
+    requires indexes { IsTrue (list_all (is_index_of (schemas_of found.journal.base)) indexes.now) }
+    ensures core { IfOk result (λ resting. IsCoreOf found.log found.journal grants resting.core) }
+    ensures horizon { IfOk result (λ resting. resting.has_horizon ≡ found.has_horizon) }
+{
+    let core = core_of(alloc, found.log, found.journal, grants, indexes)?;
+    Ok(Resting {
+        core,
+        has_horizon: found.has_horizon,
+    })
 }
 
 /// What sessions share at an opening with this log and journal.

@@ -7,14 +7,14 @@ use Rattle.service_core.specs.Starting.{first_notes, made_on, base_of, seen_new}
 use Rattle.service_core.specs.Within.{Within}
 use Rattle.service_core.proofs.Beginning.{base_sound}
 use Rattle.service_core.proofs.Made.{made_soundly, made_seen, made_new}
-use Rattle.service_core.proofs.one.OneService.indexed.Goals as goal
+use Rattle.service_core.proofs.one.OneService.resting_on.Goals as goal
 
 pub invariant_of-result-2 : goal.invariant_of-result-2
 invariant_of-result-2 g c = record {
   kept = λ live.
       let disk = g.D.Disk.state c.args.disk in
       subst (λ (h : Held). IsDown disk h first_notes) (sym c.new.ensures) (made_soundly disk c.args.grants c.requires.begins (g.met.D.Disk.reads_now c.args.disk));
-  at_rest = λ live down. tt;
+  at_rest = λ live down. c.requires.resting;
 }
 
 pub returns-clause-seen : goal.returns-clause-seen
