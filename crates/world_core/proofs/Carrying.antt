@@ -11,7 +11,7 @@ use Rattle.frame_wire.specs.Stream.{Pending, nothing_pending, with_bytes, with_f
 use Rattle.frame_wire.specs.Steps.{stream, AreFrames, frame_size, IsWholeFront}
 use Rattle.world_core.specs.Carrying.{Carries}
 
-no_bytes : first_payload [] ≡ None
+pub no_bytes : first_payload [] ≡ None
 unfolding first_payload
 no_bytes = refl
 

@@ -1,5 +1,5 @@
 //! A connection, with its session.
-ghost use Rattle.std.specs.Prelude.{◌≡◌, ◌⊎◌, Bool, List, [], OnOk, IfOk, IfSome, is_some, option_and_then, if◌then◌else◌};
+ghost use Rattle.std.specs.Prelude.{◌≡◌, ◌⊎◌, List, [], OnOk, IfOk, IfSome, is_some, option_and_then, if◌then◌else◌};
 ghost use Rattle.std.specs.Option.{option_or};
 ghost use Rattle.outage_schedule.specs.declared.item.Served.{Served};
 ghost use Rattle.std.specs.List.{list_any, AllByRecursion};
@@ -14,14 +14,11 @@ ghost use Rattle.world_model.specs.meaning.Links.{Link, new_link, ends, is_close
 ghost use Rattle.world_model.specs.meaning.Serving.{Front, is_last as is_last_def, front_of, after_front};
 ghost use Rattle.world_model.specs.meaning.Cutting.{reached_of, cut_link, reaped_link};
 ghost use Rattle.world_model.specs.meaning.Crashing.{fallen_link};
-ghost use Rattle.world_core.specs.Carrying.{Carries};
 ghost use Rattle.world_core.specs.CutBytes.{KeepsFirst};
 ghost use Rattle.world_core.specs.Linked.{up_frames, told_by_frame, lives_on, may_be_served, IsLink, IsSomeLink, GivesFront, GivesReply};
 
-use canon_bytes::Take;
-use frame_wire::{
-    DownFeed, Feed, FrameFault, UpFeed, any_cut, cut_leaves_whole_frames, encode_down, encode_up,
-};
+use crate::wire::Wire;
+use frame_wire::{any_cut, cut_leaves_whole_frames, encode_down, encode_up};
 use outage_schedule::Reached;
 use pool_core::Pool;
 use std::alloc::Global;
@@ -39,8 +36,8 @@ pub struct Connection {
     pub(crate) is_living: bool,
     pub(crate) session: Option<SessionId>,
     pub(crate) held: Option<Ltxid>,
-    up: UpFeed,
-    down: DownFeed,
+    up: Wire<Up>,
+    down: Wire<Down>,
 }
 
 /// Whether a frame closes its connection.
@@ -69,34 +66,21 @@ fn told_by(reply: &Option<Down>) -> Option<Ltxid>
 }
 
 /// Puts the bytes of these frames behind those that wait.
-fn push_up(alloc: Global, feed: &mut UpFeed, frames: &[Up]) -> Result<(), NoMemory>
+fn push_up(alloc: Global, wire: &mut Wire<Up>, frames: &[Up]) -> Result<(), NoMemory>
     requires { AllByRecursion IsMadeUp frames.now }
     ensures bytes { OnOk result
-        (feed.new ≡ with_bytes feed.old (stream spell_up FitsUp frames.now)) }
+        (wire.new ≡ with_bytes wire.old (stream spell_up FitsUp frames.now)) }
     ensures fitting { OnOk result (AreFrames spell_up FitsUp frames.now) }
 {
     for frame in frames {
-        feed.push_vec(encode_up(alloc, frame)?)?;
+        wire.push_vec(alloc, encode_up(alloc, frame)?)?;
     }
     Ok(())
 }
 
-/// Gives back the memory of a feed in which no whole frame stands: a part of one is all that may
-/// be there, and what is pushed behind one stands alone. Constant.
-fn give_back<F: Take>(feed: &mut Feed<F>)
-    ensures { (is_open : Bool) (frames : List F)
-        → Carries F.spelling F.fits is_open frames feed.old
-        → Carries F.spelling F.fits is_open frames feed.new }
-{
-    any_cut::<F>();
-    if !feed.has_frame() {
-        feed.keep_first(0);
-    }
-}
-
 impl Connection {
     /// A connection that was opened now. It takes no memory.
-    pub(crate) fn new(alloc: Global) -> Connection
+    pub(crate) fn new() -> Connection
         ensures { IsLink result new_link }
     {
         Connection {
@@ -105,8 +89,8 @@ impl Connection {
             is_living: true,
             session: None,
             held: None,
-            up: UpFeed::new(alloc),
-            down: DownFeed::new(alloc),
+            up: Wire::new(),
+            down: Wire::new(),
         }
     }
 
@@ -117,6 +101,8 @@ impl Connection {
         ensures link { (link : Link) → IsLink self.old link → IsLink self.new (ends event link) }
     {
         self.ended = self.ended.or(Some(event));
+        self.up.settle();
+        self.down.settle();
     }
 
     /// Sends frames to the server. A Close among them ends the connection. Linear in their bytes.
@@ -144,12 +130,8 @@ impl Connection {
             return Ok(None);
         }
         any_cut::<Up>();
-        let frame = match self.up.next() {
-            Ok(frame) => frame,
-            Err(FrameFault::NoMemory) => return Err(NoMemory),
-            Err(FrameFault::BadFrame) => unreachable!(),
-        };
-        give_back(&mut self.up);
+        let frame = self.up.next()?;
+        self.up.give_back(self.ended.is_some());
         Ok(frame)
     }
 
@@ -183,7 +165,7 @@ impl Connection {
             return Ok(());
         }
         if let Some(frame) = reply {
-            self.down.push_vec(encode_down(alloc, frame)?)?;
+            self.down.push_vec(alloc, encode_down(alloc, frame)?)?;
         }
         Ok(())
     }
@@ -196,12 +178,8 @@ impl Connection {
             → GivesReply link link.down reply self.new) }
     {
         any_cut::<Down>();
-        let reply = match self.down.next() {
-            Ok(reply) => reply,
-            Err(FrameFault::NoMemory) => return Err(NoMemory),
-            Err(FrameFault::BadFrame) => unreachable!(),
-        };
-        give_back(&mut self.down);
+        let reply = self.down.next()?;
+        self.down.give_back(self.ended.is_some());
         self.held = told_by(&reply).or(self.held);
         Ok(reply)
     }
@@ -242,7 +220,7 @@ impl Connection {
         ensures { (link : Link) → IsLink self.old link → IsLink self.new (reaped_link link) }
     {
         self.is_living = false;
-        give_back(&mut self.up);
+        self.up.give_back(true);
     }
 
     /// Leaves the pool, where it is idle under this number, if it is open.

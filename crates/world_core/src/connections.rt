@@ -109,7 +109,7 @@ impl Connections {
         ensures added { IfOk result (λ number. (links : List Link) → Stand self.old links
             → (number ≡ length links + 1) × Stand self.new (links ++ new_link ∷ [])) }
     {
-        self.all.push(Connection::new(self.alloc))?;
+        self.all.push(Connection::new())?;
         let opened = self.all.len() as u64;
         self.living.insert(opened)?;
         Ok(opened)

@@ -18,6 +18,7 @@ mod openings;
 mod outside;
 mod stopped_opening;
 mod traffic;
+mod wire;
 
 pub use client::{Client, Said};
 pub use clients::{clients_stay, first_clients};

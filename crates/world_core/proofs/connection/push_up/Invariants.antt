@@ -8,7 +8,7 @@ use Rattle.world_core.proofs.connection.push_up.Given as goal
 
 abbrev pub invariant-loop-frame : goal.invariant-loop-frame
 invariant-loop-frame l = record {
-  bytes : with_bytes l.feed (stream spell_up FitsUp (drop l.frame-index l.frames)) ≡ with_bytes l.initial.feed (stream spell_up FitsUp l.frames);
+  bytes : with_bytes l.wire (stream spell_up FitsUp (drop l.frame-index l.frames)) ≡ with_bytes l.initial.wire (stream spell_up FitsUp l.frames);
   fitting : AreFrames spell_up FitsUp (drop l.frame-index l.frames) → AreFrames spell_up FitsUp l.frames;
   made : AllByRecursion IsMadeUp (drop l.frame-index l.frames);
 }
