@@ -19,7 +19,7 @@ pub most_is : {A : Type 0} (test : A → Bool) (part : A → ℕ) (all : List A)
 most_is test part [] = refl
 most_is test part (one ∷ all) = one_more test part one all (test one) refl (most_is test part all)
 
-most-append : {A : Type 0} (part : A → ℕ) (a b : List A) → most_by part (a ++ b) ≡ max (most_by part a) (most_by part b)
+pub most-append : {A : Type 0} (part : A → ℕ) (a b : List A) → most_by part (a ++ b) ≡ max (most_by part a) (most_by part b)
 most-append part [] b = omega arith
 most-append part (one ∷ a) b = let rest = most-append part a b in omega (arith, rest)
 

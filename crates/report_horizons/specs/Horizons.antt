@@ -1,7 +1,8 @@
 -- Incarnations that ended and horizons that are wanted, as code keeps them.
-use Rattle.std.specs.Prelude.{ℕ, ◌+◌, max, nat_lt, List, [], ◌∷◌, map, reverse, Option, Some, None, if◌then◌else◌}
+use Rattle.std.specs.Prelude.{ℕ, ◌≡◌, ◌≤◌, ◌+◌, max, nat_lt, List, [], ◌∷◌, map, reverse, length, drop, Option, Some, None, if◌then◌else◌}
 use Rattle.run_clauses.specs.meaning.Horizons.{Ended, Openings, Wanted}
 use Rattle.report_horizons.specs.declared.horizons.EndedAt.{EndedAt}
+use Rattle.report_horizons.specs.declared.horizons.Front.{Front}
 use Rattle.report_horizons.specs.declared.horizons.WantedAt.{WantedAt}
 use Rattle.report_horizons.specs.declared.horizons.OpeningsAt.{OpeningsAt}
 
@@ -33,6 +34,20 @@ part_before event one = if nat_lt one.event event then one.horizon else 0
 abbrev pub most_by : {A : Type 0} → (A → ℕ) → List A → ℕ
 most_by part [] = 0
 most_by part (one ∷ all) = max (part one) (most_by part all)
+
+-- Their ticks rise, or stay, from the low one to the high one.
+abbrev pub Rises : ℕ → List Ended → ℕ → Type 0
+Rises low [] high = low ≤ high
+Rises low (one ∷ all) high = (low ≤ one.tick) × Rises one.tick all high
+
+-- Those that a front passed ask for its horizon at this tick and at each later one. The others stand in the order in which they ended.
+pub record IsFront (retention tick : ℕ) (front : Front) (ended : List Ended) : Type 0 where
+  pub within : front.passed ≤ length ended
+  pub asks : (later : ℕ) → tick ≤ later → most_by (part_of retention later) ended ≡ max front.most (most_by (part_of retention later) (drop front.passed ended))
+  pub rises : Rises 0 (drop front.passed ended) tick
+
+abbrev pub IsFrontAt : ℕ → Front → Openings → Type 0
+IsFrontAt retention front openings = IsFront retention openings.tick front (reverse openings.ended)
 
 -- what there is, as a list
 abbrev pub as_list : {A : Type 0} → Option A → List A

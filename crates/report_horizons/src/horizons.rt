@@ -1,9 +1,9 @@
 //! The horizon at each event, below which outcomes are forgotten.
-ghost use Rattle.std.specs.Prelude.{◌≡◌, ◌<◌, ◌≤◌, ◌+◌, ◌^◌, max, false, IfOk, OnOk};
+ghost use Rattle.std.specs.Prelude.{◌≡◌, ◌<◌, ◌≤◌, ◌+◌, ◌^◌, max, false, nat_lt, IfOk, OnOk};
 ghost use Rattle.std.specs.Option.{option_map};
 ghost use Rattle.outage_schedule.specs.declared.note.Note.TheVariants as note;
 ghost use Rattle.run_clauses.specs.meaning.Horizons.{first_opening, ended_before as ended_before_def, after_note, wanted_horizon as wanted_def, wanted_at as wanted_at_def, wanted_from, raised as raised_def};
-ghost use Rattle.report_horizons.specs.Horizons.{as_list, openings_as, ended_as, wanted_as, all_ended, all_wanted, part_of as part_def, part_before as before_def, most_by};
+ghost use Rattle.report_horizons.specs.Horizons.{as_list, openings_as, wanted_as, all_ended, all_wanted, part_of as part_def, part_before as before_def, most_by, IsFront, IsFrontAt};
 
 use outage_schedule::Note;
 use std::alloc::Global;
@@ -38,26 +38,39 @@ fn greater(one: u128, other: u128) -> u128
     if one < other { other } else { one }
 }
 
-/// The horizon that an ended incarnation asks for, where outcomes are kept for so many ticks.
-fn part_of(one: &EndedAt, retention: u64, tick: u64) -> u128
-    ensures { result ≡ part_def retention tick (ended_as one.now) }
+/// Whether an incarnation ended more than so many ticks ago.
+fn is_past(one: &EndedAt, retention: u64, tick: u64) -> bool
+    ensures { result ≡ nat_lt (one.now.tick + retention) tick }
 {
     let last = one.tick as u128 + retention as u128;
-    if last < tick as u128 {
-        return one.incarnation as u128 + 1;
-    }
-    0
+    last < tick as u128
 }
 
-/// The greatest horizon that these ask for.
-fn greatest(ended: &[EndedAt], retention: u64, tick: u64) -> u128
-    ensures { result ≡ most_by (part_def retention tick) (all_ended ended.now) }
+/// The first of the incarnations that ended, all of them so long ago that each asks for its horizon
+/// from now on: how many they are, and the greatest of their horizons.
+#[derive(Clone, Copy)]
+struct Front {
+    passed: usize,
+    most: u128,
+}
+
+/// The front goes on, over those that ended long enough ago by now: one step for each of these.
+fn further(front: Front, ended: &[EndedAt], retention: u64, tick: u64) -> Front
+    requires { IsFront retention tick front (all_ended ended.now) }
+    ensures is { IsFront retention tick result (all_ended ended.now) }
+    ensures most { result.most ≡ most_by (part_def retention tick) (all_ended ended.now) }
 {
-    let mut most = 0;
-    for one in ended {
-        most = greater(most, part_of(one, retention, tick));
+    let mut passed = front.passed;
+    let mut most = front.most;
+    while passed < ended.len() {
+        let one = &ended[passed];
+        if !is_past(one, retention, tick) {
+            return Front { passed, most };
+        }
+        most = greater(most, one.incarnation as u128 + 1);
+        passed += 1;
     }
-    most
+    Front { passed, most }
 }
 
 /// The incarnations that ended before event 1: the last one of a store that was opened.
@@ -130,17 +143,28 @@ impl OpeningsAt {
         }
     }
 
-    /// The horizon that is wanted now. Linear in the incarnations that ended.
-    fn wanted(&self, retention: u64) -> u128
-        ensures { result ≡ wanted_def retention (openings_as self.now) }
+    /// The horizon that is wanted now, up to which the front goes on.
+    fn wanted(&self, front: &mut Front, retention: u64) -> u128
+        requires { IsFrontAt retention front.old (openings_as self.now) }
+        ensures is { result ≡ wanted_def retention (openings_as self.now) }
+        ensures front { IsFrontAt retention front.new (openings_as self.now) }
     {
-        greatest(self.ended.as_slice(), retention, self.tick)
+        *front = further(*front, self.ended.as_slice(), retention, self.tick);
+        front.most
     }
 
     /// The horizon that a note wants at its event, if it is that of an opening.
-    fn wanted_at(&self, retention: u64, event: u64, note: &Note) -> Option<WantedAt>
-        ensures { as_list (option_map wanted_as result)
+    fn wanted_at(
+        &self,
+        front: &mut Front,
+        retention: u64,
+        event: u64,
+        note: &Note,
+    ) -> Option<WantedAt>
+        requires { IsFrontAt retention front.old (openings_as self.now) }
+        ensures is { as_list (option_map wanted_as result)
             ≡ wanted_at_def retention event (openings_as self.now) note.now }
+        ensures front { IsFrontAt retention front.new (openings_as self.now) }
     {
         let Note::Up {
             incarnation: Some(_),
@@ -148,27 +172,29 @@ impl OpeningsAt {
         else {
             return None;
         };
-        let horizon = self.wanted(retention);
+        let horizon = self.wanted(front, retention);
         Some(WantedAt { event, horizon })
     }
 }
 
-/// The horizons that the notes want, in their order, where outcomes are kept for so many ticks. For each
-/// opening it is linear in the incarnations that ended before it.
+/// The horizons that the notes want, in their order, where outcomes are kept for so many ticks. Linear
+/// in the notes: each incarnation that ended is passed once, by the first opening that it counts for.
 fn wanted_by(
     alloc: Global,
     first: OpeningsAt,
     retention: u64,
     notes: &[Note],
 ) -> Result<Vec<WantedAt>, NoMemory>
-    requires { first.tick ≡ 0 }
+    requires tick { first.tick ≡ 0 }
+    requires front { IsFrontAt retention (record { passed = 0; most = 0 }) (openings_as first) }
     ensures { IfOk result (λ all. all_wanted all.items
         ≡ wanted_from retention 1 (openings_as first) notes.now) }
 {
     let mut all = Vec::new(alloc);
     let mut openings = first;
+    let mut front = Front { passed: 0, most: 0 };
     for (at, note) in notes.iter().enumerate() {
-        if let Some(one) = openings.wanted_at(retention, at as u64 + 1, note) {
+        if let Some(one) = openings.wanted_at(&mut front, retention, at as u64 + 1, note) {
             all.push(one)?;
         }
         openings.follow(note)?;
@@ -177,7 +203,7 @@ fn wanted_by(
 }
 
 /// The same from the opening before event 1 on, behind the last incarnation of a store that was opened
-/// or not.
+/// or not. Linear in the notes.
 pub fn wanted_in(
     alloc: Global,
     opened: bool,
