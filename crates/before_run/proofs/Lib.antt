@@ -1,3 +1,4 @@
+mod Indexing
 mod JournalKept
 pub mod Offered
 mod StartBase

@@ -1,7 +1,6 @@
 pub mod Checking
 pub mod Clauses
 pub mod Complete
-pub mod Indexes
 pub mod InnerEnds
 pub mod Reading
 pub mod Statuses

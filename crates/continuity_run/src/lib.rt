@@ -3,7 +3,6 @@
 
 mod answer;
 mod check;
-mod indexes;
 pub mod laws;
 mod leaving;
 mod load;

@@ -9,10 +9,10 @@ ghost use Rattle.continuity_run.specs.meaning.Headline.{Headline};
 ghost use Rattle.continuity_run.specs.RunLaws.{RunsHold};
 ghost use Rattle.continuity_run.specs.Runs.{HasRun, IsReportOf, IsRunOf, IsRunOfSome};
 
-use crate::indexes::indexes_of;
 use crate::reporting::report_of;
 use crate::store::{Before, Store, store_of};
 use auto_bounds::AutoRule;
+use before_run::indexes_of;
 use calm_laws::laws::calm_runs_answer;
 use disk_model::MemDisk;
 use fresh_laws::laws::runs_are_fresh;

@@ -8,9 +8,9 @@ ghost use Rattle.serial_check.specs.Replaying.{HasEnded};
 
 use crate::printed::printed_otherwise;
 use crate::transaction::{Ended, run_again};
-use before_run::journal_before;
+use before_run::{indexes_of, journal_before};
 use commit_log::{BaseSequences, Journal};
-use journal_tables::tables_of;
+use journal_tables::indexed_tables_of;
 use json_form::Pointer;
 use outage_schedule::{Document, Report};
 use std::alloc::Global;
@@ -54,7 +54,8 @@ fn failing_entry(
 /// first piece of an entry that is not answered as it stands when the entries are run one after the
 /// other, an entry without a piece, or behind all entries the first table that has other rows.
 /// There is none exactly where the clause `Serial` holds. For r rows and q calls it takes r log r
-/// and q log r, and for each statement on a whole table its rows.
+/// and q log r, and for each statement on a whole table its rows. A select by a column that the
+/// document indexes takes the rows it finds.
 pub fn judge_serial(
     alloc: Global,
     document: &Document,
@@ -65,7 +66,8 @@ pub fn judge_serial(
 {
     let Journal { base, entries, .. } = journal_before(alloc, document)?;
     let names = names_of(alloc, &base.sequences)?;
-    let mut tables = tables_of(alloc, base, entries.as_slice())?;
+    let indexes = indexes_of(alloc, document.tables.as_slice())?;
+    let mut tables = indexed_tables_of(alloc, base, entries.as_slice(), indexes.as_slice())?;
     let place = failing_entry(alloc, &mut tables, &names, report.entries.as_slice())?;
     if place.is_some() {
         return Ok(place);

@@ -11,7 +11,7 @@ use Rattle.service_core.specs.Within.{Within}
 use Rattle.standby_ship.specs.Seeing.{SeesPair, bytes_in as bytes_in_pair}
 use Rattle.standby_ship.specs.Twins.{Twin}
 use Rattle.world_model.specs.meaning.Settings.{rules_of}
-use Rattle.continuity_run.specs.Indexes.{indexes_of}
+use Rattle.before_run.specs.Indexes.{indexes_of}
 use Rattle.continuity_run.specs.Runs.{IsRunOf}
 use Rattle.continuity_run.proofs.Beginning.{can_begin, copy_can_begin, run_begins, pair_begins}
 use Rattle.continuity_run.proofs.Documents.{are_limits, may_try}

@@ -2,7 +2,7 @@
 ghost use Rattle.std.specs.Prelude.{◌≡◌, ◌++◌, IfOk, OnOk, flat_map};
 ghost use Rattle.std.specs.Option.{option_to_list};
 ghost use Rattle.svc_values.specs.meaning.Schemas.{column_of as column_of_def};
-ghost use Rattle.continuity_run.specs.Indexes.{index_by as index_by_def, indexes_in, indexes_of as indexes_def};
+ghost use Rattle.before_run.specs.Indexes.{index_by as index_by_def, indexes_in, indexes_of as indexes_def};
 
 use outage_schedule::DocTable;
 use std::alloc::Global;
@@ -58,8 +58,9 @@ fn add_indexes(all: &mut Vec<IndexOf>, table: &DocTable) -> Result<(), NoMemory>
     add_each(all, table, table.index.as_slice())
 }
 
-/// The indexes that these tables ask for, each told by the place of its column.
-pub(crate) fn indexes_of(alloc: Global, tables: &[DocTable]) -> Result<Vec<IndexOf>, NoMemory>
+/// The indexes that these tables of a document ask for, each told by the place of its column.
+/// Linear in the columns that they name.
+pub fn indexes_of(alloc: Global, tables: &[DocTable]) -> Result<Vec<IndexOf>, NoMemory>
     ensures { IfOk result (λ made. made.items ≡ indexes_def tables.now) }
 {
     let mut all = Vec::new(alloc);
