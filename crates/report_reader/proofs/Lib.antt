@@ -4,4 +4,5 @@ pub mod ReadEntries
 pub mod ReadItems
 pub mod ReadReports
 pub mod OneByOne
+pub mod NotesAhead
 pub mod Joined

@@ -1,4 +1,5 @@
 pub mod Ahead
+pub mod NotesAhead
 pub mod Keeping
 pub mod Laws
 pub mod meaning

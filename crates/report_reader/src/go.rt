@@ -7,7 +7,7 @@ ghost use Rattle.json_form.specs.Arrays.{parts_at};
 ghost use Rattle.report_reader.specs.meaning.Notes.{go_words, go_count, sent_by, go_by as go_by_def, go_in};
 
 use crate::part::{NUMBER, if_count};
-use json_form::{DocFault, Parts, Reader, Whole, parts_from, word_from};
+use json_form::{DocFault, Parts, Reader, Whole, parts_from, word_ahead, word_from};
 use outage_schedule::{GoNote, Note};
 use serde_json::Value as Json;
 use std::alloc::Global;
@@ -52,13 +52,18 @@ const WORDS: [(&str, GoWord); 9] = [
 ];
 
 /// Reads the word for what a client's step did.
-struct GoReader;
+pub(crate) struct GoReader;
 
 impl Reader<GoWord> for GoReader {
     ghost reads = { λ s. word_of go_words };
 
     fn read(&self, alloc: Global, value: Json) -> Result<GoWord, DocFault> {
         word_from(alloc, value, &WORDS)
+    }
+
+    fn ahead(&self, alloc: Global, tokens: &mut json::Reader<'_>, depth: usize) -> Option<GoWord> {
+        let word = word_ahead(alloc, tokens, &WORDS)?;
+        Some(word)
     }
 }
 

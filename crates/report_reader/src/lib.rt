@@ -10,6 +10,7 @@ mod item;
 mod known;
 pub mod laws;
 mod note;
+mod note_ahead;
 mod part;
 mod report;
 mod request;

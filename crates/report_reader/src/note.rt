@@ -10,10 +10,12 @@ ghost use Rattle.report_reader.specs.meaning.Notes.{count_in, serve_words, serve
 use crate::answer::AnswersReader;
 use crate::draw::DrawsReader;
 use crate::go::go_from;
+use crate::note_ahead::note_ahead;
 use crate::part::{LtxidReader, NUMBER, if_count, list_ahead};
 use crate::told::{AskedReader, asked_behind, asked_by};
 use json_form::{
-    DocCode, DocFault, Parts, Reader, fixed, head_from, list_from, parts_from, word_from,
+    DocCode, DocFault, Parts, Reader, fixed, head_from, list_from, parts_from, word_ahead,
+    word_from,
 };
 use outage_schedule::{FrameName, Note, NoteRun, NoteRuns, Notes, OutsideNote, Reached};
 use serde_json::Value as Json;
@@ -46,26 +48,34 @@ pub(crate) fn count_from(alloc: Global, value: &Json) -> Result<usize, DocFault>
     }
 }
 
+const FRAMES: [(&str, Option<FrameName>); 7] = [
+    ("none", None),
+    ("connect", Some(FrameName::Connect)),
+    ("begin", Some(FrameName::Begin)),
+    ("call", Some(FrameName::Call)),
+    ("outcome", Some(FrameName::Outcome)),
+    ("end", Some(FrameName::End)),
+    ("close", Some(FrameName::Close)),
+];
+
 /// Reads the name of a frame that was served, or that there was none.
-struct FrameReader;
+pub(crate) struct FrameReader;
 
 impl Reader<Option<FrameName>> for FrameReader {
     ghost reads = { λ s. word_of serve_words };
 
     fn read(&self, alloc: Global, value: Json) -> Result<Option<FrameName>, DocFault> {
-        word_from(
-            alloc,
-            value,
-            &[
-                ("none", None),
-                ("connect", Some(FrameName::Connect)),
-                ("begin", Some(FrameName::Begin)),
-                ("call", Some(FrameName::Call)),
-                ("outcome", Some(FrameName::Outcome)),
-                ("end", Some(FrameName::End)),
-                ("close", Some(FrameName::Close)),
-            ],
-        )
+        word_from(alloc, value, &FRAMES)
+    }
+
+    fn ahead(
+        &self,
+        alloc: Global,
+        tokens: &mut json::Reader<'_>,
+        depth: usize,
+    ) -> Option<Option<FrameName>> {
+        let frame = word_ahead(alloc, tokens, &FRAMES)?;
+        Some(frame)
     }
 }
 
@@ -83,8 +93,8 @@ fn serve_from(alloc: Global, value: Json) -> Result<Note, DocFault>
 
 /// Reads this word alone.
 #[derive(Clone, Copy)]
-struct JustReader<'a> {
-    word: &'a str,
+pub(crate) struct JustReader<'a> {
+    pub word: &'a str,
 }
 
 impl Reader<bool> for JustReader<'_> {
@@ -92,6 +102,11 @@ impl Reader<bool> for JustReader<'_> {
 
     fn read(&self, alloc: Global, value: Json) -> Result<bool, DocFault> {
         word_from(alloc, value, &[(self.word, true)])
+    }
+
+    fn ahead(&self, alloc: Global, tokens: &mut json::Reader<'_>, depth: usize) -> Option<bool> {
+        let found = word_ahead(alloc, tokens, &[(self.word, true)])?;
+        Some(found)
     }
 }
 
@@ -161,7 +176,7 @@ fn crash_from(alloc: Global, value: Json) -> Result<Note, DocFault>
 }
 
 /// Reads an incarnation, or that there was no opening.
-struct IncarnationReader;
+pub(crate) struct IncarnationReader;
 
 impl Reader<Option<u64>> for IncarnationReader {
     ghost reads = { λ s. incarnation_in };
@@ -222,7 +237,7 @@ impl Reader<NoteRun> for RunReader {
 }
 
 /// Reads the calls that ran, in order.
-struct RunsReader;
+pub(crate) struct RunsReader;
 
 impl Reader<NoteRuns> for RunsReader {
     ghost reads = { λ s. runs_in };
@@ -300,7 +315,7 @@ fn note_by(alloc: Global, value: Json, word: NoteWord) -> Result<Note, DocFault>
     }
 }
 
-const WORDS: [(&str, NoteWord); 11] = [
+pub(crate) const WORDS: [(&str, NoteWord); 11] = [
     ("go", NoteWord::Go),
     ("serve", NoteWord::Serve),
     ("cut", NoteWord::Cut),
@@ -324,6 +339,10 @@ impl Reader<Note> for NoteReader {
     fn read(&self, alloc: Global, value: Json) -> Result<Note, DocFault> {
         let word = head_from(alloc, &value, &WORDS)?;
         note_by(alloc, value, word)
+    }
+
+    fn ahead(&self, alloc: Global, tokens: &mut json::Reader<'_>, depth: usize) -> Option<Note> {
+        note_ahead(alloc, tokens, depth)
     }
 }
 
