@@ -271,6 +271,21 @@ def stopped_openings_document(openings, rows):
     return compact({"tables": [accounts(rows)], "clients": [], "schedule": schedule})
 
 
+def stopped_calls_document(stops, rows):
+    """A store that is stopped in a commit and opened so often, in each device call of the commit in turn: what does an opening
+    behind it cost? The commits are of 64 clients in turn, and each first asks what became of the one that it lost."""
+    clients = 64
+    schedule = []
+    for n in range(stops):
+        client, connection = n % clients + 1, n + 1
+        begin = [["go", client], ["serve", connection]]
+        lost = [["go", client], ["tick"]] + begin if n >= clients else []
+        schedule += [*lost, *begin, *begin, ["crash", connection, n % 5, n // 5 % 4], ["up"]]
+    pool = {"pool": {"max": clients}}
+    scripts = transfers(clients, 31)
+    return compact({"service": pool, "tables": [accounts(rows)], "clients": scripts, "schedule": schedule})
+
+
 def limits_document(events, size):
     """64 clients, 2,048 calls, so many events, and rows up to about so many bytes: all limits at once."""
     traffic = Traffic(64)
@@ -394,6 +409,7 @@ CASES = {
         [(2_000, 80_000, False), (2_000, 80_000, True)], 5
     ),
     "stopped": lambda: document_case("openings that stop", stopped_openings_document, [(1_000, 64), (4_000, 64)]),
+    "stopped calls": lambda: document_case("commits that stop", stopped_calls_document, [(250, 64), (1_000, 64), (1_000, 5_000)]),
     "alternations": lambda: document_case("crashes and openings of a small store", openings_document, [(2_000, 64), (20_000, 64)]),
     "limits": lambda: document_case("all limits at once", limits_document, [(10_000, 1_000_000), (100_000, 8_300_000)]),
     "answers": lambda: program_case("wire_bench", [["answers", "100000"], ["answers", "1000000"]], "answer"),
