@@ -27,6 +27,11 @@ crates_below() {
     lines_below "$1" | sed 's/[ :].*//'
 }
 
+# The names of all but the last two, on which no other stands. When these two are proved there is nothing else to prove.
+crates_before_the_last() {
+    crates_below "$1" | head -n -2
+}
+
 # The folders that a proof reads, whether they are there or not.
 folders_below() {
     crates_below "$1" | sed -n 's,.*,crates/&,; s,$,/src,p; s,/src$,/specs,p; s,/specs$,/proofs,p'
@@ -124,7 +129,8 @@ shares_of() {
 show_progress() {
     local repository=$1 log=$2 jobs=$3 line='' part code name count last=''
     local all_lines=0 done_lines=0 proved_lines=0 crates=0 at=0
-    local -A lines=()
+    # (a crate that the second run of rt finds kept is not told twice)
+    local -A lines=() told=()
     while read -r name count; do
         lines[$name]=$count
         all_lines=$((all_lines + count))
@@ -143,8 +149,9 @@ show_progress() {
         [ "$code" = 0 ] || [ -n "$line" ] || break
         line=${line//"$repository"/"$top"}
         printf '%s\n' "$line" >>"$log"
-        if [[ $line =~ ^rt:\ ([a-z0-9_]+)\ (proved$|is\ kept) ]]; then
+        if [[ $line =~ ^rt:\ ([a-z0-9_]+)\ (proved$|is\ kept) ]] && [ -z "${told[${BASH_REMATCH[1]}]-}" ]; then
             last=${BASH_REMATCH[1]}
+            told[$last]=1
             at=$((at + 1))
             done_lines=$((done_lines + ${lines[$last]:-0}))
             [ "${BASH_REMATCH[2]}" != proved ] || proved_lines=$((proved_lines + ${lines[$last]:-0}))
@@ -220,13 +227,23 @@ make_room() {
     return 1
 }
 
-# Starts a command of rt in a folder, in a process group of its own, which says what it has to say to a pipe.
+# Proves and builds what stands in a folder, in a process group of its own, which says what it has to say to a pipe. So many
+# crates are proved at once. The last two are one chain: where nobody has said how many, rt gives each of them, alone, all
+# the processors that memory allows.
 start_rt() {
-    local folder=$1
-    shift
+    local folder=$1 jobs=$2 given=${RT_JOBS-} first
+    first=$(crates_before_the_last "$folder")
     mkfifo "$room/said"
     set -m
-    (cd "$folder" && TMPDIR=$room/tmp exec rt "$@") </dev/null >"$room/said" 2>&1 9<&- &
+    (
+        cd "$folder" && export TMPDIR=$room/tmp RT_JOBS=$jobs || exit
+        if [ -z "$given" ] && [ -n "$first" ]; then
+            # shellcheck disable=SC2086 # names of crates have no space
+            rt ci $first || exit
+            unset RT_JOBS
+        fi
+        exec rt ci
+    ) </dev/null >"$room/said" 2>&1 9<&- &
     rt_group=$!
     set +m
 }
@@ -243,8 +260,7 @@ build() {
     jobs=$("$top/tools/at_once") || jobs=1
     say "the program is not built yet. Proving and building it takes about $measured_minutes minutes on $measured_processors processors"
     say "(here $jobs crates are proved at once). What is proved is kept: if this is interrupted, the next use goes on from there."
-    export RT_JOBS=$jobs
-    start_rt "$repository" ci
+    start_rt "$repository" "$jobs"
     show_progress "$repository" "$room/log" "$jobs" <"$room/said"
     status=$?
     if [ "$status" = 0 ]; then
