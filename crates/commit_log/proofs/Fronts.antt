@@ -84,7 +84,7 @@ later_by journal is_opened has_horizon (kept.Alert line) none may = same_later j
 later_by journal is_opened has_horizon (kept.Horizon horizon) none may = same_later journal is_opened (kept.Horizon horizon) refl refl none
 
 -- the first one is a base
-base_first : (one : Record) (next : SoFar) → after Empty one ≡ Some next → (base : Base) × (Begun (new_journal base) false false ≡ next)
+pub base_first : (one : Record) (next : SoFar) → after Empty one ≡ Some next → (base : Base) × (Begun (new_journal base) false false ≡ next)
 base_first (kept.Base base) next e = (base, comes (is_base base) (Begun (new_journal base) false false) next e)
 base_first one next e = absurd (let none : ⊥ = cc in none)
 

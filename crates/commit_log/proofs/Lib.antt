@@ -3,6 +3,7 @@ pub mod Growing
 pub mod Fronts
 pub mod Between
 pub mod Trailing
+pub mod Telling
 pub mod KeepingCommits
 pub mod KeepingReservations
 pub mod KeepingJournals

@@ -1,11 +1,11 @@
 -- A log that ends behind the first records of a store.
-use Rattle.std.proofs.Common.{◌≡◌, ℕ, ◌+◌, ◌||◌, Bool, false, List, [], ◌∷◌, ◌++◌, length, refl, sym, ◌∙◌, ap, subst}
-use Rattle.std.specs.Prelude.{IsTrue, Option, Some, Result, Ok, Err}
+use Rattle.std.proofs.Common.{◌≡◌, ℕ, ◌+◌, ◌||◌, Bool, false, List, [], ◌∷◌, ◌++◌, length, None, Vec, Global, refl, sym, ◌∙◌, ap, subst}
+use Rattle.std.specs.Prelude.{IsTrue, Option, Some, IfSome, IfNone, Result, Ok, Err}
 use Rattle.disk_model.specs.Moment.{MayLeave}
 use Rattle.disk_model.specs.Disk.{DiskState, Meanwhile}
 use Rattle.disk_model.proofs.Offered.{crash_now}
 use Rattle.redo_store.specs.declared.redo.Redo.{Redo}
-use Rattle.redo_store.specs.meaning.Records.{records_of}
+use Rattle.redo_store.specs.meaning.Records.{records_of, whole_records}
 use Rattle.redo_store.specs.Records.{spelling_of, record_count}
 use Rattle.redo_store.specs.Redo.{CanAppend, tail_of, count_of as count_of_store}
 use Rattle.redo_store.specs.declared.walk.Walk.{Walk}
@@ -15,11 +15,11 @@ use Rattle.commit_log.specs.declared.journal.Journal.{Journal}
 use Rattle.commit_log.specs.declared.log.Log.{Log}
 use Rattle.commit_log.specs.declared.records.Record.{Record}
 use Rattle.commit_log.specs.meaning.Rules.{SoFar, Empty, Begun, is_opening, is_horizon, may_come, with_record}
-use Rattle.commit_log.specs.meaning.Journals.{after_payload, journal_of, judged, so_far_of, whole_record}
-use Rattle.commit_log.specs.Logs.{HasBegun, HasReadOn, Trails, count_of}
+use Rattle.commit_log.specs.meaning.Journals.{after_payload, journal_in, journal_of, judged, so_far_of, whole_record}
+use Rattle.commit_log.specs.Logs.{HasBegun, HasReadOn, IsBehindBase, Trails, count_of}
 use Rattle.commit_log.proofs.KeepingJournals.{unset_of}
-use Rattle.commit_log.proofs.Fronts.{begun_of, comes, comes_true, halves, next_of, one_of}
-use Rattle.commit_log.proofs.Steps.{HasRecords, judged-append, read_of}
+use Rattle.commit_log.proofs.Fronts.{base_first, begun_of, comes, comes_true, halves, next_of, one_of}
+use Rattle.commit_log.proofs.Steps.{HasRecords, judged-append, read_of, so_far_by_records}
 
 -- ---- where its records end
 
@@ -119,6 +119,36 @@ read_on is_opened has_horizon journal old new image trails walk payload one last
         judges = came.judges;
       };
     })
+
+-- ---- the first record of a journal is its base
+
+module _ (image : List ℕ) (last : Journal) (reads : journal_of image ≡ Ok last) where
+  never_empty : records_of image ≡ Ok [] → ⊥
+  never_empty none = let clash : ◌≡◌ {A = Result Journal ℕ} (Err 8) (Ok last) = sym (ap journal_in (so_far_by_records image [] none)) ∙ reads in cc
+
+  behind_first : (walk : Walk) (payload : List ℕ) (log : Log) → HasRead walk (payload ∷ []) image → tail_of log.redo ≡ place_of walk → count_of log ≡ walk.count → IsBehindBase log image
+  behind_first walk payload log read tail count =
+      let there = records_there image last reads in
+      let all = read_of image there.0 there.1 in
+      let split = firsts_of (payload ∷ []) _ all.records (sym read.stands.records ∙ all.are) in
+      let parts = halves Empty there.0 8 (payload ∷ []) split.0 (ap (judged Empty 8) (sym split.1) ∙ all.judges) in
+      let next = next_of (after_payload Empty payload) 8 (λ (s : SoFar). Ok s) parts.0 parts.2 in
+      let one = one_of Empty (whole_record payload) next.0 next.1 in
+      let begins = base_first one.0 next.0 one.2 in
+      record {
+        base = begins.0;
+        trails = record {
+          done = payload ∷ [];
+          stands = subst (λ (at : ℕ). StandsBehind at (payload ∷ []) image) (sym tail) read.stands;
+          counted = count ∙ read.counted;
+          judges = parts.2 ∙ sym next.2 ∙ ap (λ (s : SoFar). Ok s) (sym begins.1);
+        };
+      }
+
+  pub behind_found : (found : Option (Vec ℕ Global)) (walk : Walk) (log : Log) → IfSome found (λ (payload : Vec ℕ Global). HasRead walk ([] ++ payload.items ∷ []) image)
+      → IfNone found ((records_of image ≡ Ok []) × (whole_records image ≡ [])) → tail_of log.redo ≡ place_of walk → count_of log ≡ walk.count → IsBehindBase log image
+  behind_found None walk log some none tail count = absurd (never_empty none.0)
+  behind_found (Some payload) walk log some none tail count = behind_first walk payload.items log some tail count
 
 -- a journal in which no horizon was stored has the horizon 0
 pub trails_unset : (is_opened has_horizon : Bool) (journal : Journal) (log : Log) (image : List ℕ) → Trails is_opened has_horizon journal log image → has_horizon ≡ false → journal.horizon ≡ 0

@@ -7,6 +7,7 @@ pub mod Adds
 pub mod Judging
 pub mod Keeping
 pub mod Logs
+pub mod Recorded
 pub mod InnerOpening
 pub mod Laws
 pub mod meaning

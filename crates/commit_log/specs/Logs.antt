@@ -1,14 +1,15 @@
 -- When a log goes on with its disk.
-use Rattle.std.specs.Prelude.{◌≡◌, ℕ, ◌||◌, Bool, true, IsFalse, IsTrue, List, length, Result, Ok, Err}
+use Rattle.std.specs.Prelude.{◌≡◌, ℕ, ◌||◌, Bool, true, false, IsFalse, IsTrue, List, length, Result, Ok, Err}
 use Rattle.disk_model.specs.Disk.{DiskState}
 use Rattle.redo_store.specs.declared.fault.RedoFault.{RedoFault}
 use Rattle.redo_store.specs.declared.fault.RedoFault.TheVariants.{NoMemory, Stopped, Damaged}
 use Rattle.redo_store.specs.Redo.{is_live as is_live_store, count_of as count_of_store, tail_of, CanAppend}
 use Rattle.redo_store.specs.Walk.{StandsBehind}
+use Rattle.commit_log.specs.declared.base.Base.{Base}
 use Rattle.commit_log.specs.declared.journal.Journal.{Journal}
 use Rattle.commit_log.specs.declared.records.Record.{Record}
 use Rattle.commit_log.specs.declared.log.Log.{Log}
-use Rattle.commit_log.specs.meaning.Rules.{Begun, Empty, is_opening, is_horizon, may_come, with_record}
+use Rattle.commit_log.specs.meaning.Rules.{Begun, Empty, is_opening, is_horizon, may_come, new_journal, with_record}
 use Rattle.commit_log.specs.meaning.Journals.{journal_of, judged, so_far_of}
 
 -- it may be added to, as far as it knows
@@ -45,6 +46,11 @@ pub record IsBehind (log : Log) (image : List ℕ) : Type 0 where
   pub trails : Trails is_opened has_horizon journal log image
   pub last : Journal
   pub reads : journal_of image ≡ Ok last
+
+-- it ends behind the first record of the image, a base
+pub record IsBehindBase (log : Log) (image : List ℕ) : Type 0 where
+  pub base : Base
+  pub trails : Trails false false (new_journal base) log image
 
 -- The record behind may come next, and the log ends behind it now.
 pub record HasReadOn (is_opened has_horizon : Bool) (journal : Journal) (one : Record) (log : Log) (image : List ℕ) : Type 0 where

@@ -37,10 +37,12 @@ mod judging;
 pub mod laws;
 mod log;
 mod named;
+mod recorded;
 mod records;
 
 pub use base::{Base, BaseRows, BaseSequence, BaseSequences, BaseTable, BaseTables};
 pub use journal::{Blocks, Entries, Journal, Lines, Ltxids, Reservation};
 pub use log::{Found, Log};
+pub use recorded::Recorded;
 pub use records::Record;
 pub use redo_store::RedoFault as LogFault;

@@ -61,7 +61,7 @@ pub struct Log {
 }
 
 impl Log {
-    ghost use Rattle.commit_log.specs.Logs.{is_live, count_of, CanAdd, HasBegun, HasReadOn, IsBehind, Trails, CanLog};
+    ghost use Rattle.commit_log.specs.Logs.{is_live, count_of, CanAdd, HasBegun, HasReadOn, IsBehind, IsBehindBase, Trails, CanLog};
     ghost use Rattle.commit_log.specs.InnerOpening.{HasRaised};
 
     /// Whether a record may be added. After `Stopped` it may not, and the store is to be opened again.
@@ -183,6 +183,22 @@ impl Log {
             Some(payload) => Ok(Some(known_record(self.alloc, &payload)?)),
             None => Ok(None),
         }
+    }
+
+    // The log that ends behind the base of a store. The bytes of the base are read and thrown away, and none of its rows is
+    // made.
+    pub(crate) fn behind_base<D: Disk>(alloc: Global, disk: &mut D) -> Result<Log, LogFault>
+        requires { (journal : Held) × (journal_of (D.state disk.old).now.seen ≡ Ok journal) }
+        ensures behind { IfOk result (λ log. IsBehindBase log (D.state disk.old).now.seen) }
+        ensures whole { (place : ℕ) → IsErrOf result (LogFault.Damaged place) → ⊥ }
+        ensures only_reads { OnlyReads (IsErrOf result LogFault.Stopped) (D.state disk.old) (D.state disk.new) }
+    {
+        let mut walk = Walk::begin(alloc, disk)?;
+        walk.next(disk)?;
+        Ok(Log {
+            alloc,
+            redo: walk.finish(),
+        })
     }
 
     /// Opens the store: reads the journal, stores the horizon where it rises, and adds an opening with the next incarnation,
