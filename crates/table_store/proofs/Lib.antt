@@ -11,6 +11,7 @@ pub mod ValueCmp
 pub mod Pairs
 pub mod Indexed
 pub mod Picked
+pub mod Sought
 pub mod Takes
 pub mod Walks
 pub mod Offered

@@ -1,9 +1,10 @@
 -- Rows that are found one after the other.
-use Rattle.std.proofs.Common.{◌≡◌, inl, inr, ℕ, Bool, true, false, cond, List, [], ◌∷◌, ◌++◌, length, append_assoc, ◌<◌, ◌≤◌, arith, refl, sym, ◌∙◌, ap, subst}
+use Rattle.std.proofs.Common.{◌≡◌, inl, inr, ℕ, Bool, true, false, cond, List, [], ◌∷◌, ◌++◌, length, length-append, append_assoc, ◌<◌, ◌≤◌, arith, refl, sym, ◌∙◌, ap, subst}
 use Rattle.std.specs.Prelude.{Option, Some, None, not, ◌&&◌, slice_get}
 use Rattle.std.specs.Option.{option_or}
 use Rattle.std.specs.Ordering.{is_eq}
 use Rattle.std.specs.BTreeMap.{BTreeMap, insert_entry}
+use Rattle.std.specs.BTreeMap.Range.{entries_between}
 use Rattle.std.proofs.lemmas.List.{length_push}
 use Rattle.svc_values.proofs.Offered.{value_cmp_total}
 use Rattle.std.proofs.lemmas.Bool.{cases_Bool}
@@ -14,10 +15,11 @@ use Rattle.svc_values.specs.meaning.Tests.{value_meets}
 use Rattle.table_store.specs.declared.column_index.Spot.{Spot}
 use Rattle.table_store.specs.declared.column_index.Spot.TheVariants as spot
 use Rattle.table_store.specs.Indexes.{is_spot_of}
-use Rattle.table_store.specs.Rows.{Keyed, KeysRise, keyed_of}
-use Rattle.table_store.specs.Selection.{apart_from, is_among, meeting}
+use Rattle.table_store.specs.Rows.{Keyed, KeysFirst, KeysRise, keyed_of}
+use Rattle.table_store.specs.Selection.{apart_from, at_most_32, is_among, keys_sought, meeting}
 use Rattle.table_store.proofs.Maps.{keys_equal, insert_last}
-use Rattle.table_store.proofs.Picked.{rise_filter}
+use Rattle.table_store.proofs.Picked.{over_32, rise_filter}
+use Rattle.table_store.proofs.Sought.{meeting_sought}
 
 -- ---- the row at a pair's key
 
@@ -76,6 +78,15 @@ pub record FoundUpTo (but : BTreeMap Value ℕ) (column : ℕ) (test : Test) (th
   pub fits : length found ≤ 32
   pub rise : KeysRise rows
 
+-- before the first row
+pub found_none : (but : BTreeMap Value ℕ) (column : ℕ) (test : Test) (than : Value) (rows left found : Keyed) → KeysFirst rows → KeysRise rows → found ≡ []
+    → left ≡ entries_between value_cmp (keys_sought column test than).0 (keys_sought column test than).1 rows → FoundUpTo but column test than rows left found
+found_none but column test than rows left found firsts rise none between = record {
+  parts = ap (λ l. l ++ apart_from but (meeting column test than left)) none ∙ ap (λ l. apart_from but (meeting column test than l)) between ∙ ap (apart_from but) (meeting_sought column test than rows firsts);
+  fits = subst (λ (l : Keyed). length l ≤ 32) (sym none) (omega arith);
+  rise = rise;
+}
+
 module _ (but : BTreeMap Value ℕ) (column : ℕ) (test : Test) (than : Value) (rows left rest found : Keyed) (key : Value) (row : List Value) (so_far : FoundUpTo but column test than rows left found) (next : left ≡ (key, row) ∷ rest) where
   abbrev wanted : Keyed → Keyed
   wanted entries = apart_from but (meeting column test than entries)
@@ -98,6 +109,12 @@ module _ (but : BTreeMap Value ℕ) (column : ℕ) (test : Test) (than : Value) 
         fits = subst (λ (l : Keyed). length l ≤ 32) (sym last) (rw length_push (omega (arith, room)));
         rise = so_far.rise;
       }
+
+  -- one more than are answered
+  pub found_over : value_meets test than (slice_get row column) ≡ true → is_among but key ≡ false → 32 ≤ length found → None ≡ at_most_32 (apart_from but (meeting column test than rows))
+  found_over meets among many =
+      let split : found ++ (key, row) ∷ wanted rest ≡ wanted rows = ap (λ l. found ++ l) (sym (wanted_next true false meets among)) ∙ so_far.parts in
+      over_32 (wanted rows) (subst (λ (l : Keyed). 32 < length l) split (omega (arith, many, length-append found ((key, row) ∷ wanted rest))))
 
   pub found_skips : (b c : Bool) → value_meets test than (slice_get row column) ≡ b → is_among but key ≡ c → (b && not c) ≡ false → FoundUpTo but column test than rows rest found
   found_skips b c meets among out = record {

@@ -1,5 +1,5 @@
 -- Rows that are kept as maps: by the name of the table, and then by key.
-use Rattle.std.specs.Prelude.{ℕ, List, [], ◌∷◌, Option, Some, None, map}
+use Rattle.std.specs.Prelude.{◌≡◌, ℕ, List, [], ◌∷◌, Option, Some, None, map}
 use Rattle.std.specs.List.{flat_map, AllByRecursion}
 use Rattle.std.specs.List.Sorted.{IsStrictlySortedBy}
 use Rattle.std.specs.Ordering.{nat_cmp}
@@ -8,6 +8,7 @@ use Rattle.std.specs.BTreeMap.{is_at}
 use Rattle.std.specs.Map.{keys_of, lookup, values_of}
 use Rattle.svc_values.specs.declared.value.Value.{Value}
 use Rattle.svc_values.specs.meaning.Order.{value_cmp}
+use Rattle.svc_values.specs.meaning.Schemas.{key_of}
 use Rattle.svc_values.specs.declared.tables.PlainRow.{PlainRow}
 
 -- the rows of one table, each with its key
@@ -17,6 +18,10 @@ Keyed = List (Value × List Value)
 -- in order of key, none twice
 abbrev pub KeysRise : Keyed → Type 0
 KeysRise entries = IsStrictlySortedBy value_cmp (keys_of entries)
+
+-- each row stands at its first value
+abbrev pub KeysFirst : Keyed → Type 0
+KeysFirst entries = AllByRecursion (λ one. key_of one.1 ≡ one.0) entries
 
 -- the row of a key
 abbrev pub keyed_of : Keyed → Value → Option (List Value)

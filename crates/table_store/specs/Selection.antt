@@ -1,9 +1,12 @@
 -- Which rows a select answers, and how many.
-use Rattle.std.specs.Prelude.{ℕ, Bool, List, Option, Some, None, filter, length, nat_lt, not, slice_get, if◌then◌else◌}
+use Rattle.std.specs.Prelude.{ℕ, zero, suc, Bool, List, Option, Some, None, filter, length, nat_lt, not, slice_get, if◌then◌else◌}
+use Rattle.std.specs.declared.ops.Bound.{Bound}
+use Rattle.std.specs.declared.ops.Bound.TheVariants.{Included, Excluded, Unbounded}
 use Rattle.std.specs.Option.{is_some}
 use Rattle.std.specs.BTreeMap.{BTreeMap, is_at}
 use Rattle.std.specs.Map.{lookup}
 use Rattle.svc_values.specs.declared.statement.Test.{Test}
+use Rattle.svc_values.specs.declared.statement.Test.TheVariants as test
 use Rattle.svc_values.specs.declared.value.Value.{Value}
 use Rattle.svc_values.specs.meaning.Order.{value_cmp}
 use Rattle.svc_values.specs.meaning.Tests.{value_meets}
@@ -16,6 +19,17 @@ at_most_32 rows = if nat_lt 32 (length rows) then None else Some rows
 -- the rows whose value in the column meets the test, each with its key
 abbrev pub meeting : ℕ → Test → Value → Keyed → Keyed
 meeting column compared than rows = filter (λ entry. value_meets compared than (slice_get entry.1 column)) rows
+
+-- where the values begin and end that meet a test
+abbrev pub values_between : Test → Value → Bound Value × Bound Value
+values_between test.Eq than = (Included than, Included than)
+values_between test.Lt than = (Unbounded, Excluded than)
+values_between test.Ge than = (Included than, Unbounded)
+
+-- where the keys begin and end whose rows may meet a test in a column: the first column has the keys
+abbrev pub keys_sought : ℕ → Test → Value → Bound Value × Bound Value
+keys_sought zero compared than = values_between compared than
+keys_sought (suc column) compared than = (Unbounded, Unbounded)
 
 -- whether the key is one of these
 abbrev pub is_among : BTreeMap Value ℕ → Value → Bool

@@ -9,5 +9,6 @@ mod shelves;
 mod tables;
 
 pub use row_map::RowMap;
+pub use select::keys_sought;
 pub use shelves::{IndexOf, TableRows, are_indexes};
 pub use tables::Tables;

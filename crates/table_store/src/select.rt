@@ -1,22 +1,43 @@
 //! Rows that meet a test.
 ghost use Rattle.std.specs.Prelude.{◌≡◌, ◌&&◌, not, IfOk, OnOk, if◌then◌else◌};
 ghost use Rattle.std.specs.Option.{option_map, option_or};
+ghost use Rattle.std.specs.Range.Bound.{bound_map};
 ghost use Rattle.svc_values.specs.declared.value.Value.{Value as ValueSeen};
 ghost use Rattle.table_store.specs.Indexes.{IsIndexOf, is_spot_of};
-ghost use Rattle.table_store.specs.Rows.{keyed_of, KeysRise};
+ghost use Rattle.table_store.specs.Rows.{keyed_of, KeysFirst, KeysRise};
 ghost use Rattle.table_store.specs.Selection.{apart_from, at_most_32, is_among, meeting};
+ghost use Rattle.table_store.specs.Selection.{keys_sought as keys_sought_def};
 
 use crate::column_index::{ColumnIndex, Pair, Spot, ends};
 use crate::row_map::RowMap;
 use std::alloc::Global;
 use std::collections::BTreeMap;
+use std::ops::Bound;
 use svc_values::{NoMemory, Row, Test, TryCopy, Value, value_meets};
 
 /// The most rows that a select answers.
 const ROW_LIMIT: usize = 32;
 
+/// Between which keys the rows stand whose value in a column, told by its place from 0, may meet a
+/// test. The first column has the keys, and there these are the keys that meet it; in any other column
+/// they are all. It takes no memory.
+pub fn keys_sought(column: usize, test: Test, value: &Value) -> (Bound<&Value>, Bound<&Value>)
+    ensures from { bound_map (λ key. key.now) result.0 ≡ (keys_sought_def column test value.now).0 }
+    ensures to { bound_map (λ key. key.now) result.1 ≡ (keys_sought_def column test value.now).1 }
+{
+    if column != 0 {
+        return (Bound::Unbounded, Bound::Unbounded);
+    }
+    match test {
+        Test::Eq => (Bound::Included(value), Bound::Included(value)),
+        Test::Lt => (Bound::Unbounded, Bound::Excluded(value)),
+        Test::Ge => (Bound::Included(value), Bound::Unbounded),
+    }
+}
+
 /// Copies of the rows whose value in a column meets the test and whose keys are none of these, by their
-/// keys, unless they are more than 32. Linear in the rows.
+/// keys, unless they are more than 32. In the first column, that of the keys, it takes the logarithm of
+/// the rows and 33 of them at most beside those of these keys, and else it is linear in the rows.
 pub(crate) fn found_in(
     alloc: Global,
     rows: &RowMap,
@@ -25,11 +46,12 @@ pub(crate) fn found_in(
     value: &Value,
     but: &BTreeMap<Value, usize>,
 ) -> Result<Option<BTreeMap<Value, Row>>, NoMemory>
+    requires { KeysFirst rows.now }
     ensures found { IfOk result (λ found. option_map (λ rows. rows.entries) found ≡ at_most_32 (apart_from but.now (meeting column test value.now rows.now))) }
     ensures rising { KeysRise rows.now }
 {
     let mut found = BTreeMap::new(alloc);
-    for (key, row) in rows.as_map() {
+    for (key, row) in rows.as_map().range(keys_sought(column, test, value)) {
         if value_meets(test, value, row.get(column)) && !but.contains_key(key) {
             if found.len() >= ROW_LIMIT {
                 return Ok(None);

@@ -9,7 +9,7 @@ ghost use Rattle.svc_values.specs.declared.value.Value.{Value as ValueSeen};
 ghost use Rattle.table_store.specs.Given.{keyed};
 ghost use Rattle.table_store.specs.Indexes.{AreIndexesOf, IsIndexOf, with_row};
 ghost use Rattle.table_store.specs.declared.column_index.ColumnIndex.{ColumnIndex as IndexSeen};
-ghost use Rattle.table_store.specs.Rows.{keyed_of, KeysRise};
+ghost use Rattle.table_store.specs.Rows.{keyed_of, KeysFirst, KeysRise};
 ghost use Rattle.table_store.specs.Selection.{apart_from, at_most_32, meeting};
 
 use crate::column_index::ColumnIndex;
@@ -64,6 +64,9 @@ fn changed(
     ensures rising { KeysRise rows.now }
 {
     let _ = rows.as_map();
+    if indexes.is_empty() {
+        return Ok(indexes);
+    }
     let mut indexes = indexes;
     let before = rows.get(key);
     for at in 0..indexes.len() {
@@ -164,8 +167,9 @@ impl Shelf {
     }
 
     /// Copies of the rows whose value in a column meets the test and whose keys are none of these, by
-    /// their keys, unless they are more than 32. Where the column is indexed, it takes the logarithm of
-    /// the rows and 33 of them at most beside those of these keys, and else it is linear in the rows.
+    /// their keys, unless they are more than 32. Where the column is the first, that of the keys, or is
+    /// indexed, it takes the logarithm of the rows and 33 of them at most beside those of these keys,
+    /// and else it is linear in the rows.
     fn found(
         &self,
         column: usize,
@@ -173,6 +177,7 @@ impl Shelf {
         value: &Value,
         but: &BTreeMap<Value, usize>,
     ) -> Result<Option<BTreeMap<Value, Row>>, NoMemory>
+        requires { KeysFirst self.now }
         ensures { IfOk result (λ found. option_map (λ rows. rows.entries) found ≡ at_most_32 (apart_from but.now (meeting column test value.now self.now))) }
     {
         match self.index(column) {
@@ -189,6 +194,7 @@ impl Shelf {
         test: Test,
         value: &Value,
     ) -> Result<Option<Vec<Row>>, NoMemory>
+        requires { KeysFirst self.now }
         ensures { IfOk result (λ found. option_map (λ rows. rows.items) found ≡ at_most_32 (selected_def column test value.now (values_of self.now))) }
     {
         let none = BTreeMap::new(self.alloc);
@@ -206,6 +212,7 @@ impl Shelf {
         value: &Value,
         but: &BTreeMap<Value, usize>,
     ) -> Result<Option<RowMap>, NoMemory>
+        requires { KeysFirst self.now }
         ensures { IfOk result (λ found. found ≡ at_most_32 (apart_from but.now (meeting column test value.now self.now))) }
     {
         match self.found(column, test, value, but)? {

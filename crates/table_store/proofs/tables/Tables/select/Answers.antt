@@ -4,7 +4,11 @@ use Rattle.svc_values.specs.meaning.Tables.{rows_at}
 use Rattle.svc_values.specs.meaning.Tests.{selected}
 use Rattle.table_store.specs.Selection.{at_most_32}
 use Rattle.table_store.proofs.Keeps.{of_rows}
+use Rattle.table_store.proofs.Sought.{firsts_in}
 use Rattle.table_store.proofs.tables.Tables.select.Goals as goal
+
+pub selected-requires : goal.selected-requires
+selected-requires c = firsts_in c.args.self.now c.args.table.now c.in-Some.shelf.now c.in-Some.ensures.kept c.in-Some.ensures.rows
 
 pub returns-in-Some : goal.returns-in-Some
 returns-in-Some c =
