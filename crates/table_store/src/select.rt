@@ -19,8 +19,8 @@ use svc_values::{NoMemory, Row, Test, TryCopy, Value, value_meets};
 const ROW_LIMIT: usize = 32;
 
 /// Between which keys the rows stand whose value in a column, told by its place from 0, may meet a
-/// test. The first column has the keys, and there these are the keys that meet it; in any other column
-/// they are all. It takes no memory.
+/// test. The first column has the keys, and there these are the keys that meet it; in any other
+/// column they are all. It takes no memory.
 pub fn keys_sought(column: usize, test: Test, value: &Value) -> (Bound<&Value>, Bound<&Value>)
     ensures from { bound_map (λ key. key.now) result.0 ≡ (keys_sought_def column test value.now).0 }
     ensures to { bound_map (λ key. key.now) result.1 ≡ (keys_sought_def column test value.now).1 }
@@ -35,9 +35,10 @@ pub fn keys_sought(column: usize, test: Test, value: &Value) -> (Bound<&Value>, 
     }
 }
 
-/// Copies of the rows whose value in a column meets the test and whose keys are none of these, by their
-/// keys, unless they are more than 32. In the first column, that of the keys, it takes the logarithm of
-/// the rows and 33 of them at most beside those of these keys, and else it is linear in the rows.
+/// Copies of the rows whose value in a column meets the test and whose keys are none of these, by
+/// their keys, unless they are more than 32. In the first column, that of the keys, it takes the
+/// logarithm of the rows and 33 of them at most beside those of these keys, and else it is linear in
+/// the rows.
 pub(crate) fn found_in(
     alloc: Global,
     rows: &RowMap,

@@ -167,9 +167,9 @@ impl Shelf {
     }
 
     /// Copies of the rows whose value in a column meets the test and whose keys are none of these, by
-    /// their keys, unless they are more than 32. Where the column is the first, that of the keys, or is
-    /// indexed, it takes the logarithm of the rows and 33 of them at most beside those of these keys,
-    /// and else it is linear in the rows.
+    /// their keys, unless they are more than 32. Where the column is the first, that of the keys, or
+    /// is indexed, it takes the logarithm of the rows and 33 of them at most beside those of these
+    /// keys, and else it is linear in the rows.
     fn found(
         &self,
         column: usize,

@@ -145,8 +145,8 @@ impl Tables {
 
     /// Copies of the rows whose value in a column, told by its place from 0, meets the test, in order
     /// of key, and `None` exactly where more than 32 do. Where the column is the first, that of the
-    /// keys, or is indexed, it takes the logarithm of the rows and 33 of them at most, and else it is
-    /// linear in the rows of the table.
+    /// keys, or is indexed, it takes the logarithm of the rows and 33 of them at most, and else it
+    /// is linear in the rows of the table.
     pub fn select(
         &self,
         table: &Name,
@@ -162,8 +162,8 @@ impl Tables {
         }
     }
 
-    /// The same without the rows of these keys, each row with its key. It takes the time of `select` and
-    /// that of these keys.
+    /// The same without the rows of these keys, each row with its key. It takes the time of `select`
+    /// and that of these keys.
     pub fn select_but(
         &self,
         table: &Name,

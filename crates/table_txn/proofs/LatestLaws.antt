@@ -22,6 +22,11 @@ key_changed old new key copied at same changed k =
     subst (λ (f : Value → Value → Ordering). lookup (is_at (f k)) new.entries ≡ cond (is_at (f key) k) at (lookup (is_at (f k)) old.entries)) cmp_is
     (subst (λ (v : Value). lookup (is_at (cmp-value.it k)) new.entries ≡ cond (is_at (cmp-value.it v) k) at (lookup (is_at (cmp-value.it k)) old.entries)) same (changed k))
 
+-- what a map of keys had at one
+pub key_was : (old : Keys) (key copied : Value) (was : Option ℕ) → copied ≡ key → was ≡ lookup (is_at (cmp-value.it copied)) old.entries → was ≡ place_in (Some old) key
+key_was old key copied was same is =
+    is ∙ ap (λ (f : Value → Value → Ordering). lookup (is_at (f copied)) old.entries) cmp_is ∙ ap (λ k. lookup (is_at (value_cmp k)) old.entries) same
+
 -- a change of one map of the maps
 changed_in : (old new : Latest) (table : List ℕ) (key : Value) (at : Option ℕ) (kept : Keys)
     → ((t : List ℕ) → keys_kept new t ≡ cond (is_eq (slice_cmp nat_cmp table t)) (Some kept) (keys_kept old t))

@@ -1,5 +1,5 @@
 -- The writes of a transaction with the places of the last ones.
-use Rattle.std.proofs.Common.{◌≡◌, ◌⊎◌, inl, inr, ℕ, ◌+◌, ◌<◌, Bool, true, false, cond, List, [], ◌∷◌, ◌++◌, length, take, get_or, refl, sym, ◌∙◌, ap, subst, append_assoc, append-nil, arith}
+use Rattle.std.proofs.Common.{◌≡◌, ◌⊎◌, inl, inr, ℕ, ◌+◌, ◌<◌, Bool, true, false, cond, List, [], ◌∷◌, ◌++◌, length, slice_set, take, get_or, refl, sym, ◌∙◌, ap, subst, append_assoc, append-nil, arith}
 use Rattle.std.proofs.lemmas.Option.{slice_get_within, get_or_from_slice_get}
 use Rattle.std.specs.Prelude.{Option, Some, None, IsSome, slice_get}
 use Rattle.std.proofs.lemmas.Bool.{cases_Bool}
@@ -61,6 +61,17 @@ before_push first (one ∷ writes) write (at ∷ before) are = (
       (before_push (first ++ one ∷ []) writes write before are.1),
 )
 
+before_room : (first writes : List Write) (before : List (Option ℕ)) (spare : Option ℕ) → AreBeforeFrom first writes before → length writes < length (take (length writes) before ++ spare ∷ [])
+before_room first [] before spare are = omega arith
+before_room first (write ∷ writes) [] spare are = absurd are
+before_room first (write ∷ writes) (at ∷ before) spare are = let more = before_room (first ++ write ∷ []) writes before spare are.1 in omega (arith, more)
+
+before_set : (first writes : List Write) (before : List (Option ℕ)) (spare one : Option ℕ) → AreBeforeFrom first writes before
+    → slice_set (take (length writes) before ++ spare ∷ []) (length writes) one ≡ take (length writes) before ++ one ∷ []
+before_set first [] before spare one are = refl
+before_set first (write ∷ writes) [] spare one are = absurd are
+before_set first (write ∷ writes) (at ∷ before) spare one are = ap (λ l. at ∷ l) (before_set (first ++ write ∷ []) writes before spare one are.1)
+
 pub before_pop : (first writes : List Write) (write : Write) (before : List (Option ℕ)) → AreBeforeFrom first (writes ++ write ∷ []) before
     → AreBeforeFrom first writes before × (slice_get before (length writes) ≡ Some (last_at (first ++ writes) write.table write.key))
 before_pop first [] write [] are = absurd are
@@ -87,20 +98,25 @@ module _ (writes : List Write) (before : List (Option ℕ)) (latest : Latest) (o
   pub own_cut : AreOwn writes (take at before) latest
   own_cut = subst (λ l. AreOwn writes l latest) (append-nil (take at before)) (own_kept [])
 
-  module _ (write : Write) (one : Option ℕ) (is : one ≡ place_kept latest write.table write.key) (new : Latest) where
-    pub own_pushed : HasPlace latest write.table write.key (Some at) new → AreOwn (writes ++ write ∷ []) (take at before ++ one ∷ []) new
-    own_pushed has = record {
-      before_each = subst (λ n. AreBefore (writes ++ write ∷ []) (take n before ++ one ∷ [])) (sym here)
-          (subst (λ o. AreBefore (writes ++ write ∷ []) (take (length writes) before ++ o ∷ [])) (sym (is ∙ own.last write.table write.key)) (before_push [] writes write before own.before_each));
+  -- there is room for the place before the next write
+  pub room_last : (spare : Option ℕ) → at < length (take at before ++ spare ∷ [])
+  room_last spare = subst (λ n. n < length (take n before ++ spare ∷ [])) (sym here) (before_room [] writes before spare own.before_each)
+
+  module _ (write : Write) (new : Latest) (spare : Option ℕ) where
+    pub own_pushed : (one : Option ℕ) → one ≡ place_kept latest write.table write.key → HasPlace latest write.table write.key (Some at) new → AreOwn (writes ++ write ∷ []) (slice_set (take at before ++ spare ∷ []) at one) new
+    own_pushed one is has = record {
+      before_each = subst (λ n. AreBefore (writes ++ write ∷ []) (slice_set (take n before ++ spare ∷ []) n one)) (sym here)
+          (subst (AreBefore (writes ++ write ∷ [])) (sym (before_set [] writes before spare one own.before_each))
+          (subst (λ o. AreBefore (writes ++ write ∷ []) (take (length writes) before ++ o ∷ [])) (sym (is ∙ own.last write.table write.key)) (before_push [] writes write before own.before_each)));
       last = latest_push writes write latest new own.last (subst (λ n. HasPlace latest write.table write.key (Some n) new) here has);
     }
 
     -- there was no memory for its place
-    pub own_refused : HasSamePlaces latest new → (short : List Write) → short ≡ take at (writes ++ write ∷ []) → AreOwn short (take at before ++ one ∷ []) new
+    pub own_refused : HasSamePlaces latest new → (short : List Write) → short ≡ take at (writes ++ write ∷ []) → AreOwn short (take at before ++ spare ∷ []) new
     own_refused same short cut =
         let back : short ≡ writes = cut ∙ take_at writes (write ∷ []) at (sym here) in
-        subst (λ w. AreOwn w (take at before ++ one ∷ []) new) (sym back)
-        (record { before_each = (own_kept (one ∷ [])).before_each; last = latest_same writes latest new own.last same })
+        subst (λ w. AreOwn w (take at before ++ spare ∷ []) new) (sym back)
+        (record { before_each = (own_kept (spare ∷ [])).before_each; last = latest_same writes latest new own.last same })
 
 -- ---- one write less
 

@@ -1,5 +1,5 @@
 -- The statements of a call, one after the other.
-use Rattle.std.proofs.Common.{◌≡◌, ℕ, ◌+◌, ◌<◌, ◌≤◌, Bool, true, false, List, [], ◌∷◌, ◌++◌, length, take, drop, get_or, refl, sym, ap, ◌∙◌, subst, append_assoc, append-nil}
+use Rattle.std.proofs.Common.{◌≡◌, ℕ, ◌+◌, ◌<◌, ◌≤◌, Bool, true, false, cond, List, [], ◌∷◌, ◌++◌, length, take, drop, get_or, refl, sym, ap, ◌∙◌, subst, append_assoc, append-nil}
 use Rattle.std.specs.Prelude.{Option, Some, None, option_map}
 use Rattle.std.specs.List.{list_all}
 use Rattle.std.proofs.lemmas.List.{take_at, map-append}
@@ -21,7 +21,7 @@ use Rattle.svc_values.proofs.Offered.{with_writes-append}
 use Rattle.stmt_meaning.specs.declared.fault.TxnFault.{TxnFault}
 use Rattle.stmt_meaning.specs.Drawing.{Drew, DrewAll, Ends}
 use Rattle.stmt_meaning.specs.InnerRunning.{one_left, all_left}
-use Rattle.stmt_meaning.specs.meaning.Meaning.{AllDone, Meant, statements_done, worked}
+use Rattle.stmt_meaning.specs.meaning.Meaning.{AllDone, Meant, after_first, and_on, ended_by, mean, statements_done, worked}
 use Rattle.stmt_meaning.specs.meaning.Reads.{Read, read_at, reads_at}
 use Rattle.stmt_meaning.proofs.Offered.{RanSoFar, ends_as, left_is, mean-fits, ran_all, ran_drew, ran_ended, ran_none, ran_on, ran_refusal}
 use Rattle.table_store.specs.Stored.{Stored, AreKept}
@@ -153,14 +153,25 @@ all_append p [] ys h k = k
 all_append p (x ∷ xs) ys h k = let parts = both (p x) (list_all p xs) h in both_if (p x) (list_all p (xs ++ ys)) parts.0 (all_append p xs ys parts.1 k)
 
 -- tables fit with writes that do
-fits_over : (schemas : List Schema) (committed : List PlainRow) (writes : List Write) → tables_fit schemas committed ≡ true → writes_fit schemas writes ≡ true → tables_fit schemas (with_writes committed writes) ≡ true
+pub fits_over : (schemas : List Schema) (committed : List PlainRow) (writes : List Write) → tables_fit schemas committed ≡ true → writes_fit schemas writes ≡ true → tables_fit schemas (with_writes committed writes) ≡ true
 fits_over schemas committed [] fit all = fit
 fits_over schemas committed (write ∷ writes) fit all =
     let parts = both (write_fits schemas write) (writes_fit schemas writes) all in
     fits_over schemas (with_write committed write) writes (all_with_write (fits_one schemas) committed write.table write.key write.row fit (fits_if_any schemas write parts.0)) parts.1
 
-pub run_fits : (tables : Stored) (names : List (List ℕ)) (settings : NamedValues) (old new : Transaction) (statements : List Statement) (answers : List Answer) (draws : List Draw) → AreKept tables → writes_fit tables.schemas old.writes ≡ true
-    → HasRun tables names settings old statements answers draws new → writes_fit tables.schemas new.writes ≡ true
-run_fits tables names settings old new statements answers draws kept fit run =
-    let made = mean-fits (shape_of tables names) (with_writes tables.rows old.writes) settings (call.Work statements false) draws run.meant (fits_over tables.schemas tables.rows old.writes kept.fitting fit) run.means in
-    ap (writes_fit tables.schemas) run.wrote ∙ all_append (write_fits tables.schemas) old.writes run.meant.writes fit made
+-- and so do they with those of one statement more
+pub next_fits : {S : Type 0} (drew : S → Drew → S → Type 0) (tables : Stored) (names : List (List ℕ)) (settings : NamedValues) (now : Transaction) (statement : Statement) (source : S) (answers : List Answer) (drawn : List Draw)
+    (is_refused : Bool) (next : Transaction) (new : S) (more : List Answer) (longer : List Draw) → AreKept tables → writes_fit tables.schemas now.writes ≡ true
+    → HasNext drew tables names settings now statement source answers drawn is_refused next new more longer → is_refused ≡ false → writes_fit tables.schemas next.writes ≡ true
+next_fits drew tables names settings now statement source answers drawn is_refused next new more longer kept fit done goes =
+    let one = done.one in
+    let rows = with_writes tables.rows now.writes in
+    let shape = shape_of tables names in
+    let none : AllDone = record { answers = []; writes = []; reads = []; rest = one.rest; refused = false } in
+    let meant : Meant = record { answers = (one.answer ∷ []) ++ []; tables = with_writes rows (one.writes ++ []); settings = settings; writes = one.writes ++ []; reads = one.reads ++ []; rest = one.rest } in
+    let means : mean shape rows settings (call.Work (statement ∷ []) false) done.done.ran.given ≡ Some meant =
+    ap (λ o. worked rows settings false (and_on o (λ first. statements_done shape (with_writes rows first.writes) settings [] first.rest))) done.done.ran.means
+    ∙ ap (λ b. worked rows settings false (cond b (ended_by one) (after_first one (Some none)))) (sym done.refusal ∙ goes) in
+    let made = mean-fits shape rows settings (call.Work (statement ∷ []) false) done.done.ran.given meant (fits_over tables.schemas tables.rows now.writes kept.fitting fit) means in
+    ap (writes_fit tables.schemas) done.done.wrote
+    ∙ all_append (write_fits tables.schemas) now.writes one.writes fit (sym (ap (writes_fit tables.schemas) (append-nil one.writes)) ∙ made)

@@ -5,12 +5,15 @@ use Rattle.std.specs.List.{AllByRecursion}
 use Rattle.std.specs.List.Sorted.{IsStrictlySortedBy}
 use Rattle.std.specs.Option.{is_some, option_map, option_or}
 use Rattle.std.specs.declared.cmp.Ordering.TheVariants.{Less}
+use Rattle.std.specs.declared.ops.Bound.{Bound}
+use Rattle.std.specs.declared.ops.Bound.TheVariants.{Excluded, Unbounded}
 use Rattle.std.specs.Ordering.{is_eq}
 use Rattle.std.specs.Str.{bytes_eq}
 use Rattle.std.specs.BTreeMap.{is_at as is_key}
+use Rattle.std.specs.BTreeMap.Range.{entries_between}
 use Rattle.std.specs.Map.{keys_of, lookup, values_of}
 use Rattle.std.proofs.lemmas.Bool.{cases_Bool}
-use Rattle.std.proofs.lemmas.Map.Entries.{option_filter}
+use Rattle.std.proofs.lemmas.Map.Entries.{option_filter, lookup-filter-keys}
 use Rattle.svc_values.specs.declared.entry.Write.{Write}
 use Rattle.svc_values.specs.declared.statement.Test.{Test}
 use Rattle.svc_values.specs.declared.value.Value.{Value}
@@ -26,14 +29,14 @@ use Rattle.svc_values.proofs.Offered.{AreTables-filter, AreTables-with_writes}
 use Rattle.stmt_meaning.specs.meaning.Effects.{limited, first_of}
 use Rattle.stmt_meaning.specs.meaning.Meaning.{seen_at}
 use Rattle.table_store.specs.Given.{keyed_rows}
-use Rattle.table_store.specs.Rows.{Keyed, KeysRise, keyed_of, row_if_any}
-use Rattle.table_store.specs.Selection.{apart_from, at_most_32, is_among, meeting}
-use Rattle.table_store.proofs.Offered.{keys_equal, keys_equal_if, apart_at, meeting_at, no_longer, rise_filter, same_keyed, values_meeting}
+use Rattle.table_store.specs.Rows.{Keyed, KeysFirst, KeysRise, keyed_of, row_if_any}
+use Rattle.table_store.specs.Selection.{apart_from, at_most_32, is_among, keys_sought, meeting}
+use Rattle.table_store.proofs.Offered.{keys_equal, keys_equal_if, apart_at, first_at, in_sought, meeting_at, no_longer, rise_filter, same_keyed, sought_skips, values_meeting}
 use Rattle.table_txn.specs.Own.{Keys, last_at, last_write, place_in}
 use Rattle.table_txn.specs.Selecting.{if_met, select_answer, with_own}
 use Rattle.table_txn.proofs.Over.{last_within, over_row, stands}
 use Rattle.table_txn.proofs.Picks.{Up, pick_all, up_of}
-use Rattle.table_txn.proofs.ScanSteps.{untouched}
+use Rattle.table_txn.proofs.ScanSteps.{AreLeft, key_last, left_first, left_next, untouched}
 
 -- ---- the rows of a table by their keys
 
@@ -130,6 +133,34 @@ got [] i lt = absurd (omega arith)
 got (x ∷ xs) zero lt = (x, refl)
 got (x ∷ xs) (suc i) lt = got xs i (omega arith)
 
+-- ---- the keys that were written
+
+-- each stands with the place of its last write
+abbrev pub AreLast : List Write → List ℕ → List (Value × ℕ) → Type 0
+AreLast writes table keys = AllByRecursion (λ one. last_at writes table one.0 ≡ Some one.1) keys
+
+last_left : (rows : List PlainRow) (writes : List Write) (table : List ℕ) (lo : Bound Value) (left : List (Value × ℕ)) → AreLeft rows writes table lo left → AreLast writes table left
+last_left rows writes table lo [] are = tt
+last_left rows writes table lo (one ∷ rest) are = (
+  key_last rows writes table lo (one ∷ rest) rest one.0 one.1 are refl,
+  last_left rows writes table (Excluded one.0) rest (left_next rows writes table lo (one ∷ rest) rest one.0 one.1 are refl),
+)
+
+last_filter : (p : Value × ℕ → Bool) (writes : List Write) (table : List ℕ) (keys : List (Value × ℕ)) → AreLast writes table keys → AreLast writes table (filter p keys)
+last_filter p writes table [] are = tt
+last_filter p writes table (one ∷ rest) are = by_test (p one) (last_filter p writes table rest are.1)
+  where
+    by_test : (b : Bool) → AreLast writes table (filter p rest) → AreLast writes table (cond b (one ∷ filter p rest) (filter p rest))
+    by_test true more = (are.0, more)
+    by_test false more = more
+
+-- also those between two bounds
+pub last_between : (rows : List PlainRow) (writes : List Write) (table : List ℕ) (lo hi : Bound Value) (keys : Keys) → IsStrictlySortedBy value_cmp (keys_of keys.entries)
+    → ((q : Value) → place_in (Some keys) q ≡ last_at writes table q) → (left : List (Value × ℕ)) → left ≡ entries_between value_cmp lo hi keys.entries → AreLast writes table left
+last_between rows writes table lo hi keys rising tells left left_is =
+    subst (AreLast writes table) (sym left_is)
+    (last_filter _ writes table keys.entries (last_left rows writes table Unbounded keys.entries (left_first rows writes table keys.entries rising tells)))
+
 module _ (rows : List PlainRow) (ordered : AreTables rows) (writes : List Write) (table : List ℕ) where
   abbrev pub committed : Keyed
   committed = keyed_rows rows table
@@ -188,14 +219,28 @@ module _ (rows : List PlainRow) (ordered : AreTables rows) (writes : List Write)
       pub part : (q : Value) (row : List Value) → keyed_of found q ≡ Some row → keyed_of wanted q ≡ Some row
       pub whole : (q : Value) → lookup (is_key (value_cmp q)) left ≡ None → keyed_of found q ≡ keyed_of wanted q
 
-    -- before the first key
-    pub found_first : (keys : Keys) → ((q : Value) → place_in (Some keys) q ≡ last_at writes table q) → (left : List (Value × ℕ)) → left ≡ keys.entries
+    -- no row is wanted whose key is not sought
+    none_out : KeysFirst seen → (q : Value) → in_sought column test than q ≡ false → keyed_of wanted q ≡ None
+    none_out firsts q out = wanted_at q ∙ by_row (keyed_of seen q) refl
+      where
+        by_row : (row : Option (List Value)) → keyed_of seen q ≡ row → option_filter (λ r. value_meets test than (slice_get r column)) row ≡ None
+        by_row None e = refl
+        by_row (Some row) e = ap (λ b. cond b (Some row) None) (sought_skips column test than q row (first_at seen q row firsts e) out)
+
+    -- before the first key that is sought
+    pub found_first : (keys : Keys) → ((q : Value) → place_in (Some keys) q ≡ last_at writes table q) → KeysFirst seen
+        → (left : List (Value × ℕ)) → left ≡ entries_between value_cmp (keys_sought column test than).0 (keys_sought column test than).1 keys.entries
         → (found : Keyed) → found ≡ apart_from keys (meeting column test than committed) → FoundBefore left found
-    found_first keys tells left left_is found found_is = record {
+    found_first keys tells firsts left left_is found found_is = record {
       part = λ q row h. part q row h (cases_Bool (is_among keys q));
-      whole = λ q none. alike q (ap (λ (es : List (Value × ℕ)). lookup (is_key (value_cmp q)) es) (sym left_is) ∙ none);
+      whole = λ q none. whole q none (cases_Bool (in_sought column test than q));
     }
       where
+        looked : (q : Value) → lookup (is_key (value_cmp q)) left ≡ cond (in_sought column test than q) (place_in (Some keys) q) None
+        looked q =
+            ap (λ (es : List (Value × ℕ)). lookup (is_key (value_cmp q)) es) left_is
+            ∙ lookup-filter-keys (is_key (value_cmp q)) (in_sought column test than) (in_sought column test than q) (λ k same. ap (in_sought column test than) (sym (keys_equal q k same))) keys.entries
+
         found_at : (q : Value) → keyed_of found q ≡ cond (not (is_among keys q)) (keyed_of (meeting column test than committed) q) None
         found_at q = ap (λ (es : Keyed). keyed_of es q) found_is ∙ apart_at keys (meeting column test than committed) q
 
@@ -209,6 +254,14 @@ module _ (rows : List PlainRow) (ordered : AreTables rows) (writes : List Write)
         none_of : (o : Option ℕ) → is_some o ≡ false → o ≡ None
         none_of None h = refl
         none_of (Some n) h = cc
+
+        whole : (q : Value) → lookup (is_key (value_cmp q)) left ≡ None → (in_sought column test than q ≡ true) ⊎ (in_sought column test than q ≡ false) → keyed_of found q ≡ keyed_of wanted q
+        whole q none (inl within) = alike q (sym (ap (λ b. cond b (place_in (Some keys) q) None) within) ∙ sym (looked q) ∙ none)
+        whole q none (inr out) = by_place (place_in (Some keys) q) refl
+          where
+            by_place : (o : Option ℕ) → place_in (Some keys) q ≡ o → keyed_of found q ≡ keyed_of wanted q
+            by_place None e = alike q e
+            by_place (Some at) e = found_at q ∙ ap (λ o. cond (not (is_some o)) (keyed_of (meeting column test than committed) q) None) e ∙ sym (none_out firsts q out)
 
         part : (q : Value) (row : List Value) → keyed_of found q ≡ Some row → (is_among keys q ≡ true) ⊎ (is_among keys q ≡ false) → keyed_of wanted q ≡ Some row
         part q row h (inl among) =
@@ -285,11 +338,13 @@ module _ (rows : List PlainRow) (ordered : AreTables rows) (writes : List Write)
         refused (values_of wanted) (omega (arith, longer, long, over)) ∙ ap limited values_wanted
 
     -- more than are answered of the committed ones alone
-    pub committed_refused : (keys : Keys) → ((q : Value) → place_in (Some keys) q ≡ last_at writes table q) → None ≡ at_most_32 (apart_from keys (meeting column test than committed)) → select_answer None ≡ limited answer_wanted
-    committed_refused keys tells none =
+    pub committed_refused : (keys : Keys) → ((q : Value) → place_in (Some keys) q ≡ last_at writes table q) → KeysFirst seen → None ≡ at_most_32 (apart_from keys (meeting column test than committed)) → select_answer None ≡ limited answer_wanted
+    committed_refused keys tells firsts none =
+        let sought = keys_sought column test than in
+        let left = entries_between value_cmp sought.0 sought.1 keys.entries in
         let found = apart_from keys (meeting column test than committed) in
         let rise = rise_filter (λ e. not (is_among keys e.0)) (meeting column test than committed) (rise_filter (λ e. value_meets test than (slice_get e.1 column)) committed (rise_of (rows_at rows (place.Table table)) up_committed)) in
-        over_refused keys.entries found (found_first keys tells keys.entries refl found refl) rise (over_of found none)
+        over_refused left found (found_first keys tells firsts left refl found refl) rise (over_of found none)
 
     -- all of them
     pub all_answered : (left : List (Value × ℕ)) (found : Keyed) → FoundBefore left found → KeysRise found → left ≡ [] → length found ≤ 32 → select_answer (Some (values_of found)) ≡ limited answer_wanted

@@ -1,10 +1,11 @@
 //! What a plan answers and writes, as the transaction sees the tables.
-ghost use Rattle.std.specs.Prelude.{◌≡◌, IfOk, Some};
+ghost use Rattle.std.specs.Prelude.{◌≡◌, IfOk, IsTrue, Some};
 ghost use Rattle.std.specs.Option.{option_copied};
 ghost use Rattle.stmt_meaning.specs.meaning.Effects.{effect as effect_def, first_of};
 ghost use Rattle.stmt_meaning.specs.meaning.Meaning.{seen_at};
 ghost use Rattle.stmt_meaning.specs.meaning.Plans.{place_of};
 ghost use Rattle.svc_values.specs.meaning.Tables.{with_writes};
+ghost use Rattle.svc_values.specs.Fitting.{tables_fit};
 ghost use Rattle.svc_values.specs.Tables.{AreTables};
 
 use crate::own::OwnWrites;
@@ -32,7 +33,8 @@ pub(crate) fn effect_on(
     own: &OwnWrites,
     plan: Plan,
 ) -> Result<Effect, NoMemory>
-    requires { AreTables tables.now.rows }
+    requires ordered { AreTables tables.now.rows }
+    requires fits { IsTrue (tables_fit tables.now.schemas (with_writes tables.now.rows own.now)) }
     ensures { IfOk result (λ effect. effect ≡ effect_def plan (seen_at (with_writes tables.now.rows own.now) (place_of plan))) }
 {
     match plan {

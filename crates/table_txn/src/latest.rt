@@ -1,5 +1,5 @@
 //! Where the last write of each table and key stands.
-ghost use Rattle.std.specs.Prelude.{◌≡◌, None, Some, IsSome, OnOk, OnErr};
+ghost use Rattle.std.specs.Prelude.{◌≡◌, None, Some, IfOk, IsSome, OnOk, OnErr};
 ghost use Rattle.table_txn.specs.Own.{HasPlace, HasSamePlaces, HasKey, place_kept, place_in};
 
 use std::alloc::Global;
@@ -22,22 +22,30 @@ pub(crate) fn place(latest: &Latest, table: &Name, key: &Value) -> Option<usize>
     }
 }
 
-fn put_key(alloc: Global, keys: &mut Keys, key: &Value, at: usize) -> Result<(), NoMemory>
+/// A key has its last write at this place. The place of the one before is given, if there is one.
+fn put_key(
+    alloc: Global,
+    keys: &mut Keys,
+    key: &Value,
+    at: usize,
+) -> Result<Option<usize>, NoMemory>
+    ensures before { IfOk result (λ before. before ≡ place_in (Some keys.old) key.now) }
     ensures ok { OnOk result (HasKey keys.old key.now (Some at) keys.new) }
     ensures err { OnErr result (keys.new.entries ≡ keys.old.entries) }
 {
-    keys.insert(key.copy(alloc)?, at)?;
-    Ok(())
+    Ok(keys.insert(key.copy(alloc)?, at)?)
 }
 
-/// A table and key has its last write at this place.
+/// A table and key has its last write at this place. The place of the one before is given, if there
+/// is one.
 pub(crate) fn put(
     alloc: Global,
     latest: &mut Latest,
     table: &Name,
     key: &Value,
     at: usize,
-) -> Result<(), NoMemory>
+) -> Result<Option<usize>, NoMemory>
+    ensures before { IfOk result (λ before. before ≡ place_kept latest.old table.now key.now) }
     ensures ok { OnOk result (HasPlace latest.old table.now key.now (Some at) latest.new) }
     ensures err { OnErr result (HasSamePlaces latest.old latest.new) }
 {
@@ -47,7 +55,7 @@ pub(crate) fn put(
             let mut keys = BTreeMap::new(alloc);
             put_key(alloc, &mut keys, key, at)?;
             latest.insert(table.copied(), keys)?;
-            Ok(())
+            Ok(None)
         }
     }
 }

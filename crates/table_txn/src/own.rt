@@ -2,7 +2,7 @@
 ghost use Rattle.std.specs.Prelude.{◌≡◌, ◌≤◌, ◌++◌, ◌∷◌, [], IfOk, OnOk, OnErr, length, take, slice_get, Some, option_copied, option_to_list};
 ghost use Rattle.svc_values.specs.declared.value.Value.{Value as Key};
 ghost use Rattle.svc_values.specs.declared.entry.Write.{Write as OneWrite};
-ghost use Rattle.table_txn.specs.Own.{last_write, last_at, place_in, HasPlace, HasSamePlaces, PopsBehind};
+ghost use Rattle.table_txn.specs.Own.{last_write, last_at, place_in, place_kept, HasPlace, HasSamePlaces, PopsBehind};
 
 use crate::latest::{self, Keys, Latest};
 use std::alloc::Global;
@@ -52,13 +52,20 @@ fn shorten(alloc: Global, writes: &mut Writes, count: usize)
     *writes = Writes::from_vec(items);
 }
 
-/// The write at this place is the last one of its table and key.
-fn index(alloc: Global, writes: &Writes, latest: &mut Latest, at: usize) -> Result<(), NoMemory>
+/// The write at this place is the last one of its table and key. The place of the one before is
+/// given, if there is one.
+fn index(
+    alloc: Global,
+    writes: &Writes,
+    latest: &mut Latest,
+    at: usize,
+) -> Result<Option<usize>, NoMemory>
+    ensures before { IfOk result (λ before. (write : OneWrite) → slice_get writes.now at ≡ Some write → before ≡ place_kept latest.old write.table write.key) }
     ensures ok { OnOk result ((write : OneWrite) → slice_get writes.now at ≡ Some write → HasPlace latest.old write.table write.key (Some at) latest.new) }
     ensures err { OnErr result (HasSamePlaces latest.old latest.new) }
 {
     match writes.get(at) {
-        None => Ok(()),
+        None => Ok(None),
         Some(write) => latest::put(alloc, latest, &write.table, &write.key, at),
     }
 }
@@ -131,12 +138,14 @@ impl OwnWrites {
         ensures err { OnErr result (self.new ≡ self.old) }
     {
         let at = self.writes.len();
-        let before = latest::place(&self.latest, &write.table, &write.key);
         self.before.truncate(at);
-        self.before.push(before)?;
+        self.before.push(None)?;
         push(&mut self.writes, write)?;
         match index(self.alloc, &self.writes, &mut self.latest, at) {
-            Ok(()) => Ok(()),
+            Ok(before) => {
+                self.before[at] = before;
+                Ok(())
+            }
             Err(_) => {
                 shorten(self.alloc, &mut self.writes, at);
                 Err(NoMemory)

@@ -1,5 +1,5 @@
 //! What is asked of all rows of a table: those that are committed, with the transaction's own over them.
-ghost use Rattle.std.specs.Prelude.{◌≡◌, IfOk, Some, None, fold, length, pos, option_to_list, option_and_then};
+ghost use Rattle.std.specs.Prelude.{◌≡◌, IfOk, IsTrue, Some, None, fold, length, pos, option_to_list, option_and_then};
 ghost use Rattle.std.specs.Map.{values_of};
 ghost use Rattle.std.specs.Option.{option_copied};
 ghost use Rattle.std.specs.Range.Bound.{bound_map, IsForward};
@@ -11,6 +11,7 @@ ghost use Rattle.svc_values.specs.declared.tables.Place.TheVariants as place;
 ghost use Rattle.stmt_meaning.specs.meaning.Effects.{table_answer};
 ghost use Rattle.stmt_meaning.specs.meaning.Meaning.{seen_at};
 ghost use Rattle.svc_values.specs.meaning.Tables.{with_writes};
+ghost use Rattle.svc_values.specs.Fitting.{tables_fit};
 ghost use Rattle.svc_values.specs.Tables.{AreTables};
 ghost use Rattle.table_txn.specs.Scanning.{AnswersAs};
 ghost use Rattle.table_txn.specs.Found.{keyed_or_none};
@@ -162,6 +163,7 @@ fn answer_over(
     work: TableWork,
 ) -> Result<Answer, NoMemory>
     requires ordered { AreTables tables.now.rows }
+    requires fits { IsTrue (tables_fit tables.now.schemas (with_writes tables.now.rows own.now)) }
     requires keys { (key : Key) → place_in (Some keys.now) key ≡ last_at own.now table.now key }
     ensures { IfOk result (λ answer. answer ≡ table_answer work (seen_at (with_writes tables.now.rows own.now) (Some (place.Table table.now)))) }
 {
@@ -195,7 +197,8 @@ pub(crate) fn scan_table(
     table: &Name,
     work: TableWork,
 ) -> Result<Answer, NoMemory>
-    requires { AreTables tables.now.rows }
+    requires ordered { AreTables tables.now.rows }
+    requires fits { IsTrue (tables_fit tables.now.schemas (with_writes tables.now.rows own.now)) }
     ensures { IfOk result (λ answer. answer ≡ table_answer work (seen_at (with_writes tables.now.rows own.now) (Some (place.Table table.now)))) }
 {
     match own.keys(table) {

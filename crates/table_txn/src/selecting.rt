@@ -1,11 +1,12 @@
 //! A select over all rows of a table: those that are committed, with the transaction's own over them.
-ghost use Rattle.std.specs.Prelude.{◌≡◌, ◌<◌, ◌≤◌, IfOk, IfSome, OnOk, Some, None, length, nat_lt, option_and_then};
+ghost use Rattle.std.specs.Prelude.{◌≡◌, ◌<◌, ◌≤◌, IfOk, IfSome, IsTrue, OnOk, Some, None, length, nat_lt, option_and_then};
 ghost use Rattle.std.specs.Option.{option_copied, option_map};
 ghost use Rattle.svc_values.specs.declared.value.Value.{Value as Key};
 ghost use Rattle.svc_values.specs.declared.tables.Place.TheVariants as place;
 ghost use Rattle.stmt_meaning.specs.meaning.Effects.{limited};
 ghost use Rattle.stmt_meaning.specs.meaning.Meaning.{seen_at};
 ghost use Rattle.svc_values.specs.meaning.Tables.{with_writes};
+ghost use Rattle.svc_values.specs.Fitting.{tables_fit};
 ghost use Rattle.svc_values.specs.Tables.{AreTables};
 ghost use Rattle.svc_values.specs.meaning.Tests.{selected};
 ghost use Rattle.table_store.specs.Rows.{keyed_of, KeysRise};
@@ -18,7 +19,7 @@ use std::alloc::Global;
 use svc_values::{
     Answer, Name, NoMemory, Row, Rows, StatementFault, Test, TryCopy, Value, Write, value_meets,
 };
-use table_store::{RowMap, Tables};
+use table_store::{RowMap, Tables, keys_sought};
 
 /// The most rows that a select answers.
 const ROW_LIMIT: usize = 32;
@@ -95,7 +96,7 @@ fn is_over(found: &RowMap) -> bool
 }
 
 /// The answer where the transaction wrote these keys in the table. Beside the committed rows that are
-/// selected it takes the time of these keys.
+/// selected it takes the time of these keys; in the first column, that of those that meet the test.
 pub(crate) fn select_over(
     alloc: Global,
     tables: &Tables,
@@ -105,6 +106,7 @@ pub(crate) fn select_over(
     sought: &Sought,
 ) -> Result<Answer, NoMemory>
     requires ordered { AreTables tables.now.rows }
+    requires fits { IsTrue (tables_fit tables.now.schemas (with_writes tables.now.rows own.now)) }
     requires keys { (key : Key) → place_in (Some keys.now) key ≡ last_at own.now table.now key }
     ensures { IfOk result (λ answer. answer ≡ limited (selected sought.now.column sought.now.test sought.now.value (seen_at (with_writes tables.now.rows own.now) (Some (place.Table table.now))))) }
 {
@@ -113,7 +115,7 @@ pub(crate) fn select_over(
         return answer_of(alloc, None);
     };
     let writes = own.writes();
-    for (key, at) in keys {
+    for (key, at) in keys.range(keys_sought(sought.column, sought.test, &sought.value)) {
         if is_over(&found) {
             return answer_of(alloc, None);
         }

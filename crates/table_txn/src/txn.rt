@@ -3,6 +3,7 @@ ghost use Rattle.std.specs.Prelude.{◌≡◌, ◌≤◌, ◌++◌, ◌∷◌, [
 ghost use Rattle.std.specs.Option.{option_copied};
 ghost use Rattle.svc_values.specs.meaning.Fitting.{writes_fit};
 ghost use Rattle.svc_values.specs.meaning.Tables.{with_writes};
+ghost use Rattle.svc_values.specs.Fitting.{tables_fit};
 ghost use Rattle.svc_values.specs.Tables.{AreTables};
 ghost use Rattle.stmt_meaning.specs.meaning.Meaning.{OneDone};
 ghost use Rattle.stmt_meaning.specs.meaning.Plans.{place_of};
@@ -245,6 +246,7 @@ impl Txn {
         drawn: &mut Vec<Draw>,
     ) -> Result<bool, TxnFault>
         requires ordered { AreTables tables.now.rows }
+        requires fits { IsTrue (tables_fit tables.now.schemas (with_writes tables.now.rows self.old.writes)) }
         requires unchanged { IsTrue is_unchanged → AreUnchanged tables.now.rows self.old.readings }
         requires ready { F.is_ready source.old }
         ensures done { IfOk result (λ is_refused. HasNext F.drew tables.now (F.names source.old) settings.now self.old statement.now source.old answers.old.items drawn.old.items is_refused self.new source.new answers.new.items drawn.new.items) }
@@ -270,6 +272,7 @@ impl Txn {
         drawn: &mut Vec<Draw>,
     ) -> Result<Answer, TxnFault>
         requires ordered { AreTables tables.now.rows }
+        requires fits { IsTrue (tables_fit tables.now.schemas (with_writes tables.now.rows self.old.writes)) }
         requires unchanged { IsTrue is_unchanged → AreUnchanged tables.now.rows self.old.readings }
         requires ready { F.is_ready source.old }
         ensures done { IfOk result (λ answer. (one : OneDone) × ((answer ≡ one.answer) × HasDone F.drew tables.now (F.names source.old) settings.now self.old statement.now source.old drawn.old.items one self.new source.new drawn.new.items)) }
@@ -289,6 +292,7 @@ impl Txn {
     /// Reads the place of a plan, and does it.
     fn work(&mut self, tables: &Tables, plan: Plan, is_unchanged: bool) -> Result<Answer, NoMemory>
         requires ordered { AreTables tables.now.rows }
+        requires fits { IsTrue (tables_fit tables.now.schemas (with_writes tables.now.rows self.old.writes)) }
         requires unchanged { IsTrue is_unchanged → AreUnchanged tables.now.rows self.old.readings }
         ensures worked { IfOk result (λ answer. HasWorked tables.now self.old plan answer self.new) }
         ensures unchanged { OnOk result (StayUnchanged tables.now.rows self.old.readings self.new.readings) }
@@ -315,7 +319,8 @@ impl Txn {
 
     /// Does a plan, on the committed tables with the transaction's own writes over them.
     fn do_plan(&mut self, tables: &Tables, plan: Plan) -> Result<Answer, NoMemory>
-        requires { AreTables tables.now.rows }
+        requires ordered { AreTables tables.now.rows }
+        requires fits { IsTrue (tables_fit tables.now.schemas (with_writes tables.now.rows self.old.writes)) }
         ensures { IfOk result (λ answer. HasWritten tables.now self.old plan answer self.new) }
     {
         let effect = effect_on(self.alloc, tables, &self.own, plan)?;

@@ -1,7 +1,15 @@
-use Rattle.std.proofs.Common.{Some}
-use Rattle.std.proofs.lemmas.Result.{on_ok_weaker, on_err_weaker}
+use Rattle.std.proofs.Common.{Some, ap, ◌∙◌}
+use Rattle.std.proofs.lemmas.Result.{IfOk-weaker, on_ok_weaker, on_err_weaker}
+use Rattle.table_txn.specs.Own.{place_in}
 use Rattle.table_txn.proofs.LatestLaws.{changed_there, unchanged_there, changed_anew}
 use Rattle.table_txn.proofs.latest.put.Goals as goal
+
+pub returns-in-Some-clause-before : goal.returns-in-Some-clause-before
+returns-in-Some-clause-before c =
+    IfOk-weaker c.put_key.result _ _ (λ before was. was ∙ ap (λ keys. place_in keys c.args.key.now) c.in-Some.ensures.value) c.put_key.ensures.before
+
+pub returns-in_ok-insert-in-None-clause-before : goal.returns-in_ok-insert-in-None-clause-before
+returns-in_ok-insert-in-None-clause-before c = ap (λ keys. place_in keys c.args.key.now) c.in-None.ensures.value
 
 pub returns-in-Some-clause-ok : goal.returns-in-Some-clause-ok
 returns-in-Some-clause-ok c =

@@ -2,17 +2,13 @@ use Rattle.std.proofs.Common.{arith, ◌≡◌, ◌<◌, ◌≤◌, true, false,
 use Rattle.std.specs.Prelude.{Some, slice_get}
 use Rattle.std.specs.Option.{option_copied}
 use Rattle.std.proofs.lemmas.Result.{IfOk-weaker}
-use Rattle.std.specs.BTreeMap.{is_at}
-use Rattle.std.specs.Map.{keys_of, lookup}
-use Rattle.std.specs.List.Sorted.{IsStrictlySortedBy}
-use Rattle.std.specs.declared.ops.Bound.TheVariants.{Excluded, Unbounded}
-use Rattle.svc_values.specs.meaning.Order.{value_cmp}
-use Rattle.svc_values.specs.contracts.value.ValueOrd.TheImpl.{cmp-value}
+use Rattle.svc_values.specs.meaning.Tables.{with_writes}
+use Rattle.svc_values.proofs.Offered.{cmp_is}
 use Rattle.table_store.specs.Given.{keyed_rows}
-use Rattle.table_store.specs.Selection.{apart_from, meeting}
+use Rattle.table_store.specs.Selection.{apart_from, keys_sought, meeting}
+use Rattle.table_store.proofs.Offered.{firsts_of_fit, sought_forward}
 use Rattle.table_txn.specs.Selecting.{select_answer}
-use Rattle.table_txn.proofs.ScanSteps.{first_keys, key_last, left_next}
-use Rattle.table_txn.proofs.Selects.{all_answered, committed_refused, found_first, found_next, over_refused, seen_last, some_at_most}
+use Rattle.table_txn.proofs.Selects.{AreLast, all_answered, committed_refused, found_first, found_next, last_between, over_refused, seen_last, some_at_most}
 use Rattle.table_txn.proofs.selecting.select_over.Goals as goal
 
 pub returns-in_default : goal.returns-in_default
@@ -20,22 +16,24 @@ returns-in_default c =
     IfOk-weaker c.answer_of.result _ _
     (λ answer told. told
     ∙ committed_refused c.args.tables.now.rows c.requires.ordered c.args.own.now c.args.table.now c.args.sought.now.column c.args.sought.now.test c.args.sought.now.value c.args.keys.now c.requires.keys
+    (firsts_of_fit c.args.tables.now.schemas (with_writes c.args.tables.now.rows c.args.own.now) c.args.table.now c.requires.fits)
     (sym c.in_default.is ∙ c.in_ok-found.ensures))
     c.answer_of.ensures
 
+pub range-key-items-requires : goal.range-key-items-requires
+range-key-items-requires c = rw (cmp_is, c.keys_sought.ensures.from, c.keys_sought.ensures.to) (sought_forward c.args.sought.now.column c.args.sought.now.test c.args.sought.now.value)
+
 pub loop-key-init : goal.loop-key-init
 loop-key-init c =
-    let gives = c.into_iter-key-iterator.ensures.into_iter_gives in
-    let sought = c.args.sought.now in (
-      (
-        Unbounded,
-        first_keys c.args.tables.now.rows c.args.own.now c.args.table.now c.into_iter-key-iterator.result
-            (subst (λ e. IsStrictlySortedBy cmp-value.it (keys_of e)) (sym gives.0) gives.5)
-            (λ q. ap (lookup (is_at (value_cmp q))) gives.0 ∙ c.requires.keys q),
-      ),
+    let sought = c.args.sought.now in
+    let bounds = keys_sought sought.column sought.test sought.value in
+    let between = rw (cmp_is, c.keys_sought.ensures.from, c.keys_sought.ensures.to) at (c.range-key-items.ensures.between tt) in
+    let left = c.into_iter-key-iterator.ensures.into_iter_gives ∙ between in (
+      last_between c.args.tables.now.rows c.args.own.now c.args.table.now bounds.0 bounds.1 c.args.keys.now (rw cmp_is at c.range-key-items.ensures.ordered) c.requires.keys c.into_iter-key-iterator.result left,
       (
         c.requires.ordered,
-        found_first c.args.tables.now.rows c.requires.ordered c.args.own.now c.args.table.now sought.column sought.test sought.value c.args.keys.now c.requires.keys c.into_iter-key-iterator.result gives.0 c.in-Some.found
+        found_first c.args.tables.now.rows c.requires.ordered c.args.own.now c.args.table.now sought.column sought.test sought.value c.args.keys.now c.requires.keys
+            (firsts_of_fit c.args.tables.now.schemas (with_writes c.args.tables.now.rows c.args.own.now) c.args.table.now c.requires.fits) c.into_iter-key-iterator.result left c.in-Some.found
             (some_at_most c.in-Some.found (apart_from c.args.keys.now (meeting sought.column sought.test sought.value (keyed_rows c.args.tables.now.rows c.args.table.now))) (sym c.in-Some.is ∙ c.in_ok-found.ensures)),
       ),
     )
@@ -55,18 +53,16 @@ loop-key-preserved c =
     let rows = c.args.tables.now.rows in
     let writes = c.args.own.now in
     let sought = c.args.sought.now in
-    let lo = c.loop-key.invariant.0.0 in
-    let are = c.loop-key.invariant.0.1 in
+    let are = subst (AreLast writes c.args.table.now) c.in-Some-2.ensures.steps c.loop-key.invariant.0 in
     let so_far = c.loop-key.invariant.1 in
     let key = c.in-Some-2.key.now in
     let at = c.in-Some-2.at.now in
-    let write : option_copied c.get.result ≡ slice_get writes at = c.get.ensures ∙ ap (λ w. slice_get w at) c.writes-writes.ensures in
-    let last = key_last rows writes c.args.table.now lo c.loop-key.key-iterator c.next.new.self key at are c.in-Some-2.ensures.steps in (
-      (Excluded key, left_next rows writes c.args.table.now lo c.loop-key.key-iterator c.next.new.self key at are c.in-Some-2.ensures.steps),
+    let write : option_copied c.get.result ≡ slice_get writes at = c.get.ensures ∙ ap (λ w. slice_get w at) c.writes-writes.ensures in (
+      are.1,
       (
         so_far.0,
         found_next rows so_far.0 writes c.args.table.now sought.column sought.test sought.value c.loop-key.key-iterator c.next.new.self key at c.loop-key.found c.put_own.new.found so_far.1 c.in-Some-2.ensures.steps
-            (option_copied c.get.result) (seen_last rows so_far.0 writes c.args.table.now key at (option_copied c.get.result) last write) c.in_ok-put_own.ensures,
+            (option_copied c.get.result) (seen_last rows so_far.0 writes c.args.table.now key at (option_copied c.get.result) are.0 write) c.in_ok-put_own.ensures,
       ),
     )
 

@@ -2,17 +2,21 @@ use Rattle.std.proofs.Common.{◌<◌, ◌≤◌, length, take, get_or, ap, sym,
 use Rattle.std.proofs.lemmas.Result.{err_from_is_err_and}
 use Rattle.table_txn.specs.Readings.{AreUnchanged}
 use Rattle.table_txn.specs.Transactions.{Transaction}
-use Rattle.table_txn.proofs.Running.{begins, at_next, ended_under, next_under, goes_on, refused, ran_whole, run_fits}
+use Rattle.table_txn.proofs.Running.{begins, at_next, ended_under, next_under, goes_on, refused, ran_whole, fits_over, next_fits}
 use Rattle.table_txn.proofs.txn.Txn.run_on.Goals as goal
 
 pub loop-statement-init : goal.loop-statement-init
 loop-statement-init g c = record {
   so_far = begins g.F.DrawFrom.drew c.args.tables.now (g.F.DrawFrom.names c.args.draws.now) c.args.settings.now c.args.self.now c.args.statements.now c.args.draws.now c.new-answers.result.items c.new-drawn.result.items c.new-answers.ensures.items c.new-drawn.ensures.items;
+  fits = c.requires.fits;
   unchanged = λ all. all;
   items = c.as_slice-statement-items.ensures.items;
   names = refl;
   ready = c.requires.ready;
 }
+
+pub run_next-requires-clause-fits : goal.run_next-requires-clause-fits
+run_next-requires-clause-fits g c = fits_over c.args.tables.now.schemas c.args.tables.now.rows c.loop-statement.self.writes c.schemas.ensures.kept.fitting c.loop-statement.invariant.fits
 
 pub run_next-requires-clause-unchanged : goal.run_next-requires-clause-unchanged
 run_next-requires-clause-unchanged g c = λ known. c.loop-statement.invariant.unchanged (c.requires.unchanged known)
@@ -40,6 +44,7 @@ loop-statement-preserved g c =
     let next = next_under g.F.DrawFrom.drew c.args.tables.now names c.args.settings.now l.self c.statement-item.result l.draws l.answers.items l.drawn.items (g.F.DrawFrom.names l.draws) l.invariant.names c.in_ok-is_refused.is_refused n.self n.source n.answers.items n.drawn.items c.in_ok-is_refused.ensures.done in
     record {
       so_far = goes_on g.F.DrawFrom.drew c.args.tables.now names c.args.settings.now c.args.self.now statements c.args.draws.now l.answers.items l.drawn.items l.self l.draws c.statement-item.result _ at c.in_ok-is_refused.is_refused n.self n.source n.answers.items n.drawn.items next c.if-is_refused.false;
+      fits = next_fits g.F.DrawFrom.drew c.args.tables.now names c.args.settings.now l.self c.statement-item.result l.draws l.answers.items l.drawn.items c.in_ok-is_refused.is_refused n.self n.source n.answers.items n.drawn.items c.schemas.ensures.kept l.invariant.fits next c.if-is_refused.false;
       unchanged = λ all. c.in_ok-is_refused.ensures.unchanged (l.invariant.unchanged all);
       items = l.invariant.items;
       names = c.in_ok-is_refused.ensures.names ∙ l.invariant.names;
@@ -67,8 +72,7 @@ returns-clause-ran g c =
     (subst (λ s. length s ≤ l.statement-index) l.invariant.items (omega arith)) l.invariant.so_far)
 
 pub returns-clause-fits : goal.returns-clause-fits
-returns-clause-fits g c =
-    run_fits c.args.tables.now (g.F.DrawFrom.names c.args.draws.now) c.args.settings.now c.args.self.now c.loop-statement.self c.args.statements.now c.what_ran-2.result.answers c.what_ran-2.result.draws c.schemas.ensures.kept c.requires.fits (returns-clause-ran g c).0
+returns-clause-fits g c = c.loop-statement.invariant.fits
 
 pub returns-then-is_refused-clause-unchanged : goal.returns-then-is_refused-clause-unchanged
 returns-then-is_refused-clause-unchanged g c = λ all.
