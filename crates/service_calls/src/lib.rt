@@ -4,8 +4,10 @@
 //! store as against a pair, and no proof of the world opens a session.
 #![tactic(auto)]
 
+mod ended;
 mod service;
 
+pub use ended::Ended;
 pub use outage_schedule::{NoteRun as Run, NoteRuns as Runs, OutsideNote as Outside};
 pub use server_model::ServeFault;
 pub use service::Service;

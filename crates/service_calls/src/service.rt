@@ -9,8 +9,10 @@ ghost use Rattle.server_model.specs.Seen.{Seen, Lives};
 ghost use Rattle.server_model.specs.ServiceCalls.{Connected, Reaped, with_stop, ServedOne, MayCrash, Crashed, MayForget, Opened, StoppedOpening, RanOutside, StoppedOutside, AskedOne, StoppedAsk, Looked, StoppedLook};
 ghost use Rattle.service_calls.specs.Answers.{IfTold, Ends, NotMemory, runs_of};
 ghost use Rattle.commit_log.specs.meaning.Journals.{journal_of};
+ghost use Rattle.service_calls.specs.Ended.{IsEndOf};
 ghost use Rattle.service_calls.specs.Kept.{Goes, HaveOneBase};
 
+use crate::ended::Ended;
 use commit_log::Journal;
 use ltxid_book::Verdict;
 use outage_schedule::OutsideNote;
@@ -141,11 +143,11 @@ pub trait Service {
         ensures unwritten { NotMemory result (bytes self.new ≡ bytes self.old) }
         ensures looked { Ends result (λ journal. Goes (sees self.old) (sees self.new) Looked) (Goes (sees self.old) (sees self.new) StoppedLook) };
 
-    /// What the store holds, at the end of the service: what it has in memory goes first, and then
-    /// the whole store is read.
-    fn into_journal(self, alloc: Global) -> Result<Journal, ServeFault>
+    /// What the store holds, at the end of the service: the tables are the service's own, where it has
+    /// them, and only the records behind the base are read then. Else the whole store is read.
+    fn into_ended(self, alloc: Global) -> Result<Ended, ServeFault>
         requires live { (state self).is_spent ≡ false }
-        ensures told { IfOk result (λ journal. journal_of (bytes self) ≡ Ok journal) }
+        ensures told { IfOk result (IsEndOf (bytes self)) }
 
         // In a quiet service only a stop that was set stops it.
         ensures cause { IsErrOf result ServeFault.Stopped → (state self).is_quiet ≡ true → (state self).stop ≢ None };
