@@ -1,5 +1,6 @@
 mod Answered
 mod Asks
+mod AtEnd
 mod Beginning
 mod Beside
 mod Blocking

@@ -134,13 +134,13 @@ extends_unread records fault old new some read whole = record {
 -- ---- a log that knows all
 
 module _ (resting : Resting) (disk : DiskState) (current : IsCurrent resting disk) where
-  abbrev pub has_begun : HasBegun current.is_opened resting.has_horizon resting.core.log disk
-  has_begun = record { append = current.log; journal = current.journal; so_far = current.so_far }
+  abbrev pub has_begun : HasBegun current.knows.is_opened resting.has_horizon resting.core.log disk
+  has_begun = record { append = current.log; journal = current.knows.journal; so_far = current.knows.so_far }
 
   -- a stop leaves the log where it was
-  pub left_behind : (answer : Answer) (log : Log) (end : DiskState) (one : Record) → AddsTo current.is_opened resting.has_horizon answer log disk end one → Stays answer resting (record resting { core = record resting.core { log = log } }) end
+  pub left_behind : (answer : Answer) (log : Log) (end : DiskState) (one : Record) → AddsTo current.knows.is_opened resting.has_horizon answer log disk end one → Stays answer resting (record resting { core = record resting.core { log = log } }) end
   left_behind answer log end one adds = record {
-    left = λ stopped image left. record { is_opened = current.is_opened; journal = current.journal; of_journal = with_log resting.core log current.journal current.of_journal; trails = adds.trails stopped current.journal current.so_far image left };
+    left = λ stopped image left. record { is_opened = current.knows.is_opened; journal = current.knows.journal; of_journal = with_log resting.core log current.knows.journal current.knows.of_journal; trails = adds.trails stopped current.knows.journal current.knows.so_far image left };
     grants = refl;
   }
 
@@ -152,13 +152,13 @@ not_first false up e = absurd (let clash : ⊥ = cc in clash)
 
 module _ (horizon : ℕ) (resting : Resting) (disk : DiskState) (current : IsCurrent resting disk) where
   abbrev pub its : Journal
-  its = current.journal
+  its = current.knows.journal
 
   pub rises_by : (up : Bool) → up ≡ rises_on resting horizon → rises its resting.has_horizon horizon ≡ up
-  rises_by up is = ap (λ (s : Sessions). not resting.has_horizon || nat_lt s.horizon horizon) (sym current.of_journal.book.sessions) ∙ sym is
+  rises_by up is = ap (λ (s : Sessions). not resting.has_horizon || nat_lt s.horizon horizon) (sym current.knows.of_journal.book.sessions) ∙ sym is
 
   first_by : (up : Bool) → up ≡ rises_on resting horizon → first_of_opening horizon (so_far_of disk.now.seen) ≡ (if up then kept.Horizon horizon ∷ [] else [])
-  first_by up is = ap (first_of_opening horizon) current.so_far ∙ ap (λ (b : Bool). if b then kept.Horizon horizon ∷ [] else []) (rises_by up is)
+  first_by up is = ap (first_of_opening horizon) current.knows.so_far ∙ ap (λ (b : Bool). if b then kept.Horizon horizon ∷ [] else []) (rises_by up is)
 
   -- it need not be stored
   pub not_raised : false ≡ rises_on resting horizon → Raises horizon (Ok tt) resting resting disk disk
@@ -169,39 +169,41 @@ module _ (horizon : ℕ) (resting : Resting) (disk : DiskState) (current : IsCur
     stays = record { left = λ e. absurd (no_fault redo_fault.Stopped e); grants = refl };
   }
 
-  pub may_rise : true ≡ rises_on resting horizon → ((journal : Journal) → journal_of disk.now.seen ≡ Ok journal → horizon ≤ journal.incarnation + 1) → MayAddTo current.is_opened resting.has_horizon disk (kept.Horizon horizon)
+  pub may_rise : true ≡ rises_on resting horizon → ((journal : Journal) → journal_of disk.now.seen ≡ Ok journal → horizon ≤ journal.incarnation + 1) → MayAddTo current.knows.is_opened resting.has_horizon disk (kept.Horizon horizon)
   may_rise is may other reads =
-      let same : its ≡ other = one_journal disk.now.seen its other (ap journal_in current.so_far) reads in
-      let small : nat_le horizon (its.incarnation + 1) ≡ true = le-leb horizon (its.incarnation + 1) (may its (ap journal_in current.so_far)) in
+      let same : its ≡ other = one_journal disk.now.seen its other (ap journal_in current.knows.so_far) reads in
+      let small : nat_le horizon (its.incarnation + 1) ≡ true = le-leb horizon (its.incarnation + 1) (may its (ap journal_in current.knows.so_far)) in
       subst (λ (j : Journal). IsTrue (may_forget j resting.has_horizon horizon)) same (ap (λ (b : Bool). b && rises its resting.has_horizon horizon) small ∙ rises_by true is)
 
   -- it was stored
-  pub was_raised : (book : Contents) (log : Log) (end : DiskState) → true ≡ rises_on resting horizon → AddsTo current.is_opened resting.has_horizon (Ok tt) log disk end (kept.Horizon horizon) → sessions_in book ≡ after_forgetting (sessions_in resting.core.book) horizon
+  pub was_raised : (book : Contents) (log : Log) (end : DiskState) → true ≡ rises_on resting horizon → AddsTo current.knows.is_opened resting.has_horizon (Ok tt) log disk end (kept.Horizon horizon) → sessions_in book ≡ after_forgetting (sessions_in resting.core.book) horizon
       → Raises horizon (Ok tt) resting (record { core = record resting.core { log = log; book = book }; has_horizon = true }) disk end
   was_raised book log end is adds forgot =
       let begun = adds.goes_on in
       let now : Journal = with_record its (kept.Horizon horizon) in
-      let reads : journal_of end.now.seen ≡ Ok now = adds.added.journal ∙ ap (λ (r : Result SoFar ℕ). with_records (kept.Horizon horizon ∷ []) (journal_in r)) current.so_far in
+      let reads : journal_of end.now.seen ≡ Ok now = adds.added.journal ∙ ap (λ (r : Result SoFar ℕ). with_records (kept.Horizon horizon ∷ []) (journal_in r)) current.knows.so_far in
       let same : begun.journal ≡ now = one_journal end.now.seen begun.journal now (ap journal_in begun.so_far) reads in
       let later : Core = record resting.core { log = log; book = book } in
       record {
-        extends = subst (λ (l : List Record). Extends l (Ok tt) disk end) (sym (first_by true is)) (extends_one current.is_opened resting.has_horizon (kept.Horizon horizon) (Ok tt) log disk end adds);
+        extends = subst (λ (l : List Record). Extends l (Ok tt) disk end) (sym (first_by true is)) (extends_one current.knows.is_opened resting.has_horizon (kept.Horizon horizon) (Ok tt) log disk end adds);
         current = record {
-          is_opened = current.is_opened || false;
-          journal = now;
-          of_journal = follows_horizon resting.core later its resting.has_horizon horizon current.of_journal
-              (trails_unset current.is_opened resting.has_horizon its resting.core.log disk.now.seen (trails_begun current.is_opened resting.has_horizon resting.core.log disk (has_begun resting disk current))) (rises_by true is) forgot refl refl;
+          knows = record {
+            is_opened = current.knows.is_opened || false;
+            journal = now;
+            of_journal = follows_horizon resting.core later its resting.has_horizon horizon current.knows.of_journal
+                (trails_unset current.knows.is_opened resting.has_horizon its resting.core.log disk.now.seen (trails_begun current.knows.is_opened resting.has_horizon resting.core.log disk (has_begun resting disk current))) (rises_by true is) forgot refl refl;
+            so_far = begun.so_far ∙ (λ i. Ok (Begun (same i) (current.knows.is_opened || false) (or-true resting.has_horizon i)));
+          };
           log = begun.append;
-          so_far = begun.so_far ∙ (λ i. Ok (Begun (same i) (current.is_opened || false) (or-true resting.has_horizon i)));
         };
         stored = refl;
         stays = record { left = λ e. absurd (no_fault redo_fault.Stopped e); grants = refl };
       }
 
-  pub raise_failed : (fault : RedoFault) (log : Log) (end : DiskState) → true ≡ rises_on resting horizon → AddsTo current.is_opened resting.has_horizon (Err fault) log disk end (kept.Horizon horizon)
+  pub raise_failed : (fault : RedoFault) (log : Log) (end : DiskState) → true ≡ rises_on resting horizon → AddsTo current.knows.is_opened resting.has_horizon (Err fault) log disk end (kept.Horizon horizon)
       → Raises horizon (Err fault) resting (record resting { core = record resting.core { log = log } }) disk end
   raise_failed fault log end is adds = record {
-    extends = subst (λ (l : List Record). Extends l (Err fault) disk end) (sym (first_by true is)) (extends_one current.is_opened resting.has_horizon (kept.Horizon horizon) (Err fault) log disk end adds);
+    extends = subst (λ (l : List Record). Extends l (Err fault) disk end) (sym (first_by true is)) (extends_one current.knows.is_opened resting.has_horizon (kept.Horizon horizon) (Err fault) log disk end adds);
     current = tt;
     stored = tt;
     stays = left_behind resting disk current (Err fault) log end (kept.Horizon horizon) adds;
@@ -216,15 +218,15 @@ module _ (resting : Resting) (disk : DiskState) (current : IsCurrent resting dis
       let above : nat_lt b (a + 1) ≡ true = lt-ltb b (a + 1) (omega (arith, same)) in
       rw (small, above) (or-true (not is_opened))
 
-  pub may_begin : MayAddTo current.is_opened resting.has_horizon disk (kept.Opened (resting.core.source.incarnation + 1))
+  pub may_begin : MayAddTo current.knows.is_opened resting.has_horizon disk (kept.Opened (resting.core.source.incarnation + 1))
   may_begin other reads =
-      let same : current.journal ≡ other = one_journal disk.now.seen current.journal other (ap journal_in current.so_far) reads in
-      may_open_next current.is_opened resting.core.source.incarnation other.incarnation (current.of_journal.source.incarnation ∙ ap (λ (j : Journal). j.incarnation) same) few
+      let same : current.knows.journal ≡ other = one_journal disk.now.seen current.knows.journal other (ap journal_in current.knows.so_far) reads in
+      may_open_next current.knows.is_opened resting.core.source.incarnation other.incarnation (current.knows.of_journal.source.incarnation ∙ ap (λ (j : Journal). j.incarnation) same) few
 
-  pub began : (answer : Answer) (log : Log) (end : DiskState) → IsTrue resting.has_horizon → AddsTo current.is_opened resting.has_horizon answer log disk end (kept.Opened (resting.core.source.incarnation + 1))
+  pub began : (answer : Answer) (log : Log) (end : DiskState) → IsTrue resting.has_horizon → AddsTo current.knows.is_opened resting.has_horizon answer log disk end (kept.Opened (resting.core.source.incarnation + 1))
       → Begins answer resting (record resting { core = record resting.core { log = log } }) disk end
   began answer log end has adds = record {
-    extends = extends_one current.is_opened resting.has_horizon (kept.Opened (resting.core.source.incarnation + 1)) answer log disk end adds;
+    extends = extends_one current.knows.is_opened resting.has_horizon (kept.Opened (resting.core.source.incarnation + 1)) answer log disk end adds;
     ready = by answer adds;
     same = told answer;
     stays = left_behind resting disk current answer log end (kept.Opened (resting.core.source.incarnation + 1)) adds;
@@ -234,8 +236,8 @@ module _ (resting : Resting) (disk : DiskState) (current : IsCurrent resting dis
       told (Ok done) = refl
       told (Err fault) = tt
 
-      by : (a : Answer) → AddsTo current.is_opened resting.has_horizon a log disk end (kept.Opened (resting.core.source.incarnation + 1)) → OnOk a (CanLog log end)
-      by (Ok done) with_it = ready_then current.is_opened log end (subst (λ (h : Bool). HasBegun (current.is_opened || true) (h || false) log end) has with_it.goes_on)
+      by : (a : Answer) → AddsTo current.knows.is_opened resting.has_horizon a log disk end (kept.Opened (resting.core.source.incarnation + 1)) → OnOk a (CanLog log end)
+      by (Ok done) with_it = ready_then current.knows.is_opened log end (subst (λ (h : Bool). HasBegun (current.knows.is_opened || true) (h || false) log end) has with_it.goes_on)
       by (Err fault) with_it = tt
 
 -- ---- both
@@ -273,13 +275,13 @@ module _ (horizon : ℕ) (old : Resting) (disk : DiskState) (can : CanOpen horiz
   }
 
   module _ (mid : Resting) (at : DiskState) (raised : Raises horizon (Ok tt) old mid disk at) (raises : RaisesHorizon) where
-    its_journal : raised.current.journal ≡ forgetting_journal can.journal horizon
+    its_journal : raised.current.knows.journal ≡ forgetting_journal can.journal horizon
     its_journal =
-        one_journal at.now.seen raised.current.journal (forgetting_journal can.journal horizon) (ap journal_in raised.current.so_far)
+        one_journal at.now.seen raised.current.knows.journal (forgetting_journal can.journal horizon) (ap journal_in raised.current.knows.so_far)
         (raised.extends.added.journal ∙ ap (with_records begins) can.reads ∙ ap (λ (j : Journal). Ok j) (raises disk.now.seen can.journal horizon can.reads))
 
     pub number_is : mid.core.source.incarnation ≡ can.journal.incarnation
-    number_is = raised.current.of_journal.source.incarnation ∙ ap (λ (j : Journal). j.incarnation) its_journal
+    number_is = raised.current.knows.of_journal.source.incarnation ∙ ap (λ (j : Journal). j.incarnation) its_journal
 
     pub few_openings : mid.core.source.incarnation < 2 ^ 63
     few_openings = omega (arith, number_is, can.incarnation)
@@ -299,7 +301,7 @@ module _ (horizon : ℕ) (old : Resting) (disk : DiskState) (can : CanOpen horiz
             let own : journal ≡ can.journal = one_journal disk.now.seen journal can.journal reads can.reads in
             subst (λ (c : Core). IsOfJournal c (forgetting_journal journal horizon)) (sym same)
             (with_log mid.core new.core.log (forgetting_journal journal horizon)
-            (subst (λ (j : Journal). IsOfJournal mid.core j) (its_journal ∙ ap (λ (j : Journal). forgetting_journal j horizon) (sym own)) raised.current.of_journal))
+            (subst (λ (j : Journal). IsOfJournal mid.core j) (its_journal ∙ ap (λ (j : Journal). forgetting_journal j horizon) (sym own)) raised.current.knows.of_journal))
 
 -- and behind a reading
 pub opens_read : (horizon : ℕ) (answer : Answer) (old mid new : Resting) (disk at end : DiskState) → OnlyReads (failed (Ok tt)) disk at → mid.core.grants ≡ old.core.grants → Opens horizon answer mid new at end → Opens horizon answer old new disk end

@@ -22,7 +22,7 @@ use Rattle.server_session.specs.Leaving.{StaysTrue}
 use Rattle.service_core.specs.declared.notes.Notes.{Notes}
 use Rattle.service_core.specs.declared.resting.Resting.{Resting}
 use Rattle.service_core.specs.Held.{Held}
-use Rattle.service_core.specs.Keeping.{Reached, Rests, RestsBy, StepsTo, rested, rests_of}
+use Rattle.service_core.specs.Keeping.{KnowsAll, Reached, Rests, RestsBy, StepsTo, rested, rests_of}
 use Rattle.service_core.specs.Sound.{IsSound, IsSoundWithin, IsUp}
 use Rattle.service_core.specs.Within.{Within}
 
@@ -90,13 +90,10 @@ reached_one old new disk end is_opened journal one log read rises same has follo
 
 pub reached_end : (old : Resting) (disk end : DiskState) (is_opened : Bool) (journal : Journal) (log : Log) → IsOfJournal old.core journal → end.now ≡ disk.now → so_far_of disk.now.seen ≡ Ok (Begun journal is_opened old.has_horizon)
     → (IsSettled disk → CanAdd log end) → Reached false old (record old { core = record old.core { log = log } }) disk end
-reached_end old disk end is_opened journal log is same so_far ready settled = record {
-  is_opened = is_opened;
-  journal = journal;
-  of_journal = with_log old.core log journal is;
-  log = ready settled;
-  so_far = ap (λ (m : DiskMoment). so_far_of m.seen) same ∙ so_far;
-}
+reached_end old disk end is_opened journal log is same so_far ready =
+    let knows : (image : List ℕ) → so_far_of image ≡ Ok (Begun journal is_opened old.has_horizon) → KnowsAll image (record old { core = record old.core { log = log } }) =
+    λ image comes. record { is_opened = is_opened; journal = journal; of_journal = with_log old.core log journal is; so_far = comes } in
+    (knows disk.now.seen so_far, λ settled. record { knows = knows end.now.seen (ap (λ (m : DiskMoment). so_far_of m.seen) same ∙ so_far); log = ready settled })
 
 pub steps_fault : (fault : RedoFault) (old new : Resting) (disk end : DiskState) → (fault ≡ redo_fault.Stopped → new ≡ old) → ((place : ℕ) → fault ≡ redo_fault.Damaged place → ⊥) → StepsTo (Err fault) old new disk end
 steps_fault redo_fault.NoMemory old new disk end stays whole = tt

@@ -36,13 +36,17 @@ pub record RestsBy (grants : Grants) (disk : DiskState) (resting : Resting) : Ty
   pub rests : (image : List ℕ) → MayLeave disk.now image → Rests image resting
   pub granted : resting.core.grants ≡ grants
 
--- It knows all records of its disk, and more may be added.
-pub record IsCurrent (resting : Resting) (disk : DiskState) : Type 0 where
+-- It knows all records of the image, and is of the journal that these come to.
+pub record KnowsAll (image : List ℕ) (resting : Resting) : Type 0 where
   pub is_opened : Bool
   pub journal : Journal
   pub of_journal : IsOfJournal resting.core journal
+  pub so_far : so_far_of image ≡ Ok (Begun journal is_opened resting.has_horizon)
+
+-- It knows all records of its disk, and more may be added.
+pub record IsCurrent (resting : Resting) (disk : DiskState) : Type 0 where
+  pub knows : KnowsAll disk.now.seen resting
   pub log : CanAdd resting.core.log disk
-  pub so_far : so_far_of disk.now.seen ≡ Ok (Begun journal is_opened resting.has_horizon)
 
 -- the horizon is above the one that it knows, or none is stored yet
 abbrev pub rises_on : Resting → ℕ → Bool
@@ -57,7 +61,7 @@ rest_of resting disk = length disk.now.seen - tail_of resting.core.log.redo
 -- by whether there was one
 abbrev pub Reached : Bool → Resting → Resting → DiskState → DiskState → Type 0
 Reached true old new disk end = Rests disk.now.seen new × (rest_of new disk < rest_of old disk)
-Reached false old new disk end = IsSettled disk → IsCurrent new end
+Reached false old new disk end = KnowsAll disk.now.seen new × (IsSettled disk → IsCurrent new end)
 
 abbrev pub StepsTo : Result Bool RedoFault → Resting → Resting → DiskState → DiskState → Type 0
 StepsTo (Ok more) old new disk end = Reached more old new disk end

@@ -5,6 +5,7 @@ mod again;
 mod asking;
 mod connections;
 mod crash;
+mod ended;
 mod looking;
 mod making;
 mod notes;

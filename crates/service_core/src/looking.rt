@@ -4,37 +4,40 @@ ghost use Rattle.disk_model.specs.Disk.{OnlyReads};
 ghost use Rattle.commit_log.specs.meaning.Journals.{journal_of};
 ghost use Rattle.server_model.specs.ServiceCalls.{Looked, StoppedLook};
 ghost use Rattle.service_calls.specs.Answers.{Ends, NotMemory};
+ghost use Rattle.service_calls.specs.Ended.{IsEndOf};
 ghost use Rattle.service_calls.specs.Kept.{Goes};
 ghost use Rattle.service_core.specs.Seeing.{SeesIn, bytes_in};
 ghost use Rattle.service_core.specs.Shipping.{Looks};
 
+use crate::ended::ended_of;
 use crate::one::OneService;
+use crate::resting::put_to_rest;
 use commit_log::{Journal, Log, LogFault};
 use disk_model::{Disk, StopDisk};
 use server_model::ServeFault;
+use service_calls::Ended;
 use std::alloc::Global;
 
 impl<D: StopDisk + Drop> OneService<D> {
-    /// What the store holds, and the disk. What the service has in memory goes first, so that the
-    /// store is read into the room of the tables.
-    pub fn read_at_end(self, alloc: Global) -> (Result<Journal, ServeFault>, D)
+    /// What the store holds at the end, and the disk. The tables are those that the sessions shared, where
+    /// these are kept. What else the service has in memory goes before the records are read.
+    pub fn read_at_end(self, alloc: Global) -> (Result<Ended, ServeFault>, D)
         requires live { self.notes.is_spent ≡ false }
-        ensures told { IfOk result.0 (λ journal. journal_of (bytes_in self) ≡ Ok journal) }
+        ensures told { IfOk result.0 (IsEndOf (bytes_in self)) }
         ensures cause { IsErrOf result.0 ServeFault.Stopped → self.disk.quiet ≡ true → self.disk.stop ≢ None }
         ensures uncounted { IsErrOf result.0 ServeFault.NoMemory → (D.state result.1).faults ≡ self.disk.faults }
     {
         let OneService {
             mut disk,
-            core,
-            resting,
+            mut core,
+            mut resting,
             held,
             ..
         } = self;
-        drop(core);
-        drop(resting);
         drop(held);
-        match Log::read(alloc, &mut disk) {
-            Ok(journal) => (Ok(journal), disk),
+        put_to_rest(&mut core, &mut resting);
+        match ended_of(alloc, &mut disk, resting) {
+            Ok(ended) => (Ok(ended), disk),
             Err(LogFault::Stopped) => (Err(ServeFault::Stopped), disk),
             Err(LogFault::NoMemory) => (Err(ServeFault::NoMemory), disk),
             Err(LogFault::Damaged(_)) => unreachable!(),

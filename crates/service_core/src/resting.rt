@@ -4,7 +4,7 @@ ghost use Rattle.disk_model.specs.Disk.{IsSettled, OnlyReads};
 ghost use Rattle.commit_log.specs.declared.journal.Journal.{Journal as Held};
 ghost use Rattle.commit_log.specs.meaning.Journals.{journal_of};
 ghost use Rattle.commit_log.specs.meaning.Rules.{is_horizon};
-ghost use Rattle.service_core.specs.Keeping.{IsCurrent, Rests, Steps, rested, rests_of, rises_on};
+ghost use Rattle.service_core.specs.Keeping.{IsCurrent, KnowsAll, Rests, Steps, rested, rests_of, rises_on};
 
 use commit_log::{LogFault, Record};
 use disk_model::Disk;
@@ -78,10 +78,10 @@ impl Resting {
     /// Reads the records behind those that it knows, and takes over what they say. Time and memory
     /// grow with these records alone.
     pub(crate) fn catch_up<D: Disk>(&mut self, alloc: Global, disk: &mut D) -> Result<(), LogFault>
-        requires settled { IsSettled (D.state disk.old) }
         requires rests { Rests (D.state disk.old).now.seen self.old }
         requires journal { (last : Held) × (journal_of (D.state disk.old).now.seen ≡ Ok last) }
-        ensures current { OnOk result (IsCurrent self.new (D.state disk.new)) }
+        ensures knows { OnOk result (KnowsAll (D.state disk.old).now.seen self.new) }
+        ensures current { IsSettled (D.state disk.old) → OnOk result (IsCurrent self.new (D.state disk.new)) }
         ensures rests { IsErrOf result LogFault.Stopped → Rests (D.state disk.old).now.seen self.new }
         ensures grants { self.new.core.grants ≡ self.old.core.grants }
         ensures whole { (place : ℕ) → IsErrOf result (LogFault.Damaged place) → ⊥ }

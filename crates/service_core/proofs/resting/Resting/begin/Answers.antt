@@ -11,7 +11,7 @@ returns g c =
     let end = g.D.Disk.state c.begin.new.disk in
     let current = c.requires.current in
     let number = c.incarnation-incarnation.ensures in
-    let adds = c.begin.ensures current.is_opened old.has_horizon (has_begun old disk current)
-    (subst (λ n. MayAddTo current.is_opened old.has_horizon disk (kept.Opened (n + 1))) (sym number) (may_begin old disk current c.requires.few)) in
+    let adds = c.begin.ensures current.knows.is_opened old.has_horizon (has_begun old disk current)
+    (subst (λ n. MayAddTo current.knows.is_opened old.has_horizon disk (kept.Opened (n + 1))) (sym number) (may_begin old disk current c.requires.few)) in
     began old disk current c.requires.few c.begin.result c.begin.new.self end c.requires.horizon
-    (subst (λ n. AddsTo current.is_opened old.has_horizon c.begin.result c.begin.new.self disk end (kept.Opened (n + 1))) number adds)
+    (subst (λ n. AddsTo current.knows.is_opened old.has_horizon c.begin.result c.begin.new.self disk end (kept.Opened (n + 1))) number adds)

@@ -12,7 +12,7 @@ returns-in-Ok g c =
     let current = c.requires.current in
     let below = sym c.if-not-is_below.false ∙ c.is_below.ensures in
     was_raised c.args.horizon old disk current c.forget-in-Ok.new.self c.forget.new.self (g.D.Disk.state c.forget.new.disk) below
-    (c.in-Ok.ensures current.is_opened old.has_horizon (has_begun old disk current) (may_rise c.args.horizon old disk current below c.requires.may)) c.forget-in-Ok.ensures
+    (c.in-Ok.ensures current.knows.is_opened old.has_horizon (has_begun old disk current) (may_rise c.args.horizon old disk current below c.requires.may)) c.forget-in-Ok.ensures
 
 pub returns-in-Err : goal.returns-in-Err
 returns-in-Err g c =
@@ -21,4 +21,4 @@ returns-in-Err g c =
     let current = c.requires.current in
     let below = sym c.if-not-is_below.false ∙ c.is_below.ensures in
     raise_failed c.args.horizon old disk current c.in-Err.fault c.forget.new.self (g.D.Disk.state c.forget.new.disk) below
-    (c.in-Err.ensures current.is_opened old.has_horizon (has_begun old disk current) (may_rise c.args.horizon old disk current below c.requires.may))
+    (c.in-Err.ensures current.knows.is_opened old.has_horizon (has_begun old disk current) (may_rise c.args.horizon old disk current below c.requires.may))
