@@ -3,6 +3,7 @@ ghost use Rattle.std.specs.Prelude.{◌≡◌, ◌≢◌, ◌<◌, ◌^◌, true
 ghost use Rattle.commit_log.specs.meaning.Journals.{journal_of};
 ghost use Rattle.server_model.specs.ServiceCalls.{Looked, StoppedLook};
 ghost use Rattle.service_calls.specs.Answers.{Ends, NotMemory};
+ghost use Rattle.service_calls.specs.Ended.{IsEndOf};
 ghost use Rattle.service_calls.specs.Kept.{Goes};
 ghost use Rattle.standby_ship.specs.Seeing.{SeesPair, bytes_in};
 ghost use Rattle.standby_ship.specs.Twins.{state_in};
@@ -11,14 +12,15 @@ use crate::pair::Pair;
 use commit_log::Journal;
 use disk_model::StopDisk;
 use server_model::ServeFault;
+use service_calls::Ended;
 use std::alloc::Global;
 
 impl<D: StopDisk + Drop> Pair<D> {
-    /// What the first store holds, or the only one. The second goes first, and what the service has in
-    /// memory.
-    pub(crate) fn read_at_end(self, alloc: Global) -> Result<Journal, ServeFault>
+    /// What the first store holds at the end, or the only one, as its service tells it. The second goes
+    /// first.
+    pub(crate) fn read_at_end(self, alloc: Global) -> Result<Ended, ServeFault>
         requires live { self.is_spent ≡ false }
-        ensures told { IfOk result (λ journal. journal_of (bytes_in self) ≡ Ok journal) }
+        ensures told { IfOk result (IsEndOf (bytes_in self)) }
         ensures cause { IsErrOf result ServeFault.Stopped → (state_in self).is_quiet ≡ true → (state_in self).stop ≢ None }
     {
         let Pair {

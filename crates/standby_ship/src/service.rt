@@ -6,7 +6,7 @@ use commit_log::Journal;
 use disk_model::{Disk, StopDisk};
 use ltxid_book::Verdict;
 use server_model::ServeFault;
-use service_calls::{Outside, Service};
+use service_calls::{Ended, Outside, Service};
 use std::alloc::Global;
 use svc_values::{Call, Down, Ltxid, NoMemory, Up};
 
@@ -75,7 +75,7 @@ impl<D: StopDisk + Drop> Service for Pair<D> {
         self.read_journal(alloc)
     }
 
-    fn into_journal(self, alloc: Global) -> Result<Journal, ServeFault> {
+    fn into_ended(self, alloc: Global) -> Result<Ended, ServeFault> {
         self.read_at_end(alloc)
     }
 

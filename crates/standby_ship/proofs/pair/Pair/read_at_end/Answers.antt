@@ -1,6 +1,6 @@
 use Rattle.std.proofs.Common.{◌≡◌, subst}
-use Rattle.std.specs.Prelude.{◌≢◌, None, IfOk, Ok, true}
-use Rattle.commit_log.specs.meaning.Journals.{journal_of}
+use Rattle.std.specs.Prelude.{◌≢◌, None, IfOk, true}
+use Rattle.service_calls.specs.Ended.{IsEndOf}
 use Rattle.standby_ship.specs.Seeing.{bytes_in}
 use Rattle.standby_ship.specs.Twins.{Twin, state_in}
 use Rattle.standby_ship.proofs.Staying.{first_quiet}
@@ -8,7 +8,7 @@ use Rattle.standby_ship.proofs.pair.Pair.read_at_end.Goals as goal
 
 pub returns-clause-told : goal.returns-clause-told
 returns-clause-told g c =
-    subst (λ (t : Twin). IfOk c.read_at_end-read.result.0 (λ journal. journal_of (bytes_in t) ≡ Ok journal)) c.self.view_is c.read_at_end-read.ensures.told
+    subst (λ (t : Twin). IfOk c.read_at_end-read.result.0 (IsEndOf (bytes_in t))) c.self.view_is c.read_at_end-read.ensures.told
 
 pub returns-clause-cause : goal.returns-clause-cause
 returns-clause-cause g c told =
