@@ -1,6 +1,5 @@
 -- The tables of a report are those of the journal, each by its declaration.
 use Rattle.std.proofs.Common.{◌≡◌, ◌∙◌, ℕ, List, [], ◌∷◌, map, refl, ap}
-use Rattle.svc_values.specs.declared.entry.Entry.{Entry}
 use Rattle.svc_values.specs.declared.schema.Schema.{Schema}
 use Rattle.svc_values.specs.declared.value.Value.{Value}
 use Rattle.svc_values.specs.declared.tables.PlainRow.{PlainRow}
@@ -20,10 +19,10 @@ printed_each : (rows : List PlainRow) (tables : List BaseTable) → map (printed
 printed_each rows [] = refl
 printed_each rows (table ∷ tables) = ap (λ (rest : List ReportTable). printed_table rows table ∷ rest) (printed_each rows tables)
 
-pub tables_printed : (journal : Journal) (entries : List Entry) (tables : Stored) (printed : List ReportTable) → entries ≡ journal.entries
-    → tables ≡ record { schemas = schemas_of journal.base; rows = tables_with (start_of journal.base) entries } → printed ≡ map (printed_by tables.rows) tables.schemas → printed ≡ printed_tables journal.base (tables_of journal)
-tables_printed journal entries tables printed same are is =
-    is ∙ ap (λ (t : Stored). map (printed_by t.rows) t.schemas) are ∙ ap (λ (l : List Entry). map (printed_by (tables_with (start_of journal.base) l)) (schemas_of journal.base)) same ∙ printed_each (tables_of journal) journal.base.tables
+pub tables_printed : (journal : Journal) (tables : Stored) (printed : List ReportTable) → tables.schemas ≡ schemas_of journal.base → tables.rows ≡ tables_with (start_of journal.base) journal.entries
+    → printed ≡ map (printed_by tables.rows) tables.schemas → printed ≡ printed_tables journal.base (tables_of journal)
+tables_printed journal tables printed declared rows is =
+    is ∙ ap (map (printed_by tables.rows)) declared ∙ ap (λ (r : List PlainRow). map (printed_by r) (schemas_of journal.base)) rows ∙ printed_each (tables_of journal) journal.base.tables
 
 -- a table that gave its rows up, as a report prints it
 abbrev pub printed_of : TableRows → ReportTable

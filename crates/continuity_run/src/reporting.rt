@@ -1,15 +1,13 @@
 //! The report of a run that is over.
-ghost use Rattle.std.specs.Prelude.{◌≡◌, IfOk, OnOk, Ok, drop, map};
-ghost use Rattle.commit_log.specs.meaning.Journals.{journal_of as journal_def};
+ghost use Rattle.std.specs.Prelude.{◌≡◌, IfOk, OnOk, drop, map};
+ghost use Rattle.service_calls.specs.Ended.{IsEndOf};
 ghost use Rattle.continuity_run.specs.meaning.Headline.{image_if};
 ghost use Rattle.continuity_run.specs.Reading.{IsReadOff, MayBeRead, printed_by};
 
 use crate::store::Before;
-use commit_log::Journal;
-use commit_log::laws::keeps_journal;
-use journal_tables::tables_of;
+use commit_log::Recorded;
 use outage_schedule::{Image, Report, ReportTable, ReportTables};
-use service_calls::{ServeFault, Service};
+use service_calls::{Ended, ServeFault, Service};
 use std::alloc::Global;
 use svc_values::{Listed, NoMemory};
 use table_store::{TableRows, Tables};
@@ -39,13 +37,13 @@ fn report_tables(alloc: Global, tables: Tables) -> Result<ReportTables, NoMemory
     Ok(Listed::from_vec(all))
 }
 
-/// What the store holds. The service goes first.
-fn journal_of<S: Service>(alloc: Global, service: S) -> Result<Journal, NoMemory>
+/// What the service leaves at its end.
+fn ended_of<S: Service>(alloc: Global, service: S) -> Result<Ended, NoMemory>
     requires { MayBeRead (S.sees service) 1 }
-    ensures { IfOk result (λ journal. journal_def (S.bytes service) ≡ Ok journal) }
+    ensures { IfOk result (IsEndOf (S.bytes service)) }
 {
-    match service.into_journal(alloc) {
-        Ok(journal) => Ok(journal),
+    match service.into_ended(alloc) {
+        Ok(ended) => Ok(ended),
         Err(ServeFault::NoMemory) => Err(NoMemory),
         Err(ServeFault::Stopped) => unreachable!(),
     }
@@ -88,17 +86,14 @@ pub(crate) fn report_of<S: Service + Drop>(
         served,
         clients,
     } = ran;
-    keeps_journal();
     let image = image_of(alloc, &mut service, print_image)?;
-    let Journal {
-        base,
+    let Ended { recorded, tables } = ended_of(alloc, service)?;
+    let Recorded {
         horizon,
         entries,
         blocked,
         alerts,
-        ..
-    } = journal_of(alloc, service)?;
-    let tables = tables_of(alloc, base, entries.as_slice())?;
+    } = recorded;
     Ok(Report {
         alerts: behind(alloc, alerts.into_vec(), before.alerts)?,
         blocked: behind(alloc, blocked.into_vec(), before.blocked)?,

@@ -143,8 +143,9 @@ pub trait Service {
         ensures unwritten { NotMemory result (bytes self.new ≡ bytes self.old) }
         ensures looked { Ends result (λ journal. Goes (sees self.old) (sees self.new) Looked) (Goes (sees self.old) (sees self.new) StoppedLook) };
 
-    /// What the store holds, at the end of the service: the tables are the service's own, where it has
-    /// them, and only the records behind the base are read then. Else the whole store is read.
+    /// What the store holds, at the end of the service. It writes nothing. Where the service has its
+    /// tables, these are handed out, and only the records behind the base are read; else the whole
+    /// store is.
     fn into_ended(self, alloc: Global) -> Result<Ended, ServeFault>
         requires live { (state self).is_spent ≡ false }
         ensures told { IfOk result (IsEndOf (bytes self)) }

@@ -35,7 +35,8 @@ pub(crate) fn ended_of<D: Disk>(
     requires journal { (journal : Held) × (journal_of (D.state disk.old).now.seen ≡ Ok journal) }
     ensures told { IfOk result (IsEndOf (D.state disk.old).now.seen) }
     ensures whole { (place : ℕ) → IsErrOf result (LogFault.Damaged place) → ⊥ }
-    ensures only_reads { OnlyReads (IsErrOf result LogFault.Stopped) (D.state disk.old) (D.state disk.new) }
+    ensures only_reads { OnlyReads (IsErrOf result LogFault.Stopped)
+        (D.state disk.old) (D.state disk.new) }
 {
     match resting {
         Some(kept) => ended_of_kept(alloc, disk, kept),
@@ -43,13 +44,14 @@ pub(crate) fn ended_of<D: Disk>(
     }
 }
 
-/// The same with something kept. All that is kept beside the tables goes before the records are read.
+/// The same with something kept. All of it but the tables goes before the records are read.
 fn ended_of_kept<D: Disk>(alloc: Global, disk: &mut D, kept: Resting) -> Result<Ended, LogFault>
     requires rests { Rests (D.state disk.old).now.seen kept }
     requires journal { (journal : Held) × (journal_of (D.state disk.old).now.seen ≡ Ok journal) }
     ensures told { IfOk result (IsEndOf (D.state disk.old).now.seen) }
     ensures whole { (place : ℕ) → IsErrOf result (LogFault.Damaged place) → ⊥ }
-    ensures only_reads { OnlyReads (IsErrOf result LogFault.Stopped) (D.state disk.old) (D.state disk.new) }
+    ensures only_reads { OnlyReads (IsErrOf result LogFault.Stopped)
+        (D.state disk.old) (D.state disk.new) }
 {
     let tables = last_tables(alloc, disk, kept)?;
     let recorded = Log::recorded(alloc, disk)?;
@@ -60,9 +62,11 @@ fn ended_of_kept<D: Disk>(alloc: Global, disk: &mut D, kept: Resting) -> Result<
 fn last_tables<D: Disk>(alloc: Global, disk: &mut D, mut kept: Resting) -> Result<Tables, LogFault>
     requires rests { Rests (D.state disk.old).now.seen kept }
     requires journal { (journal : Held) × (journal_of (D.state disk.old).now.seen ≡ Ok journal) }
-    ensures tables { IfOk result (λ tables. (journal : Held) × (journal_of (D.state disk.old).now.seen ≡ Ok journal) × (tables ≡ tables_def journal)) }
+    ensures tables { IfOk result (λ tables. (journal : Held)
+        × (journal_of (D.state disk.old).now.seen ≡ Ok journal) × (tables ≡ tables_def journal)) }
     ensures whole { (place : ℕ) → IsErrOf result (LogFault.Damaged place) → ⊥ }
-    ensures only_reads { OnlyReads (IsErrOf result LogFault.Stopped) (D.state disk.old) (D.state disk.new) }
+    ensures only_reads { OnlyReads (IsErrOf result LogFault.Stopped)
+        (D.state disk.old) (D.state disk.new) }
 {
     kept.catch_up(alloc, disk)?;
     Ok(kept.core.tables)
@@ -73,7 +77,8 @@ fn ended_of_store<D: Disk>(alloc: Global, disk: &mut D) -> Result<Ended, LogFaul
     requires { (journal : Held) × (journal_of (D.state disk.old).now.seen ≡ Ok journal) }
     ensures told { IfOk result (IsEndOf (D.state disk.old).now.seen) }
     ensures whole { (place : ℕ) → IsErrOf result (LogFault.Damaged place) → ⊥ }
-    ensures only_reads { OnlyReads (IsErrOf result LogFault.Stopped) (D.state disk.old) (D.state disk.new) }
+    ensures only_reads { OnlyReads (IsErrOf result LogFault.Stopped)
+        (D.state disk.old) (D.state disk.new) }
 {
     keeps_journal();
     let journal = Log::read(alloc, disk)?;
@@ -86,7 +91,8 @@ fn ended_of_store<D: Disk>(alloc: Global, disk: &mut D) -> Result<Ended, LogFaul
 /// What this journal says. The rows of its base are moved into the tables.
 fn ended_of_journal(alloc: Global, journal: Journal) -> Result<Ended, NoMemory>
     requires base { IsBase journal.base }
-    requires fitting { All (λ entry. IsTrue (writes_fit (schemas_of journal.base) entry.writes)) journal.entries }
+    requires fitting { All (λ entry. IsTrue (writes_fit (schemas_of journal.base) entry.writes))
+        journal.entries }
     ensures recorded { IfOk result (λ ended. ended.recorded ≡ recorded_of journal) }
     ensures tables { IfOk result (λ ended. ended.tables ≡ tables_def journal) }
 {

@@ -81,7 +81,8 @@ impl Resting {
         requires rests { Rests (D.state disk.old).now.seen self.old }
         requires journal { (last : Held) × (journal_of (D.state disk.old).now.seen ≡ Ok last) }
         ensures knows { OnOk result (KnowsAll (D.state disk.old).now.seen self.new) }
-        ensures current { IsSettled (D.state disk.old) → OnOk result (IsCurrent self.new (D.state disk.new)) }
+        ensures current { IsSettled (D.state disk.old)
+            → OnOk result (IsCurrent self.new (D.state disk.new)) }
         ensures rests { IsErrOf result LogFault.Stopped → Rests (D.state disk.old).now.seen self.new }
         ensures grants { self.new.core.grants ≡ self.old.core.grants }
         ensures whole { (place : ℕ) → IsErrOf result (LogFault.Damaged place) → ⊥ }

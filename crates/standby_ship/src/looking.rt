@@ -16,8 +16,8 @@ use service_calls::Ended;
 use std::alloc::Global;
 
 impl<D: StopDisk + Drop> Pair<D> {
-    /// What the first store holds at the end, or the only one, as its service tells it. The second goes
-    /// first.
+    /// What the first store holds at the end, or the only one, as its service tells it. The second
+    /// goes first.
     pub(crate) fn read_at_end(self, alloc: Global) -> Result<Ended, ServeFault>
         requires live { self.is_spent ≡ false }
         ensures told { IfOk result (IsEndOf (bytes_in self)) }
