@@ -9,7 +9,7 @@ ghost use Rattle.server_model.specs.ServiceCalls.{ends_session};
 
 use crate::frames::{Says, frame, ltxid};
 use crate::known::Known;
-use crate::said::{of_down, of_journal, of_kept, of_outside, of_verdict, words};
+use crate::said::{of_down, of_ended, of_journal, of_kept, of_outside, of_verdict, words};
 use commit_log::{Journal, Log, LogFault};
 use disk_model::MemDisk;
 use mutable_values::Grants;
@@ -284,11 +284,12 @@ impl<S: Service + Drop> Bench<S> {
         of_kept(rt, self.alloc, &journal)
     }
 
-    /// The same, told by the service at its end.
+    /// What the service leaves at its end: its horizon, the identifiers of its entries, those that are blocked, its lines
+    /// and the rows of its tables.
     pub fn ends_with(self, rt: &impl Abort) -> String {
         assert!(rt; self.known.may_call());
-        match self.service.into_journal(self.alloc) {
-            Ok(journal) => of_journal(rt, self.alloc, &journal),
+        match self.service.into_ended(self.alloc) {
+            Ok(ended) => of_ended(rt, self.alloc, ended),
             Err(fault) => panic!(rt; "{fault}"),
         }
     }

@@ -147,6 +147,6 @@ fn what_a_request_leaves_to_the_next_one(rt: HostRuntime) {
     );
     assert_eq!(rt;
         bench.ends_with(&rt).as_str(),
-        "opened 1, horizon 0, entry 1.1.0 completed false"
+        "horizon 0, entry 1.1.0 completed false, acc [1 100], t [2 a]"
     );
 }

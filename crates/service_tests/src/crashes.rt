@@ -91,6 +91,28 @@ fn a_commit_that_is_stopped_in_each_device_call(rt: HostRuntime) {
     }
 }
 
+/// The tables at the end of a service that is down are those that it kept, with what the crash left
+/// behind them.
+#[test]
+fn what_a_stopped_commit_leaves_at_the_end(rt: HostRuntime) {
+    let alloc = rt.alloc();
+    for (pick, held) in [
+        (
+            0,
+            "horizon 0, entry 1.1.0 completed true, acc [1 100], t [1 a]",
+        ),
+        (1, "horizon 0, acc [1 100], t no row"),
+    ] {
+        let mut bench = opened(&rt, alloc, &SHOP, ALL);
+        assert!(rt; bench.connect(&rt, 1));
+        converse(&rt, &mut bench, WRITTEN);
+        bench.stop_after(&rt, Some(3));
+        converse(&rt, &mut bench, &[(1, Call(Commit), "stopped")]);
+        bench.crash(&rt, pick);
+        assert_eq!(rt; bench.ends_with(&rt).as_str(), held, "pick {pick}");
+    }
+}
+
 #[test]
 fn an_opening_that_is_stopped_at_its_last_sync(rt: HostRuntime) {
     let alloc = rt.alloc();

@@ -1,8 +1,8 @@
 //! What the service tells, as a text.
 
-use commit_log::{Journal, Reservation};
+use commit_log::{Journal, Recorded, Reservation};
 use ltxid_book::Verdict;
-use service_calls::Outside;
+use service_calls::{Ended, Outside};
 use std::alloc::Global;
 use std::process::Abort;
 use svc_values::{Ahead, Answer, Down, Draw, Entry, Ltxid, Row, Text, Value};
@@ -253,5 +253,29 @@ pub fn of_journal(rt: &impl Abort, alloc: Global, journal: &Journal) -> String {
     let incarnation = journal.incarnation;
     let mut text = format!(in alloc; "opened {incarnation}, ").expect(rt, "a text");
     add(rt, &mut text, &of_kept(rt, alloc, journal));
+    text
+}
+
+/// What the records behind a base say: the horizon, the identifiers of the entries, those that are blocked, and the
+/// lines.
+fn of_recorded(rt: &impl Abort, alloc: Global, recorded: &Recorded) -> String {
+    let horizon = recorded.horizon;
+    let mut text = format!(in alloc; "horizon {horizon}").expect(rt, "a text");
+    add_entries(rt, alloc, &mut text, recorded.entries.as_slice());
+    add_blocks(rt, alloc, &mut text, recorded.blocked.as_slice());
+    add_lines(rt, &mut text, recorded.alerts.as_slice());
+    text
+}
+
+/// What a service leaves at its end: what was recorded, and the rows of each table.
+pub fn of_ended(rt: &impl Abort, alloc: Global, ended: Ended) -> String {
+    let Ended { recorded, tables } = ended;
+    let mut text = of_recorded(rt, alloc, &recorded);
+    for one in tables.into_rows().expect(rt, "the rows") {
+        let table = one.table.as_str();
+        let rows = of_rows(rt, alloc, &one.rows);
+        let more = format!(in alloc; ", {table} {rows}").expect(rt, "a text");
+        add(rt, &mut text, &more);
+    }
     text
 }
