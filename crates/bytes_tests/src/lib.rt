@@ -1,4 +1,4 @@
-//! Tests of bytes, frames, digests and JSON, by the vectors of the formats.
+//! Tests of bytes, frames, digests and JSON, by the vectors of the formats, and of the adapters.
 #![tactic(auto)]
 
 #[cfg(test)]
@@ -11,3 +11,5 @@ mod faults;
 mod frames;
 #[cfg(test)]
 mod json;
+#[cfg(test)]
+mod streams;

@@ -2,21 +2,13 @@
 //! standard error why there is no report, and ends with the status's number.
 #![tactic(auto)]
 
-mod adapters;
-mod ending;
-mod line;
-#[cfg(test)]
-mod tests;
-mod words;
-
-use adapters::{Input, Output};
+use byte_streams::{Input, Output};
+use command_words::behind_name;
 use continuity_run::continuity;
-use ending::{exit_status, without_words};
-use line::tell;
+use program_ends::{exit_status, tell, without_words};
 use std::process::ExitCode;
 use std::rt::Env;
 use std::{env, io};
-use words::behind_name;
 
 /// The words of the command: the arguments of the process but the first.
 fn words_of(rt: &(impl Env + AllocGlobal)) -> io::Result<Vec<String>> {

@@ -7,13 +7,13 @@ use Rattle.json_form.specs.declared.fault.DocFault.TheVariants as fault
 use Rattle.json_form.specs.Faults.{Fails}
 use Rattle.outage_schedule.specs.declared.document.Document.{Document}
 use Rattle.outage_schedule.specs.declared.report.Report.{Report}
-use Rattle.report_check.specs.declared.verdict.Clause.{Clause}
+use Rattle.program_ends.specs.declared.clause.Clause.{Clause}
 use Rattle.report_check.specs.declared.verdict.Verdict.{Verdict}
 use Rattle.report_check.specs.declared.verdict.Verdict.TheVariants as verdict
 use Rattle.report_check.specs.Judged.{IsJudged}
 use Rattle.report_check.specs.meaning.Pairs.{pair_at}
-use Rattle.continuity_run.specs.declared.status.Status.{Status}
-use Rattle.continuity_run.specs.declared.status.Status.TheVariants as status
+use Rattle.program_ends.specs.declared.status.Status.{Status}
+use Rattle.program_ends.specs.declared.status.Status.TheVariants as status
 use Rattle.byte_streams.specs.Causes.{AppendsFront, Rose}
 use Rattle.continuity_run.specs.Checking.{IsVerdict, IsToldAs, IsJudgement}
 use Rattle.continuity_run.specs.Clauses.{IfDocument, IfNo}

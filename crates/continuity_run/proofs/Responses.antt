@@ -5,8 +5,8 @@ use Rattle.json_form.specs.declared.fault.DocFault.TheVariants as fault
 use Rattle.json_form.specs.Faults.{Gives}
 use Rattle.outage_schedule.specs.declared.document.Document.{Document}
 use Rattle.doc_reader.specs.meaning.Documents.{document_at}
-use Rattle.continuity_run.specs.declared.status.Status.{Status}
-use Rattle.continuity_run.specs.declared.status.Status.TheVariants as status
+use Rattle.program_ends.specs.declared.status.Status.{Status}
+use Rattle.program_ends.specs.declared.status.Status.TheVariants as status
 use Rattle.continuity_run.specs.InnerEnds.{ended_as}
 
 -- an answer that was written is that of a document, which the bytes are

@@ -3,14 +3,14 @@
 use Rattle.std.specs.Prelude.{◌≡◌, ℕ, List, Option, Result, Err}
 use Rattle.std.specs.Io.KnownBytes.{Appends}
 use Rattle.json_form.specs.meaning.Faults.{Fault}
-use Rattle.report_check.specs.declared.verdict.Clause.{Clause}
+use Rattle.program_ends.specs.declared.clause.Clause.{Clause}
 use Rattle.report_check.specs.meaning.Pairs.{check_limit, pair_at}
 use Rattle.continuity_run.specs.declared.answer.Telling.{Telling}
 use Rattle.continuity_run.specs.declared.answer.Telling.TheVariants as telling
 use Rattle.command_words.specs.declared.command.Command.{Command}
 use Rattle.command_words.specs.declared.command.Command.TheVariants as command
-use Rattle.continuity_run.specs.declared.status.Status.{Status}
-use Rattle.continuity_run.specs.declared.status.Status.TheVariants as status
+use Rattle.program_ends.specs.declared.status.Status.{Status}
+use Rattle.program_ends.specs.declared.status.Status.TheVariants as status
 use Rattle.byte_streams.specs.Causes.{AppendsFront}
 use Rattle.doc_reader.specs.meaning.Documents.{document_at, limit}
 use Rattle.continuity_run.specs.meaning.Check.{IsRight, right_text}

@@ -5,8 +5,8 @@ use Rattle.doc_reader.specs.meaning.Documents.{document_at}
 use Rattle.report_check.specs.meaning.Pairs.{pair_at}
 use Rattle.command_words.specs.declared.command.Command.{Command}
 use Rattle.command_words.specs.declared.command.Command.TheVariants as command
-use Rattle.continuity_run.specs.declared.status.Status.{Status}
-use Rattle.continuity_run.specs.declared.status.Status.TheVariants as status
+use Rattle.program_ends.specs.declared.status.Status.{Status}
+use Rattle.program_ends.specs.declared.status.Status.TheVariants as status
 use Rattle.byte_streams.specs.Causes.{Rose}
 
 -- Nothing is at fault: what the source has left is told and is read so, and neither the source's

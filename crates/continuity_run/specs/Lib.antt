@@ -3,7 +3,6 @@ pub mod Clauses
 pub mod Complete
 pub mod InnerEnds
 pub mod Reading
-pub mod Statuses
 pub mod Stores
 pub mod Runs
 pub mod RunLaws

@@ -11,9 +11,9 @@ ghost use Rattle.continuity_run.specs.Clauses.{IsCheckedInPart, HasFault, IfDocu
 ghost use Rattle.continuity_run.specs.Complete.{IsFaultlessOn, IsNo};
 
 use crate::leaving::leave;
-use crate::status::Status;
 use byte_streams::{ReadError, Sink, Source, read_to_limit, write_whole};
 use json_form::DocFault;
+use program_ends::Status;
 use report_check::{CHECK_LIMIT, Verdict, judge, pair_from};
 use std::alloc::Global;
 use svc_values::NoMemory;

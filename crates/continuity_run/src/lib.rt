@@ -8,10 +8,8 @@ mod leaving;
 mod load;
 mod reporting;
 mod run;
-mod status;
 mod store;
 mod top;
 
 pub use run::run_document;
-pub use status::Status;
 pub use top::continuity;

@@ -13,12 +13,12 @@ ghost use Rattle.continuity_run.specs.InnerEnds.{ended_as, IsWritten};
 use crate::answer::{Telling, text_of};
 use crate::check::tell_of_check;
 use crate::load::load_text;
-use crate::status::Status;
 use byte_streams::{ReadError, Sink, Source, read_to_limit, write_whole};
 use command_words::{Command, command_of};
 use doc_reader::{DOCUMENT_LIMIT, read_document};
 use json_form::DocFault;
 use outage_schedule::Document;
+use program_ends::Status;
 use std::alloc::Global;
 use svc_values::NoMemory;
 

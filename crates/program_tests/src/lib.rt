@@ -1,4 +1,5 @@
-//! Tests of the top call over sources and sinks in memory that fail, or go byte by byte.
+//! Tests of the top call over sources and sinks in memory that fail, or go byte by byte, and of the
+//! lines that tell of its ends.
 #![tactic(auto)]
 
 #[cfg(test)]
@@ -7,3 +8,5 @@ mod failing;
 mod judging;
 #[cfg(test)]
 mod piecewise;
+#[cfg(test)]
+mod telling;

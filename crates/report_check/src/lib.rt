@@ -6,4 +6,4 @@ mod pair;
 mod verdict;
 
 pub use pair::{CHECK_LIMIT, pair_from};
-pub use verdict::{Clause, Verdict, judge};
+pub use verdict::{Verdict, judge};

@@ -3,56 +3,18 @@ ghost use Rattle.std.specs.Prelude.{◌≡◌, IfOk};
 ghost use Rattle.doc_reader.specs.Keeping.{IsDocument};
 ghost use Rattle.report_reader.specs.Keeping.{IsTold};
 ghost use Rattle.report_check.specs.Judged.{IsJudged};
-ghost use Rattle.report_check.specs.Words.{word_of};
 
 use entry_check::{judge_once, judge_same};
 use json_form::Pointer;
 use legal_check::judge_legal;
 use outage_schedule::{Document, Report};
+use program_ends::Clause;
 use serial_check::laws::{fresh_is_placed, serial_is_placed};
 use serial_check::{judge_fresh, judge_serial};
 use std::alloc::Global;
 use stored_check::judge_stored;
 use svc_values::NoMemory;
 use whole_check::judge_whole;
-
-/// A clause on a report and its document, in the order in which they are judged.
-#[derive(Clone, Copy, Debug, PartialEq, Eq)]
-pub enum Clause {
-    /// The entries run one after the other, and the tables are those after the last.
-    Serial,
-    /// No value was drawn twice.
-    Fresh,
-    /// What the service did is what it may do, with these entries and alerts.
-    Legal,
-    /// Each transaction stands among the entries at most once, and as it was shown.
-    Once,
-    /// Each transaction stands there with the calls, answers, draws and settings that its client
-    /// knows.
-    Same,
-    /// Each outcome that was told is the stored one.
-    Stored,
-    /// Each request is shown its whole script in order, as sessions of its own served it, or one
-    /// failure.
-    Whole,
-}
-
-impl Clause {
-    /// Its word, in lower case.
-    pub fn word(&self) -> &'static str
-        ensures { result.now ≡ word_of self.now }
-    {
-        match self {
-            Clause::Serial => "serial",
-            Clause::Fresh => "fresh",
-            Clause::Legal => "legal",
-            Clause::Once => "once",
-            Clause::Same => "same",
-            Clause::Stored => "stored",
-            Clause::Whole => "whole",
-        }
-    }
-}
 
 /// Whether each clause that is judged holds.
 #[derive(Debug, Drop)]

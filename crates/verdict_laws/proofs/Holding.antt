@@ -17,8 +17,8 @@ use Rattle.run_clauses.specs.meaning.NoClash.{no_clash}
 use Rattle.run_clauses.specs.meaning.Serial.{same_report_table, are_printed, serial, IsSerial, printed_tables}
 use Rattle.report_text.specs.Laws.{shown_report}
 use Rattle.printed_laws.specs.Laws.{SerialSeesNoWrites, FreshSeesNoWrites, LegalSeesNoWrites, OnceSeesNoWrites, SameSeesNoWrites, StoredSeesNoWrites, WholeSeesNoWrites}
-use Rattle.report_check.specs.declared.verdict.Clause.{Clause}
-use Rattle.report_check.specs.declared.verdict.Clause.TheVariants as clause
+use Rattle.program_ends.specs.declared.clause.Clause.{Clause}
+use Rattle.program_ends.specs.declared.clause.Clause.TheVariants as clause
 use Rattle.report_check.specs.meaning.Verdicts.{holds, clauses}
 use Rattle.continuity_run.specs.meaning.Headline.{Headline}
 use Rattle.verdict_laws.specs.Laws.{RunsAreRight}

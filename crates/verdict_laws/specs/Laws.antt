@@ -9,7 +9,7 @@ use Rattle.outage_schedule.specs.declared.report.Report.{Report}
 use Rattle.doc_reader.specs.meaning.Documents.{limit}
 use Rattle.run_clauses.specs.meaning.NoClash.{no_clash}
 use Rattle.report_text.specs.Laws.{shown_report}
-use Rattle.report_check.specs.declared.verdict.Clause.{Clause}
+use Rattle.program_ends.specs.declared.clause.Clause.{Clause}
 use Rattle.report_check.specs.meaning.Pairs.{check_limit}
 use Rattle.report_check.specs.meaning.Verdicts.{first_false}
 use Rattle.continuity_run.specs.declared.answer.Telling.TheVariants as telling

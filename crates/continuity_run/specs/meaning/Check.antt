@@ -2,7 +2,7 @@
 use Rattle.std.specs.Prelude.{◌≡◌, ℕ, List, [], ◌∷◌, ◌++◌, None, Ok, codes}
 use Rattle.outage_schedule.specs.declared.document.Document.{Document}
 use Rattle.outage_schedule.specs.declared.report.Report.{Report}
-use Rattle.report_check.specs.declared.verdict.Clause.{Clause}
+use Rattle.program_ends.specs.declared.clause.Clause.{Clause}
 use Rattle.report_check.specs.meaning.Pairs.{pair_at}
 use Rattle.report_check.specs.meaning.Verdicts.{first_false, IsFirstFalse}
 

@@ -10,7 +10,7 @@ use Rattle.shown_clauses.specs.meaning.Cover.{cover}
 use Rattle.doc_reader.specs.meaning.Documents.{document_at, limit}
 use Rattle.report_limits.specs.meaning.Reports.{KeepsLimits}
 use Rattle.report_text.specs.meaning.Report.{report_value}
-use Rattle.report_check.specs.declared.verdict.Clause.{Clause}
+use Rattle.program_ends.specs.declared.clause.Clause.{Clause}
 use Rattle.report_check.specs.meaning.Pairs.{check_limit, pair_at}
 use Rattle.cover_core.specs.meaning.Text.{cover_value}
 use Rattle.continuity_run.specs.declared.answer.Telling.{Telling}

@@ -10,8 +10,8 @@ use Rattle.run_clauses.specs.meaning.Stored.{stored}
 use Rattle.shown_clauses.specs.meaning.Legal.{legal_of}
 use Rattle.shown_clauses.specs.meaning.Whole.{whole}
 use Rattle.serial_check.specs.meaning.Places.{serial_place, fresh_place}
-use Rattle.report_check.specs.declared.verdict.Clause.{Clause}
-use Rattle.report_check.specs.declared.verdict.Clause.TheVariants as clause
+use Rattle.program_ends.specs.declared.clause.Clause.{Clause}
+use Rattle.program_ends.specs.declared.clause.Clause.TheVariants as clause
 
 abbrev pub holds : Document → Report → Clause → Bool
 holds document report clause.Serial = serial document report

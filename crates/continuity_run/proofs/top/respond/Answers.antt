@@ -2,7 +2,7 @@ use Rattle.std.proofs.Common.{subst}
 use Rattle.std.specs.Io.KnownBytes.{Appends}
 use Rattle.json_form.specs.Faults.{Gives}
 use Rattle.doc_reader.specs.meaning.Documents.{document_at}
-use Rattle.continuity_run.specs.declared.status.Status.TheVariants as status
+use Rattle.program_ends.specs.declared.status.Status.TheVariants as status
 use Rattle.byte_streams.specs.Causes.{AppendsFront, Rose}
 use Rattle.continuity_run.specs.meaning.Clauses.{Tells}
 use Rattle.continuity_run.specs.InnerEnds.{IsWritten}

@@ -2,9 +2,9 @@
 use Rattle.std.specs.Prelude.{ℕ, List, [], ◌∷◌, ◌++◌, codes}
 use Rattle.std.specs.Fmt.{decimal}
 use Rattle.json_form.specs.Codes.{number_of}
-use Rattle.report_check.specs.Words.{word_of}
-use Rattle.continuity_run.specs.declared.status.Status.{Status}
-use Rattle.continuity_run.specs.declared.status.Status.TheVariants as status
+use Rattle.program_ends.specs.Words.{word_of}
+use Rattle.program_ends.specs.declared.status.Status.{Status}
+use Rattle.program_ends.specs.declared.status.Status.TheVariants as status
 
 -- these bytes, and a line end
 abbrev pub ended : List ℕ → List ℕ

@@ -1,9 +1,9 @@
 //! What is told on standard error.
 ghost use Rattle.std.specs.Prelude.{Some, OnOk};
 ghost use Rattle.std.specs.Io.KnownBytes.{Appends};
-ghost use Rattle.continuity.specs.Lines.{line_of};
+ghost use Rattle.program_ends.specs.Lines.{line_of};
 
-use continuity_run::Status;
+use crate::status::Status;
 use std::fmt;
 use std::io::{self, Write};
 

@@ -2,9 +2,9 @@
 ghost use Rattle.std.specs.Prelude.{◌≡◌, ◌≢◌};
 ghost use Rattle.std.specs.IoError.{error_kind};
 ghost use Rattle.std.specs.Process.{exit_status as number_in};
-ghost use Rattle.continuity_run.specs.Statuses.{number_of};
+ghost use Rattle.program_ends.specs.Statuses.{number_of};
 
-use continuity_run::Status;
+use crate::status::Status;
 use std::io::{self, ErrorKind};
 use std::process::ExitCode;
 

@@ -1,7 +1,7 @@
 -- The words for clauses.
 use Rattle.std.specs.Prelude.{ℕ, List, codes}
-use Rattle.report_check.specs.declared.verdict.Clause.{Clause}
-use Rattle.report_check.specs.declared.verdict.Clause.TheVariants as clause
+use Rattle.program_ends.specs.declared.clause.Clause.{Clause}
+use Rattle.program_ends.specs.declared.clause.Clause.TheVariants as clause
 
 abbrev pub word_of : Clause → List ℕ
 word_of clause.Serial = codes "serial"

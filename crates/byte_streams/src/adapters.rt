@@ -2,7 +2,7 @@
 //! count their faults.
 ghost use Rattle.std.specs.Prelude.{◌≡◌};
 
-use byte_streams::{Failed, Sink, Source};
+use crate::outside::{Failed, Sink, Source};
 use std::io::{Read, Write};
 
 /// A reader that counts its errors.

@@ -1,8 +1,8 @@
 //! How a run ends.
 ghost use Rattle.std.specs.Prelude.{◌≡◌};
 
+use crate::clause::Clause;
 use json_form::{DocCode, Pointer};
-use report_check::Clause;
 
 /// How a run ended. The numbers 0 to 6 are the program's exit status, in this order.
 #[derive(Debug, Drop)]
@@ -26,7 +26,7 @@ pub enum Status {
 }
 
 impl Status {
-    ghost use Rattle.continuity_run.specs.Statuses.{number_of};
+    ghost use Rattle.program_ends.specs.Statuses.{number_of};
 
     /// The exit status of a program that ends so.
     pub fn number(&self) -> u8
