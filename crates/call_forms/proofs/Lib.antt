@@ -1,3 +1,6 @@
 pub mod CallItems
+pub mod ListsAhead
+pub mod ItemsAhead
+pub mod NamesAhead
 pub mod ReadCalls
 pub mod Offered

@@ -1,1 +1,2 @@
+pub mod ItemsAhead
 pub mod meaning

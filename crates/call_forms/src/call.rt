@@ -4,6 +4,7 @@ ghost use Rattle.json_form.specs.Faults.{Gives};
 ghost use Rattle.call_forms.specs.meaning.Calls.{call_of, call_of_items as call_of_items_def, work_of};
 
 use crate::item::Item;
+use crate::lists::counted_ahead;
 use crate::statement::ItemReader;
 use crate::value::shared;
 use document_limits::Count;
@@ -90,5 +91,15 @@ impl Reader<Call> for CallReader {
         };
         let items = array_from(alloc, value, limit.least, limit.most, &reader)?;
         call_of_items(alloc, items)
+    }
+
+    fn ahead(&self, alloc: Global, tokens: &mut json::Reader<'_>, depth: usize) -> Option<Call> {
+        let limit = Count::Items.limit();
+        let reader = ItemReader {
+            digits: self.digits,
+        };
+        let items = counted_ahead(alloc, tokens, depth, limit.least, limit.most, &reader)?;
+        let call = call_of_items(alloc, items).ok()?;
+        Some(call)
     }
 }

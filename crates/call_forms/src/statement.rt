@@ -6,47 +6,60 @@ ghost use Rattle.json_form.specs.meaning.Texts.{word_of};
 ghost use Rattle.call_forms.specs.meaning.Items.{insert_of, update_of, delete_of, get_of, select_of, count_of, sum_of, show_of, set_of, alter_of, alone_of, item_by as item_by_def, item_read, test_words, change_words, changed_by};
 
 use crate::item::{ChangeWord, Item, ItemWord};
+use crate::item_ahead::item_ahead;
+use crate::lists::counted_ahead;
 use crate::value::{LineReader, NameReader, OperandReader, ValueReader};
 use document_limits::Count;
-use json_form::{Digits, DocFault, Reader, array_from, fixed, head_from, word_from};
+use json_form::{Digits, DocFault, Reader, array_from, fixed, head_from, word_ahead, word_from};
 use serde_json::Value as Json;
 use std::alloc::Global;
 use svc_values::{Change, Limited, Operand, Operands, Statement, Test};
 
+const TESTS: [(&str, Test); 3] = [("eq", Test::Eq), ("lt", Test::Lt), ("ge", Test::Ge)];
+
 /// Reads the word for a comparison.
-struct TestReader;
+pub(crate) struct TestReader;
 
 impl Reader<Test> for TestReader {
     ghost reads = { λ s. word_of test_words };
 
     fn read(&self, alloc: Global, value: Json) -> Result<Test, DocFault> {
-        word_from(
-            alloc,
-            value,
-            &[("eq", Test::Eq), ("lt", Test::Lt), ("ge", Test::Ge)],
-        )
+        word_from(alloc, value, &TESTS)
+    }
+
+    fn ahead(&self, alloc: Global, tokens: &mut json::Reader<'_>, _depth: usize) -> Option<Test> {
+        let test = word_ahead(alloc, tokens, &TESTS)?;
+        Some(test)
     }
 }
 
+const CHANGES: [(&str, ChangeWord); 2] = [("to", ChangeWord::To), ("plus", ChangeWord::Plus)];
+
 /// Reads the word for how an update changes its column.
-struct ChangeReader;
+pub(crate) struct ChangeReader;
 
 impl Reader<ChangeWord> for ChangeReader {
     ghost reads = { λ s. word_of change_words };
 
     fn read(&self, alloc: Global, value: Json) -> Result<ChangeWord, DocFault> {
-        word_from(
-            alloc,
-            value,
-            &[("to", ChangeWord::To), ("plus", ChangeWord::Plus)],
-        )
+        word_from(alloc, value, &CHANGES)
+    }
+
+    fn ahead(
+        &self,
+        alloc: Global,
+        tokens: &mut json::Reader<'_>,
+        _depth: usize,
+    ) -> Option<ChangeWord> {
+        let word = word_ahead(alloc, tokens, &CHANGES)?;
+        Some(word)
     }
 }
 
 /// Reads the operands of an insert.
 #[derive(Clone, Copy)]
-struct OperandsReader {
-    digits: Digits,
+pub(crate) struct OperandsReader {
+    pub(crate) digits: Digits,
 }
 
 impl Reader<Operands> for OperandsReader {
@@ -63,6 +76,20 @@ impl Reader<Operands> for OperandsReader {
         let operands = array_from(alloc, value, limit.least, limit.most, &reader)?;
         Ok(Limited::from_vec(operands))
     }
+
+    fn ahead(
+        &self,
+        alloc: Global,
+        tokens: &mut json::Reader<'_>,
+        depth: usize,
+    ) -> Option<Operands> {
+        let limit = Count::Operands.limit();
+        let reader = OperandReader {
+            digits: self.digits,
+        };
+        let operands = counted_ahead(alloc, tokens, depth, limit.least, limit.most, &reader)?;
+        Some(Limited::from_vec(operands))
+    }
 }
 
 #[tactic(auto, unfolding(crate::specs::meaning::Items::insert_of), using(json_form::proofs::Offered::others_stay))]
@@ -75,7 +102,7 @@ fn insert_from(alloc: Global, value: Json, digits: Digits) -> Result<Item, DocFa
     Ok(Item::Statement(Statement::Insert { table, values }))
 }
 
-fn change_of(word: ChangeWord, operand: Operand) -> Change
+pub(crate) fn change_of(word: ChangeWord, operand: Operand) -> Change
     ensures { result ≡ changed_by word operand }
 {
     match word {
@@ -213,7 +240,7 @@ fn item_by(alloc: Global, value: Json, word: ItemWord, digits: Digits) -> Result
     }
 }
 
-const WORDS: [(&str, ItemWord); 13] = [
+pub(crate) const WORDS: [(&str, ItemWord); 13] = [
     ("insert", ItemWord::Insert),
     ("update", ItemWord::Update),
     ("delete", ItemWord::Delete),
@@ -242,5 +269,9 @@ impl Reader<Item> for ItemReader {
     fn read(&self, alloc: Global, value: Json) -> Result<Item, DocFault> {
         let word = head_from(alloc, &value, &WORDS)?;
         item_by(alloc, value, word, self.digits)
+    }
+
+    fn ahead(&self, alloc: Global, tokens: &mut json::Reader<'_>, depth: usize) -> Option<Item> {
+        item_ahead(alloc, tokens, depth, self.digits)
     }
 }

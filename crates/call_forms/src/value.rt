@@ -7,6 +7,7 @@ ghost use Rattle.json_form.specs.meaning.Arrays.{is_key};
 ghost use Rattle.json_form.specs.declared.fault.DocFault.TheVariants.{NoMemory};
 ghost use Rattle.call_forms.specs.meaning.Values.{name_of, new_name, value_of, bytes_value, bytes_object, line_of, only_member as only_member_def, operand_named as operand_named_def, operand_of, draw_words};
 
+use json::Token;
 use json_form::{
     Digits, DocCode, DocFault, Integer, Reader, Taken, object_with, octets_from, text_from, within,
 };
@@ -26,6 +27,14 @@ impl Reader<Name> for NameReader {
         match Name::from_string(text) {
             Ok(name) => Ok(name),
             Err(_) => Err(DocFault::here(alloc, DocCode::Limit)),
+        }
+    }
+
+    /// The name that the tokens begin with, of whose text no copy is made.
+    fn ahead(&self, alloc: Global, tokens: &mut json::Reader<'_>, _depth: usize) -> Option<Name> {
+        match tokens.next()? {
+            Token::String(text) => Name::new(alloc, text).ok(),
+            _ => None,
         }
     }
 }
