@@ -1,14 +1,13 @@
 -- An event whose parts were read one after the other.
-use Rattle.std.proofs.Common.{◌≡◌, ℕ, List, Bool, true, Option, Some, None, Result, Ok, ap, ◌∙◌}
+use Rattle.std.proofs.Common.{◌≡◌, ℕ, List, Bool, true, Some, Result, Ok, ap, ◌∙◌}
 use Rattle.json.specs.Token.{Token}
 use Rattle.json.specs.Json.{parse_map}
-use Rattle.serde_json.specs.Data.{Data, array, Items, no_items, item}
-use Rattle.serde_json.specs.Find.{as_str}
+use Rattle.serde_json.specs.Data.{Data, array, no_items, item}
 use Rattle.json_form.specs.declared.hexadecimal.Digits.TheVariants as digits
 use Rattle.json_form.specs.meaning.Faults.{Fault, ◌>>=◌, within_item}
-use Rattle.json_form.specs.meaning.Values.{expected, whole_of}
+use Rattle.json_form.specs.meaning.Values.{whole_of}
 use Rattle.json_form.specs.meaning.Arrays.{array_of, each_of, part}
-use Rattle.json_form.specs.meaning.Texts.{chosen, named, word_of, head_of}
+use Rattle.json_form.specs.meaning.Texts.{word_of, head_of}
 use Rattle.json_form.specs.Streams.{value_ahead, items_ahead, Begins, IsLastItem}
 use Rattle.svc_values.specs.declared.call.Call.{Call}
 use Rattle.svc_values.specs.declared.entry.Ltxid.{Ltxid}
@@ -19,6 +18,7 @@ use Rattle.call_forms.specs.meaning.Calls.{call_of}
 use Rattle.document_forms.specs.meaning.Events.{count_of, pick_of, lost_pick_of, go_of, serve_of, reap_of, cut_of, crash_of, upcrash_of, outside_of, ltxid_of, ask_of, if_second, failover_of, event_words, event_by, event_of}
 use Rattle.document_forms.specs.EventsAhead.{Ends}
 use Rattle.json_form.proofs.Offered.{read_ahead}
+use Rattle.call_forms.proofs.Offered.{head_is}
 use Rattle.document_forms.proofs.Steps.{gives_after}
 
 -- ---- the parts behind the word
@@ -90,13 +90,6 @@ upcrash_read word d e a x h k =
     ∙ ap (λ (r : Result ℕ Fault). within_item 2 r >>= λ n. Ok (event.UpCrash a n)) k
 
 -- ---- the whole event
-
-by_text : {A : Type 0} (pairs : List (List ℕ × A)) (w : A) (o : Option (List ℕ)) → (expected o >>= chosen pairs) ≡ Ok w → named pairs o ≡ Ok w
-by_text pairs w None h = absurd (cc)
-by_text pairs w (Some text) h = h
-
-head_is : {A : Type 0} (pairs : List (List ℕ × A)) (d : Data) (ds : Items) (w : A) → word_of pairs d ≡ Ok w → head_of pairs (array (item d ds)) ≡ Ok w
-head_is pairs d ds w h = by_text pairs w (as_str d) h
 
 pub event_joined : (clients : ℕ) (standby : Bool) (w : EventWord) (depth inside : ℕ) (ts begin behind rest : List Token) (one : Event) → value_ahead depth ts ≡ parse_map array (items_ahead inside begin)
     → Begins (word_of event_words) inside begin w behind → Ends (event_by clients standby w) inside behind one rest → Begins (event_of clients standby) depth ts one rest

@@ -9,6 +9,7 @@ pub mod ReadTables
 pub mod ReadSequences
 pub mod ReadService
 pub mod ReadScripts
+pub mod RequestsAhead
 pub mod ReadEvents
 pub mod OneStore
 pub mod Offered

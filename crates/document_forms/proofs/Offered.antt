@@ -6,7 +6,8 @@ pub use Rattle.document_forms.proofs.Steps.{optional_apart, at_apart}
 -- members that are read one after the other: what stands at a name once one was put there
 pub use Rattle.document_forms.proofs.OneByOne.{at_this, at_other}
 -- what is not there, and what may be there
-pub use Rattle.document_forms.proofs.OneByOne.{none_there, none_left, of_each, one_there, may_be_there}
+pub use Rattle.call_forms.proofs.Offered.{of_each}
+pub use Rattle.document_forms.proofs.OneByOne.{none_there, none_left, one_there, may_be_there}
 -- the object whose members were passed
 pub use Rattle.document_forms.proofs.OneByOne.{members_there, required_there}
 -- tables, sequences, the service, clients and events that were read keep to what each of them does

@@ -1,6 +1,6 @@
 -- Members of an object that are read one after the other.
 use Rattle.std.proofs.Common.{◌≡◌, ℕ, List, true, false, Option, Some, None, option_map, Result, Ok, refl, ap}
-use Rattle.std.specs.Prelude.{⊤, is_some, IfSome}
+use Rattle.std.specs.Prelude.{⊤, is_some}
 use Rattle.std.specs.Option.{unwrap_or}
 use Rattle.std.specs.Str.{bytes_eq}
 use Rattle.serde_json.specs.Data.{Data, Members, object}
@@ -25,11 +25,6 @@ none_there f (Some x) e = absurd (cc)
 pub none_left : {A : Type 0} (o : Option A) → is_some o ≡ false → o ≡ None
 none_left None h = refl
 none_left (Some x) h = absurd (cc)
-
--- what holds of each thing that may be there holds of the one that is
-pub of_each : {A : Type 0} (P Q : A → Type 0) (o : Option A) → ((x : A) → P x → Q x) → IfSome o P → IfSome o Q
-of_each P Q None more h = tt
-of_each P Q (Some x) more h = more x h
 
 -- what was read was there
 pub one_there : {A B : Type 0} (f : A → Result B Fault) (o : Option A) (x : B) → option_map f o ≡ Some (Ok x) → (d : A) × (o ≡ Some d) × (f d ≡ Ok x)

@@ -38,13 +38,13 @@ calls_read d calls h =
       count = both_true _ _ (le-leb 1 (length calls) (omega (arith, long, enough))) (le-leb (length calls) 1024 (omega (arith, long, few)));
     }
 
-abbrev with_again : Named → NamedValues → List Call → Result Request Fault
+abbrev pub with_again : Named → NamedValues → List Call → Result Request Fault
 with_again ms settings cs = optional (codes "again") 0 (whole_of 0 4) ms >>= λ again. if_submitted_rightly (record { settings = settings; calls = cs; again = again })
 
-abbrev with_calls : Named → Data → NamedValues → Result Request Fault
+abbrev pub with_calls : Named → Data → NamedValues → Result Request Fault
 with_calls ms calls settings = within (codes "calls") (array_of 1 1024 (each_of (call_of digits.Any)) calls) >>= with_again ms settings
 
-abbrev with_settings : Named → Data → Result Request Fault
+abbrev pub with_settings : Named → Data → Result Request Fault
 with_settings ms calls = optional (codes "settings") [] settings_of ms >>= with_calls ms calls
 
 made_request : (settings : NamedValues) (calls : List Call) (again : ℕ) → AreCalls calls → is_between 0 4 again ≡ true → ((again == 0) || is_one_transaction calls) ≡ true → is_request (record { settings = settings; calls = calls; again = again }) ≡ true
@@ -65,7 +65,7 @@ request_read d one h =
     let are = calls_read b.0 cs.0 (within_ok (escaped (codes "calls")) _ cs.0 cs.1) in
     ap is_request (sym (ok_is made one p.1)) ∙ made_request s.0 cs.0 n.0 are (member_whole (codes "again") 0 4 0 ms n.0 refl n.1) p.0
 
-abbrev with_requests : Data → Result Client Fault
+abbrev pub with_requests : Data → Result Client Fault
 with_requests requests = within (codes "requests") (list_of (each_of request_of) requests) >>= λ rs. Ok (record { requests = rs })
 
 made_client : (requests : List Request) → list_all is_request requests ≡ true → is_client (record { requests = requests }) ≡ true

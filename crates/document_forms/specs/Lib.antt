@@ -2,5 +2,6 @@ pub mod Numbers
 pub mod TablesAhead
 pub mod RowsAhead
 pub mod EventsAhead
+pub mod RequestsAhead
 pub mod Keeping
 pub mod meaning

@@ -9,6 +9,7 @@ ghost use Rattle.json_form.specs.Streams.{Begins};
 
 use crate::event_ahead::{event_ahead, ltxid_ahead};
 use crate::number::whole;
+use crate::script_ahead::calls_ahead;
 use call_forms::CallReader;
 use document_limits::{Count, Number};
 use json_form::{
@@ -91,6 +92,10 @@ impl Reader<Calls> for CallsReader {
         };
         let calls = array_from(alloc, value, limit.least, limit.most, &reader)?;
         Ok(Listed::from_vec(calls))
+    }
+
+    fn ahead(&self, alloc: Global, tokens: &mut json::Reader<'_>, depth: usize) -> Option<Calls> {
+        calls_ahead(alloc, tokens, depth, Count::OutsideCalls)
     }
 }
 

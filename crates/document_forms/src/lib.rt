@@ -6,6 +6,7 @@ mod event_ahead;
 mod number;
 mod row_ahead;
 mod script;
+mod script_ahead;
 mod sequence;
 mod service;
 mod table;

@@ -9,6 +9,7 @@ ghost use Rattle.call_forms.specs.meaning.Calls.{call_of};
 ghost use Rattle.document_forms.specs.meaning.Scripts.{setting_of, by_name as by_name_def, settings_of, is_inside as is_inside_def, is_one_transaction as is_one_transaction_def, if_submitted_rightly, request_of, client_of};
 
 use crate::number::whole;
+use crate::script_ahead::{client_ahead, request_ahead};
 use call_forms::{CallReader, NewNameReader, ValueReader, copied};
 use document_limits::{Count, Number};
 use json_form::{
@@ -62,7 +63,7 @@ fn by_name(alloc: Global, pairs: Vec<(Name, Value)>) -> Result<Settings, NoMemor
 
 /// Reads settings.
 #[derive(Drop)]
-struct SettingsReader;
+pub(crate) struct SettingsReader;
 
 impl Reader<Settings> for SettingsReader {
     ghost reads = { λ s. settings_of };
@@ -98,7 +99,7 @@ fn is_one_transaction(calls: &[Call]) -> bool
 }
 
 /// The request, if it may be submitted again as often as it asks.
-fn submitted_rightly(alloc: Global, request: Request) -> Result<Request, DocFault>
+pub(crate) fn submitted_rightly(alloc: Global, request: Request) -> Result<Request, DocFault>
     ensures { Gives result (if_submitted_rightly request) }
 {
     if request.again != 0 && !is_one_transaction(request.calls.as_slice()) {
@@ -121,7 +122,7 @@ fn calls_from(alloc: Global, calls: Json) -> Result<Calls, DocFault>
 }
 
 /// Reads a request.
-struct RequestReader;
+pub(crate) struct RequestReader;
 
 impl Reader<Request> for RequestReader {
     ghost reads = { λ s. request_of };
@@ -142,6 +143,10 @@ impl Reader<Request> for RequestReader {
             },
         )
     }
+
+    fn ahead(&self, alloc: Global, tokens: &mut json::Reader<'_>, depth: usize) -> Option<Request> {
+        request_ahead(alloc, tokens, depth)
+    }
 }
 
 /// Reads a client.
@@ -158,5 +163,10 @@ impl Reader<Client> for ClientReader {
         Ok(Client {
             requests: Listed::from_vec(requests),
         })
+    }
+
+    /// The client that the tokens begin with, each of whose requests is read as soon as its tokens are passed.
+    fn ahead(&self, alloc: Global, tokens: &mut json::Reader<'_>, depth: usize) -> Option<Client> {
+        client_ahead(alloc, tokens, depth)
     }
 }

@@ -2,7 +2,7 @@ use Rattle.std.proofs.Common.{ℕ}
 use Rattle.outage_schedule.specs.declared.event.Event.TheVariants as event
 use Rattle.document_forms.specs.meaning.Events.{bare_of}
 use Rattle.document_forms.specs.EventsAhead.{Ends}
-use Rattle.document_forms.proofs.OneByOne.{of_each}
+use Rattle.call_forms.proofs.Offered.{of_each}
 use Rattle.document_forms.proofs.event_ahead.parts_ahead.Goals as goal
 
 pub returns-in-Go-clause-ends : goal.returns-in-Go-clause-ends

@@ -2,7 +2,7 @@ use Rattle.std.proofs.Common.{◌≡◌, ℕ, List, codes, sym, subst, rules}
 use Rattle.std.specs.Str.{bytes_eq}
 use Rattle.json_form.specs.meaning.Arrays.{is_key}
 use Rattle.document_forms.specs.TablesAhead.{PassesMember}
-use Rattle.document_forms.proofs.OneByOne.{of_each}
+use Rattle.call_forms.proofs.Offered.{of_each}
 use Rattle.document_forms.proofs.table_ahead.TableAhead.take.Goals as goal
 
 pub returns-then-eq-2-clause-read : goal.returns-then-eq-2-clause-read
