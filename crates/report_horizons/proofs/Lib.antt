@@ -1,2 +1,3 @@
 mod Front
 mod Greatest
+mod Ordered

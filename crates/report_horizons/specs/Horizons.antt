@@ -1,9 +1,9 @@
 -- Incarnations that ended and horizons that are wanted, as code keeps them.
-use Rattle.std.specs.Prelude.{ℕ, ◌≡◌, ◌≤◌, ◌+◌, max, nat_lt, List, [], ◌∷◌, map, reverse, length, drop, Option, Some, None, if◌then◌else◌}
+use Rattle.std.specs.Prelude.{ℕ, ◌≡◌, ◌≤◌, ◌+◌, max, nat_lt, List, [], ◌∷◌, ◌++◌, map, reverse, length, drop, Option, Some, None, if◌then◌else◌}
 use Rattle.run_clauses.specs.meaning.Horizons.{Ended, Openings, Wanted}
 use Rattle.report_horizons.specs.declared.horizons.EndedAt.{EndedAt}
 use Rattle.report_horizons.specs.declared.horizons.Front.{Front}
-use Rattle.report_horizons.specs.declared.horizons.WantedAt.{WantedAt}
+use Rattle.report_horizons.specs.declared.horizons.Opening.{Opening}
 use Rattle.report_horizons.specs.declared.horizons.OpeningsAt.{OpeningsAt}
 
 abbrev pub ended_as : EndedAt → Ended
@@ -12,11 +12,23 @@ ended_as one = record { incarnation = one.incarnation; tick = one.tick }
 abbrev pub all_ended : List EndedAt → List Ended
 all_ended all = map ended_as all
 
-abbrev pub wanted_as : WantedAt → Wanted
-wanted_as one = record { event = one.event; horizon = one.horizon }
+abbrev pub opening_as : Opening → Wanted
+opening_as one = record { event = one.event; horizon = one.horizon }
 
-abbrev pub all_wanted : List WantedAt → List Wanted
-all_wanted all = map wanted_as all
+-- those of several lists, one list after the other
+abbrev pub all_wanted : List (List Wanted) → List Wanted
+all_wanted [] = []
+all_wanted (first ∷ lists) = first ++ all_wanted lists
+
+-- the event of the last, and this one where there is none
+abbrev pub last_event : ℕ → List Wanted → ℕ
+last_event event [] = event
+last_event event (one ∷ all) = last_event one.event all
+
+-- Their events rise, or stay, from this one on. Each has the greatest horizon that was wanted by then, and the last one the greatest of all.
+abbrev pub AreOrdered : ℕ → ℕ → List Opening → ℕ → Type 0
+AreOrdered event most [] greatest = most ≡ greatest
+AreOrdered event most (one ∷ all) greatest = (event ≤ one.event) × ((one.most ≡ max most one.horizon) × AreOrdered one.event one.most all greatest)
 
 -- the last that ended comes first
 abbrev pub openings_as : OpeningsAt → Openings
@@ -49,7 +61,7 @@ pub record IsFront (retention tick : ℕ) (front : Front) (ended : List Ended) :
 abbrev pub IsFrontAt : ℕ → Front → Openings → Type 0
 IsFrontAt retention front openings = IsFront retention openings.tick front (reverse openings.ended)
 
--- what there is, as a list
-abbrev pub as_list : {A : Type 0} → Option A → List A
-as_list None = []
-as_list (Some a) = a ∷ []
+-- the horizon that the opening of an event wants, if there is one
+abbrev pub wanted_with : ℕ → Option ℕ → List Wanted
+wanted_with event None = []
+wanted_with event (Some horizon) = record { event = event; horizon = horizon } ∷ []

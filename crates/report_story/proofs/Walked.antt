@@ -1,5 +1,5 @@
 -- What is kept of a report that was gone through is what its events tell.
-use Rattle.std.proofs.Common.{◌≡◌, refl, sym, ap, subst, ◌∙◌, append-nil, append_assoc, ℕ, ◌+◌, true, not, List, [], ◌∷◌, ◌++◌, map, fold, Option}
+use Rattle.std.proofs.Common.{◌≡◌, refl, sym, ap, subst, ◌∙◌, append-nil, append_assoc, ℕ, ◌+◌, true, List, [], ◌∷◌, ◌++◌, map, fold, Option}
 use Rattle.std.specs.Prelude.{◌==◌}
 use Rattle.std.proofs.lemmas.Bool.{not-true, eq-eqb}
 use Rattle.std.proofs.lemmas.List.{map-append}

@@ -6,3 +6,4 @@ pub mod Lines
 pub mod Changes
 pub mod Seeing
 pub mod Brought
+pub mod Placing

@@ -1,51 +1,69 @@
-//! Changes of all connections that meet a test.
+//! Changes of all connections that are named in one way.
 ghost use Rattle.std.specs.Prelude.{◌≡◌, map, OnOk};
-ghost use Rattle.shown_clauses.specs.meaning.Links.{is_link, has_session, turn_begun, call_served, acquire, take_reply};
+ghost use Rattle.shown_clauses.specs.meaning.Links.{turn_begun, call_served, acquire, take_reply};
 ghost use Rattle.report_story.specs.Changes.{changed, reply_added};
+ghost use Rattle.report_story.specs.Placing.{identity_of, is_which};
 
 use crate::line::Line;
+use crate::which::Which;
 use outage_schedule::Served;
 use std::alloc::Global;
-use svc_values::{Call, NoMemory, SessionId};
+use svc_values::{Call, NoMemory};
 
-/// What becomes of a connection.
+/// What becomes of a connection. Its number and its session stay.
 pub(crate) trait Change<'a> {
     ghost use Rattle.shown_clauses.specs.meaning.Links.{Link};
 
     ghost change: { Self → Link → Link };
 
     fn apply(&self, line: &mut Line<'a>) -> Result<(), NoMemory>
-        ensures { OnOk result (line.new ≡ change self.now line.old) };
+        ensures is { OnOk result (line.new ≡ change self.now line.old) }
+        ensures identity { identity_of line.new ≡ identity_of line.old };
 }
 
-/// Changes each connection. Linear in their number.
-pub(crate) fn change_all<'a, C: Change<'a>>(
-    lines: &mut [Line<'a>],
+/// Changes the connection, if it is named so.
+fn change_if<'a, C: Change<'a>>(
+    line: &mut Line<'a>,
+    which: Which,
     change: &C,
 ) -> Result<(), NoMemory>
-    ensures { OnOk result (lines.new ≡ map (C.change change.now) lines.old) }
+    ensures is { OnOk result (line.new
+        ≡ changed (is_which which) (C.change change.now) line.old) }
+    ensures identity { identity_of line.new ≡ identity_of line.old }
 {
-    for line in lines.iter_mut() {
-        change.apply(line)?;
+    if line.is_which(which) {
+        return change.apply(line);
     }
     Ok(())
 }
 
-/// A reply was served on the connection of this number.
+/// Changes each connection that is named so. Linear in the number of all.
+pub(crate) fn change_all<'a, C: Change<'a>>(
+    lines: &mut [Line<'a>],
+    which: Which,
+    change: &C,
+) -> Result<(), NoMemory>
+    ensures is { OnOk result (lines.new
+        ≡ map (changed (is_which which) (C.change change.now)) lines.old) }
+    ensures identities { map identity_of lines.new ≡ map identity_of lines.old }
+{
+    for line in lines.iter_mut() {
+        change_if(line, which, change)?;
+    }
+    Ok(())
+}
+
+/// A reply was served.
 #[derive(Clone, Copy)]
 pub(crate) struct Replied<'a> {
-    pub(crate) connection: u64,
     pub(crate) one: &'a Served,
 }
 
 impl<'a> Change<'a> for Replied<'a> {
-    ghost change = { λ s. changed (is_link s.connection) (reply_added s.one.now) };
+    ghost change = { λ s. reply_added s.one.now };
 
     fn apply(&self, line: &mut Line<'a>) -> Result<(), NoMemory> {
-        if line.has_number(self.connection) {
-            return line.add_reply(self.one);
-        }
-        Ok(())
+        line.add_reply(self.one)
     }
 }
 
@@ -53,17 +71,14 @@ impl<'a> Change<'a> for Replied<'a> {
 #[derive(Clone, Copy)]
 pub(crate) struct Begun {
     pub(crate) alloc: Global,
-    pub(crate) session: SessionId,
     pub(crate) event: u64,
 }
 
 impl<'a> Change<'a> for Begun {
-    ghost change = { λ s. changed (has_session s.session) turn_begun };
+    ghost change = { λ s. turn_begun };
 
     fn apply(&self, line: &mut Line<'a>) -> Result<(), NoMemory> {
-        if line.has_session(self.session) {
-            line.begin(self.alloc, self.event);
-        }
+        line.begin(self.alloc, self.event);
         Ok(())
     }
 }
@@ -71,57 +86,47 @@ impl<'a> Change<'a> for Begun {
 /// A session served a call.
 #[derive(Clone, Copy)]
 pub(crate) struct Called<'a> {
-    pub(crate) session: SessionId,
     pub(crate) event: u64,
     pub(crate) replay: bool,
     pub(crate) call: &'a Call,
 }
 
 impl<'a> Change<'a> for Called<'a> {
-    ghost change = { λ s. changed (has_session s.session) (call_served s.replay s.call.now) };
+    ghost change = { λ s. call_served s.replay s.call.now };
 
     fn apply(&self, line: &mut Line<'a>) -> Result<(), NoMemory> {
-        if line.has_session(self.session) {
-            return line.add_call(self.event, self.replay, self.call);
-        }
-        Ok(())
+        line.add_call(self.event, self.replay, self.call)
     }
 }
 
-/// A client was lent the connection of this number.
+/// A client was lent a connection.
 #[derive(Clone, Copy)]
 pub(crate) struct Lent {
-    pub(crate) connection: u64,
     pub(crate) client: u64,
     pub(crate) event: u64,
 }
 
 impl<'a> Change<'a> for Lent {
-    ghost change = { λ s. changed (is_link s.connection) (acquire s.client s.event) };
+    ghost change = { λ s. acquire s.client s.event };
 
     fn apply(&self, line: &mut Line<'a>) -> Result<(), NoMemory> {
-        if line.has_number(self.connection) {
-            line.acquire(self.client, self.event);
-        }
+        line.acquire(self.client, self.event);
         Ok(())
     }
 }
 
-/// A client took a reply of the connection of this number.
+/// A client took a reply.
 #[derive(Clone, Copy)]
 pub(crate) struct Taken {
-    pub(crate) connection: u64,
     pub(crate) client: u64,
     pub(crate) event: u64,
 }
 
 impl<'a> Change<'a> for Taken {
-    ghost change = { λ s. changed (is_link s.connection) (take_reply s.client s.event) };
+    ghost change = { λ s. take_reply s.client s.event };
 
     fn apply(&self, line: &mut Line<'a>) -> Result<(), NoMemory> {
-        if line.has_number(self.connection) {
-            line.take_reply(self.client, self.event);
-        }
+        line.take_reply(self.client, self.event);
         Ok(())
     }
 }

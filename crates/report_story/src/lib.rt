@@ -3,13 +3,14 @@
 #![tactic(auto)]
 
 mod change;
-mod finding;
+mod connections;
 mod line;
 mod passing;
 mod seen;
 mod steps;
 mod telling;
 mod turns;
+mod which;
 
 pub use line::{Repeated, is_hello};
 pub use passing::is_marked;

@@ -4,9 +4,11 @@ ghost use Rattle.std.specs.Option.{option_copied};
 ghost use Rattle.shown_clauses.specs.meaning.Fronts.{first_item};
 ghost use Rattle.shown_clauses.specs.meaning.Links.{new_link, is_link, has_session as has_session_def, call_served, turn_begun, acquire, take_reply, turn_of, is_connect};
 ghost use Rattle.report_story.specs.Lines.{repeated_on, as_turns, without_turn};
+ghost use Rattle.report_story.specs.Placing.{identity_of, is_which};
 ghost use Rattle.report_story.specs.Views.{repeated_as};
 
 use crate::turns::{Acquired, Turn};
+use crate::which::Which;
 use outage_schedule::{Item, Served};
 use std::alloc::Global;
 use std::collections::VecDeque;
@@ -84,6 +86,22 @@ impl<'a> Line<'a> {
         self.session.incarnation == session.incarnation && self.session.session == session.session
     }
 
+    /// Whether it is named so.
+    pub(crate) fn is_which(&self, which: Which) -> bool
+        ensures { result ≡ is_which which self.now }
+    {
+        match which {
+            Which::Number(connection) => self.has_number(connection),
+            Which::Session(session) => self.has_session(session),
+        }
+    }
+
+    pub(crate) fn connection(&self) -> u64
+        ensures { result ≡ self.now.connection }
+    {
+        self.connection
+    }
+
     pub(crate) fn session(&self) -> SessionId
         ensures { result ≡ self.now.session }
     {
@@ -102,8 +120,9 @@ impl<'a> Line<'a> {
 
     /// A reply was served on it.
     pub(crate) fn add_reply(&mut self, one: &'a Served) -> Result<(), NoMemory>
-        ensures { OnOk result (self.new
+        ensures is { OnOk result (self.new
             ≡ record self.old { replies = self.old.replies ++ one.now ∷ [] }) }
+        ensures identity { identity_of self.new ≡ identity_of self.old }
     {
         self.replies.push_back(one)?;
         Ok(())
@@ -111,14 +130,16 @@ impl<'a> Line<'a> {
 
     /// A client came to it at this event.
     pub(crate) fn acquire(&mut self, client: u64, event: u64)
-        ensures { self.new ≡ acquire client event self.old }
+        ensures is { self.new ≡ acquire client event self.old }
+        ensures identity { identity_of self.new ≡ identity_of self.old }
     {
         self.acquired = Some(Acquired { client, event });
     }
 
     /// A client took the first reply.
     pub(crate) fn take_reply(&mut self, client: u64, event: u64)
-        ensures { self.new ≡ take_reply client event self.old }
+        ensures is { self.new ≡ take_reply client event self.old }
+        ensures identity { identity_of self.new ≡ identity_of self.old }
     {
         if let Some(one) = self.replies.pop_front() {
             if is_hello(one) {
@@ -129,7 +150,8 @@ impl<'a> Line<'a> {
 
     /// Its session served a `begin` at an event.
     pub(crate) fn begin(&mut self, alloc: Global, event: u64)
-        ensures { self.new ≡ turn_begun self.old }
+        ensures is { self.new ≡ turn_begun self.old }
+        ensures identity { identity_of self.new ≡ identity_of self.old }
     {
         self.turn = Some(Turn::new(alloc, event, self.acquired));
     }
@@ -141,7 +163,8 @@ impl<'a> Line<'a> {
         replay: bool,
         call: &'a Call,
     ) -> Result<(), NoMemory>
-        ensures { OnOk result (self.new ≡ call_served replay call.now self.old) }
+        ensures is { OnOk result (self.new ≡ call_served replay call.now self.old) }
+        ensures identity { identity_of self.new ≡ identity_of self.old }
     {
         match &mut self.turn {
             Some(turn) => turn.add(event, replay, call),

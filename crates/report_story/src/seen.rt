@@ -1,5 +1,5 @@
 //! What the events of a run did to its connections and to the turns of its sessions.
-ghost use Rattle.std.specs.Prelude.{◌≡◌, ◌<◌, ◌∷◌, ◌++◌, is_some, length, reverse, option_and_then, option_map, IfOk, OnOk};
+ghost use Rattle.std.specs.Prelude.{◌≡◌, ◌∷◌, ◌++◌, is_some, reverse, option_and_then, option_map, IfOk, OnOk};
 ghost use Rattle.std.specs.Option.{option_copied};
 ghost use Rattle.shown_clauses.specs.meaning.Fronts.{first_item};
 ghost use Rattle.shown_clauses.specs.meaning.Links.{nothing_seen, link_of, add_reply, connected, served_on, stopped_on, linked, after_go};
@@ -7,24 +7,25 @@ ghost use Rattle.shown_clauses.specs.meaning.Steps.{turns_seen};
 ghost use Rattle.report_story.specs.Lines.{as_turns};
 ghost use Rattle.report_story.specs.Passing.{repeated_at};
 ghost use Rattle.report_story.specs.Plain.{plain_item, plain_note};
-ghost use Rattle.report_story.specs.Seeing.{with_links, with_over, connect_stopped as connect_stopped_def, begun_on, called_on, turned, IsPlaceOf, IsTurnTaken, IsTurnOver};
+ghost use Rattle.report_story.specs.Seeing.{with_links, connect_stopped as connect_stopped_def, begun_on, called_on, turned, IsTurnOver};
 ghost use Rattle.report_story.specs.Views.{repeated_as};
 
-use crate::change::{Begun, Called, Lent, Replied, Taken, change_all};
-use crate::finding::{line_of, newest_of, place_of};
+use crate::change::{Begun, Called, Lent, Replied, Taken};
+use crate::connections::Connections;
 use crate::line::{Line, Repeated};
 use crate::turns::Turn;
+use crate::which::Which;
 use outage_schedule::{GoNote, Item, Note, Served};
 use std::alloc::Global;
 use std::marker::Model;
 use svc_values::{Call, NoMemory, SessionId};
 
-/// The connections, the newest first, and the turns that another `begin` followed. Each call is linear
-/// in the number of connections.
+/// The connections, the newest first, and the turns that another `begin` followed. Each call takes the
+/// logarithm of the number of connections, as long as no two have one number or one session.
 #[derive(Drop)]
 pub(crate) struct Seen<'a> {
     alloc: Global,
-    lines: Vec<Line<'a>>,
+    lines: Connections<'a>,
     over: Vec<Turn<'a>>,
 }
 
@@ -34,7 +35,7 @@ impl<'a> Model for Seen<'a> {
 
     ghost Value = { AllSeen };
 
-    ghost view = { λ s. record { links = s.lines.items; over = reverse s.over.items } };
+    ghost view = { λ s. record { links = s.lines; over = reverse s.over.items } };
 }
 
 /// Puts a turn last, if there is one.
@@ -57,7 +58,7 @@ impl<'a> Seen<'a> {
     {
         Seen {
             alloc,
-            lines: Vec::new(alloc),
+            lines: Connections::new(alloc),
             over: Vec::new(alloc),
         }
     }
@@ -66,7 +67,7 @@ impl<'a> Seen<'a> {
     pub(crate) fn repeated(&self, session: SessionId) -> Option<Repeated>
         ensures { option_map repeated_as result ≡ repeated_at self.now session }
     {
-        match newest_of(&self.lines, session) {
+        match self.lines.find(Which::Session(session)) {
             Some(line) => line.repeated(),
             None => None,
         }
@@ -77,7 +78,7 @@ impl<'a> Seen<'a> {
         ensures { option_copied result ≡ option_and_then (λ link. first_item link.replies)
             (link_of connection self.now.links) }
     {
-        match line_of(&self.lines, connection) {
+        match self.lines.find(Which::Number(connection)) {
             Some(line) => line.reply(),
             None => None,
         }
@@ -87,7 +88,7 @@ impl<'a> Seen<'a> {
     pub(crate) fn session_on(&self, connection: u64) -> Option<SessionId>
         ensures { result ≡ option_map (λ link. link.session) (link_of connection self.now.links) }
     {
-        match line_of(&self.lines, connection) {
+        match self.lines.find(Which::Number(connection)) {
             Some(line) => Some(line.session()),
             None => None,
         }
@@ -97,7 +98,7 @@ impl<'a> Seen<'a> {
     fn has_line(&self, connection: u64) -> bool
         ensures { result ≡ is_some (link_of connection self.now.links) }
     {
-        line_of(&self.lines, connection).is_some()
+        self.lines.find(Which::Number(connection)).is_some()
     }
 
     /// A reply was served on the connection of this number, if there is one.
@@ -105,15 +106,15 @@ impl<'a> Seen<'a> {
         ensures { OnOk result (self.new
             ≡ with_links self.old (add_reply connection one.now self.old.links)) }
     {
-        change_all(&mut self.lines, &Replied { connection, one })
+        self.lines
+            .change(Which::Number(connection), &Replied { one })
     }
 
     /// A connection was made.
     fn put(&mut self, line: Line<'a>) -> Result<(), NoMemory>
         ensures { OnOk result (self.new ≡ with_links self.old (line.entry ∷ self.old.links)) }
     {
-        self.lines.insert(0, line)?;
-        Ok(())
+        self.lines.put(self.alloc, line)
     }
 
     /// The Connect of a connection was served.
@@ -210,46 +211,13 @@ impl<'a> Seen<'a> {
         }
     }
 
-    /// The turn of the connection at a place, moved out.
-    fn take_turn(&mut self, at: usize) -> Option<Turn<'a>>
-        requires { at < length self.old.links }
-        ensures { IsTurnTaken self.old at (as_turns result) self.new }
-    {
-        let line = &mut self.lines[at];
-        line.take_turn()
-    }
-
-    /// The turn is over.
-    fn end(&mut self, turn: Turn<'a>) -> Result<(), NoMemory>
-        ensures { OnOk result (self.new ≡ with_over self.old turn.entry) }
-    {
-        self.over.push(turn)?;
-        Ok(())
-    }
-
-    /// The turn of the session's newest connection, which is at this place, is over.
-    fn end_at(&mut self, session: SessionId, at: usize) -> Result<(), NoMemory>
-        requires { IsPlaceOf session self.old.links at }
-        ensures { OnOk result (IsTurnOver session self.old self.new) }
-    {
-        match self.take_turn(at) {
-            Some(turn) => {
-                self.end(turn)?;
-                Ok(())
-            },
-            None => Ok(()),
-        }
-    }
-
     /// The turn that another `begin` of the session, at this event, follows. One of a session that no
     /// connection has is a turn that nobody acquired.
     fn turn_over(&mut self, session: SessionId, event: u64) -> Result<(), NoMemory>
         ensures { OnOk result (IsTurnOver session self.old self.new) }
     {
-        match place_of(&self.lines, session) {
-            Some(at) => self.end_at(session, at),
-            None => self.end(Turn::new(self.alloc, event, None)),
-        }
+        let turn = self.lines.take_turn(self.alloc, session, event);
+        put_turn(&mut self.over, turn)
     }
 
     /// The session served a `begin` at an event.
@@ -258,24 +226,17 @@ impl<'a> Seen<'a> {
     {
         self.turn_over(session, event)?;
         let alloc = self.alloc;
-        change_all(
-            &mut self.lines,
-            &Begun {
-                alloc,
-                session,
-                event,
-            },
-        )
+        self.lines
+            .change(Which::Session(session), &Begun { alloc, event })
     }
 
     /// The session of an item served a call.
     fn call(&mut self, one: &Served, replay: bool, call: &'a Call) -> Result<(), NoMemory>
         ensures { OnOk result (self.new ≡ called_on one.now.session replay call.now self.old) }
     {
-        change_all(
-            &mut self.lines,
+        self.lines.change(
+            Which::Session(one.session),
             &Called {
-                session: one.session,
                 event: one.event,
                 replay,
                 call,
@@ -315,22 +276,12 @@ impl<'a> Seen<'a> {
             ≡ with_links self.old (after_go client event did self.old.links)) }
     {
         match did {
-            GoNote::Lent { connection } => change_all(
-                &mut self.lines,
-                &Lent {
-                    connection,
-                    client,
-                    event,
-                },
-            ),
-            GoNote::Took { connection, .. } => change_all(
-                &mut self.lines,
-                &Taken {
-                    connection,
-                    client,
-                    event,
-                },
-            ),
+            GoNote::Lent { connection } => self
+                .lines
+                .change(Which::Number(connection), &Lent { client, event }),
+            GoNote::Took { connection, .. } => self
+                .lines
+                .change(Which::Number(connection), &Taken { client, event }),
             GoNote::Idle => Ok(()),
             GoNote::Wait => Ok(()),
             GoNote::NoFrame => Ok(()),
@@ -367,9 +318,10 @@ impl<'a> Seen<'a> {
     {
         let Seen {
             alloc: _,
-            mut lines,
+            lines,
             over,
         } = self;
+        let mut lines = lines.into_lines();
         let mut turns = over;
         while let Some(line) = lines.pop() {
             put_turn(&mut turns, line.into_turn())?;
