@@ -1,10 +1,9 @@
 -- The greatest horizon that is wanted.
-use Rattle.std.proofs.Common.{◌≡◌, ℕ, ◌+◌, ◌<◌, max, length, get_or, drop, List, [], ◌∷◌, ◌++◌, map, reverse, Bool, true, false, cond, refl, ap, ◌∙◌, arith}
+use Rattle.std.proofs.Common.{◌≡◌, ℕ, ◌+◌, max, List, [], ◌∷◌, ◌++◌, map, reverse, Bool, true, false, cond, refl, ap, ◌∙◌, arith}
 use Rattle.std.specs.Prelude.{nat_lt, filter, fold}
 use Rattle.std.proofs.lemmas.Grind.{reverse_onto}
-use Rattle.std.proofs.lemmas.List.{drop_more}
 use Rattle.run_clauses.specs.meaning.Horizons.{Ended, Wanted, raised}
-use Rattle.report_horizons.specs.Horizons.{all_wanted, part_of, part_before, most_by}
+use Rattle.report_horizons.specs.Horizons.{part_of, part_before, most_by}
 
 fold_most : (a : ℕ) (all : List ℕ) → fold max a all ≡ max a (fold max 0 all)
 fold_most a [] = omega arith
@@ -37,29 +36,8 @@ wanted_is retention tick all =
     most_is (λ (one : Ended). nat_lt (one.tick + retention) tick) (λ one. one.incarnation + 1) (reverse all) ∙ most-reverse (part_of retention tick) all
 
 -- the horizon at an event
-raised_is : (image event : ℕ) (all : List Wanted) → raised image all event ≡ max image (most_by (part_before event) all)
+pub raised_is : (image event : ℕ) (all : List Wanted) → raised image all event ≡ max image (most_by (part_before event) all)
 raised_is image event all =
     let start = fold_most image (map (λ (one : Wanted). one.horizon) (filter (λ (one : Wanted). nat_lt one.event event) all)) in
     let most = most_is (λ (one : Wanted). nat_lt one.event event) (λ one. one.horizon) all in
     omega (arith, start, most)
-
--- of several lists
-most_all : (event : ℕ) (lists : List (List Wanted)) → most_by (part_before event) (all_wanted lists) ≡ most_by (most_by (part_before event)) lists
-most_all event [] = refl
-most_all event (first ∷ lists) =
-    let both = most-append (part_before event) first (all_wanted lists) in
-    let rest = most_all event lists in
-    omega (arith, both, rest)
-
-pub raised_all : (image event : ℕ) (lists : List (List Wanted)) → raised image (all_wanted lists) event ≡ max image (most_by (most_by (part_before event)) lists)
-raised_all image event lists =
-    let is = raised_is image event (all_wanted lists) in
-    let all = most_all event lists in
-    omega (arith, is, all)
-
--- one more of a list
-pub most_step : {A : Type 0} (part : A → ℕ) (all : List A) (i : ℕ) (d : A) (here old new whole : ℕ) → i < length all → here ≡ part (get_or all i d) → new ≡ max old here
-    → max old (most_by part (drop i all)) ≡ whole → max new (most_by part (drop (i + 1) all)) ≡ whole
-most_step part all i d here old new whole within is more so_far =
-    let step = ap (most_by part) (drop_more all i d within) in
-    omega (arith, step, is, more, so_far)

@@ -4,7 +4,7 @@ use Rattle.std.specs.Prelude.{nat_lt}
 use Rattle.std.specs.List.Sorted.{IsPartitionPoint, IsPartitionedBy}
 use Rattle.std.proofs.lemmas.Bool.{ltb-true, lt-ltb}
 use Rattle.run_clauses.specs.meaning.Horizons.{Wanted}
-use Rattle.report_horizons.specs.declared.horizons.Opening.{Opening}
+use Rattle.report_horizons.specs.declared.wanted_horizons.Opening.{Opening}
 use Rattle.report_horizons.specs.Horizons.{opening_as, last_event, AreOrdered, wanted_with, most_by, part_before}
 
 -- ---- one more opening

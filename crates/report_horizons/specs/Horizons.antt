@@ -1,9 +1,9 @@
 -- Incarnations that ended and horizons that are wanted, as code keeps them.
-use Rattle.std.specs.Prelude.{ℕ, ◌≡◌, ◌≤◌, ◌+◌, max, nat_lt, List, [], ◌∷◌, ◌++◌, map, reverse, length, drop, Option, Some, None, if◌then◌else◌}
+use Rattle.std.specs.Prelude.{ℕ, ◌≡◌, ◌≤◌, ◌+◌, max, nat_lt, List, [], ◌∷◌, map, reverse, length, drop, Option, Some, None, if◌then◌else◌}
 use Rattle.run_clauses.specs.meaning.Horizons.{Ended, Openings, Wanted}
 use Rattle.report_horizons.specs.declared.horizons.EndedAt.{EndedAt}
 use Rattle.report_horizons.specs.declared.horizons.Front.{Front}
-use Rattle.report_horizons.specs.declared.horizons.Opening.{Opening}
+use Rattle.report_horizons.specs.declared.wanted_horizons.Opening.{Opening}
 use Rattle.report_horizons.specs.declared.horizons.OpeningsAt.{OpeningsAt}
 
 abbrev pub ended_as : EndedAt → Ended
@@ -14,11 +14,6 @@ all_ended all = map ended_as all
 
 abbrev pub opening_as : Opening → Wanted
 opening_as one = record { event = one.event; horizon = one.horizon }
-
--- those of several lists, one list after the other
-abbrev pub all_wanted : List (List Wanted) → List Wanted
-all_wanted [] = []
-all_wanted (first ∷ lists) = first ++ all_wanted lists
 
 -- the event of the last, and this one where there is none
 abbrev pub last_event : ℕ → List Wanted → ℕ

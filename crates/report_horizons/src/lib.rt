@@ -2,5 +2,7 @@
 #![tactic(auto)]
 
 mod horizons;
+mod wanted_horizons;
 
-pub use horizons::{WantedAt, raised, wanted_in};
+pub use horizons::wanted_in;
+pub use wanted_horizons::{WantedHorizons, raised};

@@ -18,7 +18,6 @@ use Rattle.run_clauses.specs.meaning.Outcomes.{completed_of, outcome_of, is_told
 use Rattle.run_clauses.specs.meaning.Stored.{Kept}
 use Rattle.stored_check.specs.Keys.{mark_of}
 use Rattle.entry_events.specs.Numbering.{before}
-use Rattle.report_horizons.specs.Horizons.{all_wanted}
 use Rattle.stored_check.specs.declared.known.Known.{Known}
 use Rattle.stored_check.specs.declared.answers.Times.{Times}
 
@@ -59,7 +58,7 @@ pub record Timing : Type 0 where
 abbrev pub timing_in : Times → Timing
 timing_in times = record {
   next = λ event x. before times.numbers (session_of x) event;
-  horizon = λ event. raised times.horizon (all_wanted times.openings.items) event;
+  horizon = λ event. raised times.horizon times.openings event;
 }
 
 abbrev pub timing_of : Kept → Timing

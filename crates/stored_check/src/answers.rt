@@ -9,7 +9,7 @@ use crate::place::Place;
 use crate::told::{is_rightly_forgotten, is_told, is_uncommitted};
 use entry_events::Numbers;
 use outage_schedule::{AskResult, Item};
-use report_horizons::{WantedAt, raised};
+use report_horizons::{WantedHorizons, raised};
 use report_moments::{Moment, What};
 use svc_values::Ltxid;
 
@@ -18,7 +18,7 @@ use svc_values::Ltxid;
 pub(crate) struct Times {
     pub(crate) numbers: Numbers,
     pub(crate) horizon: u64,
-    pub(crate) openings: Vec<WantedAt>,
+    pub(crate) openings: WantedHorizons,
 }
 
 impl Times {
@@ -29,11 +29,11 @@ impl Times {
         self.numbers.before(&ltxid.session_of(), event)
     }
 
-    /// The horizon before an event.
+    /// The horizon before an event. It takes the logarithm of the number of openings.
     pub(crate) fn horizon_before(&self, event: u64) -> u128
         ensures { result ≡ (timing_in self.now).horizon event }
     {
-        raised(self.horizon, self.openings.as_slice(), event)
+        raised(self.horizon, &self.openings, event)
     }
 }
 
@@ -74,8 +74,8 @@ fn is_right_at(known: &Known, times: &Times, moment: &Moment<'_>) -> bool
     }
 }
 
-/// The first moment at which the journal has it otherwise. For each question it is linear in the
-/// openings, and it takes the logarithm of the number of entries.
+/// The first moment at which the journal has it otherwise. For each question it takes the
+/// logarithms of the numbers of openings and of entries.
 pub(crate) fn wrong_answer(known: &Known, times: &Times, moments: &[Moment<'_>]) -> Option<Place>
     ensures { is_none result
         ≡ list_all (is_right (marks_in known.now) (timing_in times.now)) (moments_as moments.now) }

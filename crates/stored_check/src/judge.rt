@@ -180,9 +180,9 @@ fn stored(alloc: Global, document: &Document, report: &Report) -> Result<Option<
     Ok(Some(Place::Image))
 }
 
-/// Judges `Stored` of a report of a document: `None` exactly where each outcome that was told is the stored
-/// one, and else the place at fault. For a report of size m it takes m log m, and besides for each outcome that
-/// was answered at an event the openings of the run, and for each commit that a crash stopped the entries.
+/// Judges `Stored` of a report of a document: `None` exactly where each outcome that was told is
+/// the stored one, and else the place at fault. For a report of size m it takes m log m, and
+/// besides for each commit that a crash stopped the entries.
 pub fn judge_stored(
     alloc: Global,
     document: &Document,

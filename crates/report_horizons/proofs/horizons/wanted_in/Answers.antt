@@ -3,7 +3,7 @@ use Rattle.run_clauses.specs.meaning.Horizons.{Openings}
 use Rattle.report_horizons.specs.Horizons.{openings_as, wanted_with, IsFrontAt}
 use Rattle.report_horizons.proofs.Front.{stays_front, wants_more}
 use Rattle.report_horizons.proofs.Ordered.{last_within}
-use Rattle.report_horizons.proofs.horizons.wanted_by.Goals as goal
+use Rattle.report_horizons.proofs.horizons.wanted_in.Goals as goal
 
 pub loop-at-preserved : goal.loop-at-preserved
 loop-at-preserved c =

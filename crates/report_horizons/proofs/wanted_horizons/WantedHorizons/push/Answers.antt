@@ -1,10 +1,10 @@
 use Rattle.std.proofs.Common.{subst, sym, ◌≤◌}
 use Rattle.std.specs.Prelude.{List}
 use Rattle.run_clauses.specs.meaning.Horizons.{Wanted}
-use Rattle.report_horizons.specs.declared.horizons.Opening.{Opening}
+use Rattle.report_horizons.specs.declared.wanted_horizons.Opening.{Opening}
 use Rattle.report_horizons.specs.Horizons.{last_event, AreOrdered}
 use Rattle.report_horizons.proofs.Ordered.{ordered_more}
-use Rattle.report_horizons.proofs.horizons.WantedAt.push.Goals as goal
+use Rattle.report_horizons.proofs.wanted_horizons.WantedHorizons.push.Goals as goal
 
 pub invariant_of-self-2 : goal.invariant_of-self-2
 invariant_of-self-2 c =

@@ -1,8 +1,8 @@
 use Rattle.std.proofs.Common.{subst, sym, ap, ◌∙◌, ◌-◌, ◌≡◌, suc, List, map, get_or, arith}
-use Rattle.report_horizons.specs.declared.horizons.Opening.{Opening}
+use Rattle.report_horizons.specs.declared.wanted_horizons.Opening.{Opening}
 use Rattle.report_horizons.specs.Horizons.{opening_as, part_before, most_by, AreOrdered}
 use Rattle.report_horizons.proofs.Ordered.{none_is, last_is}
-use Rattle.report_horizons.proofs.horizons.WantedAt.most_before.Goals as goal
+use Rattle.report_horizons.proofs.wanted_horizons.WantedHorizons.most_before.Goals as goal
 
 pub returns-then-before-eq0 : goal.returns-then-before-eq0
 returns-then-before-eq0 c =
