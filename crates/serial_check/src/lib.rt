@@ -3,6 +3,7 @@
 #![tactic(auto)]
 
 mod again;
+mod asked;
 mod fresh;
 pub mod laws;
 mod place;
