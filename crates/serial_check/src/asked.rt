@@ -1,10 +1,10 @@
 //! The columns by which tables are indexed while entries run again: those that selects ask often.
 ghost use Rattle.std.specs.Prelude.{◌≡◌, ◌<◌, length, map, IfOk, IfSome, IsTrue, OnOk};
 ghost use Rattle.std.specs.List.{list_all};
-ghost use Rattle.commit_log.specs.meaning.Bases.{schema_in};
+ghost use Rattle.commit_log.specs.meaning.Bases.{schema_in, schemas_of};
 ghost use Rattle.table_store.specs.Given.{is_index_of};
 
-use commit_log::BaseTable;
+use commit_log::{Base, BaseTable};
 use std::alloc::Global;
 use svc_values::{
     Call, Column, Entry, Name, NoMemory, Piece, Schema, Statement, TryCopy, schema_of,
@@ -118,7 +118,7 @@ fn add_often(all: &mut Vec<IndexOf>, schemas: &[Schema], one: &Asked) -> Result<
 }
 
 /// The declarations of tables.
-pub(crate) fn schemas_in(alloc: Global, tables: &[BaseTable]) -> Result<Vec<Schema>, NoMemory>
+fn schemas_in(alloc: Global, tables: &[BaseTable]) -> Result<Vec<Schema>, NoMemory>
     ensures { IfOk result (λ all. all.items ≡ map schema_in tables.now) }
 {
     let mut all = Vec::new(alloc);
@@ -128,18 +128,23 @@ pub(crate) fn schemas_in(alloc: Global, tables: &[BaseTable]) -> Result<Vec<Sche
     Ok(all)
 }
 
-/// Indexes by the columns that 16 selects of these entries or more ask. Linear in the statements.
-pub(crate) fn indexes_for(
-    alloc: Global,
-    schemas: &[Schema],
-    entries: &[Entry],
-) -> Result<Vec<IndexOf>, NoMemory>
+/// Indexes by those of these columns that are asked often.
+fn often_asked(alloc: Global, schemas: &[Schema], asked: &[Asked]) -> Result<Vec<IndexOf>, NoMemory>
     ensures { IfOk result (λ all. IsTrue (list_all (is_index_of schemas.now) all.items)) }
 {
-    let asked = asked_by(alloc, entries)?;
     let mut all = Vec::new(alloc);
-    for one in asked.iter() {
+    for one in asked {
         add_often(&mut all, schemas, one)?;
     }
     Ok(all)
+}
+
+/// Indexes of a base's tables by the columns that 16 selects of these entries or more ask. Linear in
+/// the statements.
+pub fn indexes_for(alloc: Global, base: &Base, entries: &[Entry]) -> Result<Vec<IndexOf>, NoMemory>
+    ensures { IfOk result (λ all. IsTrue (list_all (is_index_of (schemas_of base.now)) all.items)) }
+{
+    let schemas = schemas_in(alloc, base.tables.as_slice())?;
+    let asked = asked_by(alloc, entries)?;
+    often_asked(alloc, schemas.as_slice(), asked.as_slice())
 }

@@ -11,6 +11,7 @@ mod printed;
 mod serial;
 mod transaction;
 
+pub use asked::indexes_for;
 pub use fresh::judge_fresh;
 pub use printed::are_printed;
 pub use serial::{judge_serial, names_of};

@@ -6,7 +6,7 @@ ghost use Rattle.doc_reader.specs.Keeping.{IsDocument};
 ghost use Rattle.serial_check.specs.meaning.Places.{entries_course, serial_place};
 ghost use Rattle.serial_check.specs.Replaying.{HasEnded};
 
-use crate::asked::{indexes_for, schemas_in};
+use crate::asked::indexes_for;
 use crate::printed::printed_otherwise;
 use crate::transaction::{Ended, run_again};
 use before_run::journal_before;
@@ -67,8 +67,7 @@ pub fn judge_serial(
 {
     let Journal { base, entries, .. } = journal_before(alloc, document)?;
     let names = names_of(alloc, &base.sequences)?;
-    let schemas = schemas_in(alloc, base.tables.as_slice())?;
-    let indexes = indexes_for(alloc, schemas.as_slice(), report.entries.as_slice())?;
+    let indexes = indexes_for(alloc, &base, report.entries.as_slice())?;
     let mut tables = indexed_tables_of(alloc, base, entries.as_slice(), indexes.as_slice())?;
     let place = failing_entry(alloc, &mut tables, &names, report.entries.as_slice())?;
     if place.is_some() {

@@ -3,10 +3,9 @@ use Rattle.std.specs.Prelude.{IsTrue}
 use Rattle.std.specs.List.{list_all}
 use Rattle.std.proofs.lemmas.Result.{IfOk-weaker}
 use Rattle.svc_values.specs.declared.entry.Entry.{Entry}
-use Rattle.svc_values.specs.declared.schema.Schema.{Schema}
 use Rattle.commit_log.specs.declared.base.Base.{Base}
 use Rattle.commit_log.specs.declared.journal.Journal.{Journal}
-use Rattle.commit_log.specs.meaning.Bases.{schema_in, schemas_of, start_of, sequence_name}
+use Rattle.commit_log.specs.meaning.Bases.{schemas_of, start_of, sequence_name}
 use Rattle.outage_schedule.specs.declared.report.ReportTable.{ReportTable}
 use Rattle.run_clauses.specs.meaning.Before.{journal_before, start}
 use Rattle.table_store.specs.declared.shelves.IndexOf.{IndexOf}
@@ -22,9 +21,7 @@ use Rattle.serial_check.proofs.serial.judge_serial.Goals as goal
 
 pub indexed_tables_of-requires-clause-indexes : goal.indexed_tables_of-requires-clause-indexes
 indexed_tables_of-requires-clause-indexes c =
-    let declared : c.as_slice-2.result.now ≡ schemas_of c.in_ok-base.field-0.base = c.as_slice-2.ensures.value ∙ (c.in_ok-schemas.ensures ∙ ap (map schema_in) c.as_slice.ensures.items) in
-    subst (λ (schemas : List Schema). IsTrue (list_all (is_index_of schemas) c.as_slice-5.result.now)) declared
-    (subst (λ (of : List IndexOf). IsTrue (list_all (is_index_of c.as_slice-2.result.now) of)) (sym c.as_slice-5.ensures.value) c.in_ok-indexes.ensures)
+    subst (λ (of : List IndexOf). IsTrue (list_all (is_index_of (schemas_of c.in_ok-base.field-0.base)) of)) (sym c.as_slice-3.ensures.value) c.in_ok-indexes.ensures
 
 pub returns : goal.returns
 returns c =
@@ -39,8 +36,8 @@ returns c =
     let base_is : from.base ≡ before.base = ap (λ (j : Journal). j.base) c.in_ok-base.ensures.is in
     let of_entries = c.in_ok-base.entries-is in
     let entries_in : from.entries ≡ before.entries = ap (λ (j : Journal). j.entries) c.in_ok-base.ensures.is in
-    let slice_in = c.as_slice-4.ensures in
-    let slice_is : c.as_slice-4.result.now ≡ before.entries = cc in
+    let slice_in = c.as_slice-2.ensures in
+    let slice_is : c.as_slice-2.result.now ≡ before.entries = cc in
     let declared : tables.schemas ≡ schemas_of before.base = ap (λ (t : Stored). t.schemas) c.in_ok-tables.ensures ∙ ap schemas_of base_is in
     let begun : tables.rows ≡ start document =
     ap (λ (t : Stored). t.rows) c.in_ok-tables.ensures
@@ -48,7 +45,7 @@ returns c =
     let names_in = c.in_ok-names.ensures in
     let sequences_in : from.base.sequences ≡ before.base.sequences = ap (λ (b : Base). b.sequences) base_is in
     let named : names ≡ map sequence_name before.base.sequences = names_in ∙ ap (map sequence_name) sequences_in in
-    let has = subst (λ (entries : List Entry). HasEnded tables (entries_course (shape_of tables names) tables.rows 0 entries) place new) c.as_slice-6.ensures c.in_ok-place.ensures in
+    let has = subst (λ (entries : List Entry). HasEnded tables (entries_course (shape_of tables names) tables.rows 0 entries) place new) c.as_slice-4.ensures c.in_ok-place.ensures in
     let went = serial_went document report names tables new place declared begun named has (sym c.if-is_some.ensures) in
     IfOk-weaker c.printed_otherwise.result _ _
-    (λ found is. is ∙ (ap (λ (printed : List ReportTable). table_place 0 printed (map (print_in new.rows) new.schemas)) c.as_slice-7.ensures ∙ went)) c.printed_otherwise.ensures
+    (λ found is. is ∙ (ap (λ (printed : List ReportTable). table_place 0 printed (map (print_in new.rows) new.schemas)) c.as_slice-5.ensures ∙ went)) c.printed_otherwise.ensures
