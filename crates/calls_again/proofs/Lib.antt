@@ -1,2 +1,3 @@
 mod MoreDraws
+pub mod Offered
 mod Ran

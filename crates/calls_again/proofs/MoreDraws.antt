@@ -4,6 +4,7 @@ use Rattle.std.specs.Prelude.{Some, None}
 use Rattle.svc_values.specs.declared.draw.Draw.{Draw}
 use Rattle.svc_values.specs.declared.schema.Shape.{Shape}
 use Rattle.svc_values.specs.declared.statement.Statement.{Statement}
+use Rattle.svc_values.specs.declared.call.Call.{Call}
 use Rattle.svc_values.specs.declared.call.Call.TheVariants as call
 use Rattle.svc_values.specs.declared.tables.PlainRow.{PlainRow}
 use Rattle.svc_values.specs.meaning.SettingsList.{NamedValues}
@@ -67,3 +68,12 @@ pub work_more : (shape : Shape) (tables : List PlainRow) (settings : NamedValues
 work_more shape tables settings statements commit ds more meant e =
     worked_more tables settings commit more (statements_done shape tables settings statements ds) (statements_done shape tables settings statements (ds ++ more))
     (λ done h. statements_more shape tables settings statements ds more done h) meant e
+
+-- and so does each call
+pub call_more : (shape : Shape) (tables : List PlainRow) (settings : NamedValues) (called : Call) (ds more : List Draw) (meant : Meant)
+    → mean shape tables settings called ds ≡ Some meant → mean shape tables settings called (ds ++ more) ≡ Some (record meant { rest = meant.rest ++ more })
+call_more shape tables settings (call.Work statements commit) ds more meant e = work_more shape tables settings statements commit ds more meant e
+call_more shape tables settings (call.Set name x) ds more meant e = ap (meant_behind more) e
+call_more shape tables settings (call.Alter line) ds more meant e = ap (meant_behind more) e
+call_more shape tables settings call.Disable ds more meant e = ap (meant_behind more) e
+call_more shape tables settings call.Rollback ds more meant e = ap (meant_behind more) e

@@ -6,6 +6,7 @@ use Rattle.std.specs.List.{list_any}
 use Rattle.svc_values.specs.declared.draw.Draw.{Draw}
 use Rattle.svc_values.specs.declared.draw.DrawKind.{DrawKind}
 use Rattle.server_model.specs.meaning.NewValues.{Numbers, may_give, meets_with}
+use Rattle.legal_draws.specs.Trials.{FailsBehind}
 
 any_here : {A : Type 0} (test : A → Bool) (xs : List A) (i : ℕ) (x : A) → slice_get xs i ≡ Some x → list_any test (drop i xs) ≡ (test x || list_any test (drop (suc i) xs))
 any_here {A} test [] i x here = absurd (let no : ◌≡◌ {A = Option A} None (Some x) = here in cc)
@@ -22,9 +23,24 @@ any_end test [] (suc i) past = refl
 any_end test (x ∷ xs) zero past = absurd (omega (arith, past))
 any_end test (x ∷ xs) (suc i) past = any_end test xs i (omega (arith, past))
 
+none_of : {A : Type 0} (test : A → Bool) (xs : List A) → ((x : A) → test x ≡ false) → list_any test xs ≡ false
+none_of test [] fails = refl
+none_of test (x ∷ xs) fails = ap (λ b. b || list_any test xs) (fails x) ∙ none_of test xs fails
+
+-- a test that nothing meets is met by no values
+never_met : (test : List Draw → Bool) (now : ℕ) (asked : List DrawKind) (numbers : Numbers) → FailsBehind test [] → meets_with test now asked numbers ≡ false
+never_met test now [] numbers fails = fails []
+never_met test now (kind ∷ asked) numbers fails =
+    none_of (λ given. meets_with (λ draws. test (given.0 ∷ draws)) now asked given.1) (may_give numbers now kind)
+    (λ given. never_met (λ draws. test (given.0 ∷ draws)) now asked given.1 (λ more. fails (given.0 ∷ more)))
+
 -- whether some values for what is asked meet the test behind these draws
 abbrev pub meets_behind : (List Draw → Bool) → ℕ → List Draw → List DrawKind → Numbers → Bool
 meets_behind test now draws asked numbers = meets_with (λ more. test (draws ++ more)) now asked numbers
+
+-- none do where none that begin with these draws meet it
+pub fails_all : (test : List Draw → Bool) (now : ℕ) (draws : List Draw) (asked : List DrawKind) (numbers : Numbers) → FailsBehind test draws → false ≡ meets_behind test now draws asked numbers
+fails_all test now draws asked numbers fails = sym (never_met (λ more. test (draws ++ more)) now asked numbers fails)
 
 -- the same, for what is given first
 abbrev pub meets_given : (List Draw → Bool) → ℕ → List Draw → List DrawKind → Draw × Numbers → Bool

@@ -1,3 +1,4 @@
 pub mod Asking
 pub mod Origins
+pub mod Trials
 pub mod Ways

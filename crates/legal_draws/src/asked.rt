@@ -1,9 +1,9 @@
 //! Which values a call asks for.
-ghost use Rattle.std.specs.Prelude.{◌≡◌, ◌++◌, flat_map, IfOk, OnOk, length, filter};
+ghost use Rattle.std.specs.Prelude.{◌≡◌, ◌≤◌, ◌++◌, flat_map, IfOk, OnOk, length, filter};
 ghost use Rattle.stmt_meaning.specs.meaning.Asked.{asked_by_call as asked_by_call_def, asked_by_operand, asked_by_statement};
 ghost use Rattle.svc_values.specs.meaning.Calls.{operand_of as operand_of_def};
 ghost use Rattle.server_model.specs.meaning.NewValues.{is_of_sequence as is_of_sequence_def, is_identifier as is_identifier_def};
-ghost use Rattle.legal_draws.specs.Asking.{asks_in};
+ghost use Rattle.legal_draws.specs.Asking.{asks_in, whole_from, whole_in};
 
 use std::alloc::Global;
 use svc_values::{Call, Change, DrawKind, Name, NoMemory, Operand, Statement, TryCopy};
@@ -90,6 +90,40 @@ pub fn asked_by_call(alloc: Global, call: &Call) -> Result<Vec<DrawKind>, NoMemo
         put_statements(&mut asked, alloc, statements.as_slice())?;
     }
     Ok(asked)
+}
+
+/// How many of so many first draws belong to statements whose draws are all among them. Linear.
+fn whole_statements(
+    alloc: Global,
+    statements: &[Statement],
+    drawn: usize,
+) -> Result<usize, NoMemory>
+    ensures whole { IfOk result (λ whole. whole ≡ whole_from 0 statements.now drawn) }
+    ensures within { IfOk result (λ whole. whole ≤ drawn) }
+{
+    let mut asked = Vec::new(alloc);
+    let mut whole = 0;
+    for statement in statements {
+        put_statement(&mut asked, alloc, statement)?;
+        if drawn < asked.len() {
+            return Ok(whole);
+        }
+        whole = asked.len();
+    }
+    Ok(whole)
+}
+
+/// How many of so many first draws of a call belong to statements whose draws are all among them.
+/// Linear; there are at most 64.
+pub fn drawn_whole(alloc: Global, call: &Call, drawn: usize) -> Result<usize, NoMemory>
+    ensures whole { IfOk result (λ whole. whole ≡ whole_in call.now drawn) }
+    ensures within { IfOk result (λ whole. whole ≤ drawn) }
+{
+    match call {
+        Call::Work { statements, .. } => whole_statements(alloc, statements.as_slice(), drawn),
+        Call::Set { .. } | Call::Alter { .. } => Ok(0),
+        Call::Disable | Call::Rollback => Ok(0),
+    }
 }
 
 /// Whether it is a value of the sequence of this name.

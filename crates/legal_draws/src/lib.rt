@@ -14,7 +14,7 @@ mod search;
 mod sequence;
 mod ways;
 
-pub use asked::asked_by_call;
+pub use asked::{asked_by_call, drawn_whole};
 pub use kept::{Kept, granted};
 pub use numbers::Numbers;
 pub use search::{Trial, meets_with};

@@ -1,6 +1,7 @@
 //! Values that are drawn and not told.
-ghost use Rattle.std.specs.Prelude.{◌≡◌, ◌++◌, IfOk, OnOk};
+ghost use Rattle.std.specs.Prelude.{◌≡◌, ◌++◌, IfOk, IsTrue, OnOk};
 ghost use Rattle.server_model.specs.meaning.NewValues.{meets_with as meets_with_def};
+ghost use Rattle.legal_draws.specs.Trials.{FailsBehind};
 
 use crate::numbers::Numbers;
 use crate::ways::Given;
@@ -11,12 +12,17 @@ use svc_values::{Draw, DrawKind, NoMemory};
 pub trait Trial {
     ghost use Rattle.std.specs.Prelude.{Bool, List};
     ghost use Rattle.svc_values.specs.declared.draw.Draw.{Draw as One};
+    ghost use Rattle.legal_draws.specs.Trials.{FailsBehind as Fails};
 
     ghost test: { Self → List One → Bool };
 
     /// Whether these draws meet it.
     fn meets(&self, draws: &[Draw]) -> Result<bool, NoMemory>
         ensures { IfOk result (λ met. met ≡ test self.now draws.now) };
+
+    /// Whether it is known of these first draws that none meet it which begin with them.
+    fn fails_behind(&self, draws: &[Draw]) -> Result<bool, NoMemory>
+        ensures { IfOk result (λ fails. IsTrue fails → Fails (test self.now) draws.now) };
 }
 
 /// A search for draws that meet a test, at this tick.
@@ -28,6 +34,18 @@ struct Search<'a, T> {
 }
 
 impl<T: Trial> Search<'_, T> {
+    /// Whether it is known, before one of several ways is chosen, that none behind these draws
+    /// meets the test.
+    fn is_in_vain(&self, draws: &[Draw], ways: u64) -> Result<bool, NoMemory>
+        ensures { IfOk result (λ fails. IsTrue fails
+            → FailsBehind (T.test self.now.trial.now) draws.now) }
+    {
+        if ways < 2 {
+            return Ok(false);
+        }
+        self.trial.fails_behind(draws)
+    }
+
     /// Whether some values for what is asked meet the test behind these draws.
     fn meets_behind(
         &self,
@@ -43,7 +61,11 @@ impl<T: Trial> Search<'_, T> {
         let [kind, more @ ..] = asked else {
             return self.trial.meets(draws.as_slice());
         };
-        for way in 0..numbers.ways(kind)? {
+        let ways = numbers.ways(kind)?;
+        if self.is_in_vain(draws.as_slice(), ways)? {
+            return Ok(false);
+        }
+        for way in 0..ways {
             let Given { draw, after } = numbers.given(self.alloc, self.tick, kind, way)?;
             draws.push(draw)?;
             let met = self.meets_behind(draws, more, &after)?;
@@ -60,9 +82,12 @@ impl<T: Trial> Search<'_, T> {
 ///
 /// It tries them depth first, in the order in which they may be given, and ends at the first that
 /// meet the test. Only the first value of each sequence is in doubt, among one more than the blocks
-/// that may stand. So most calls cost one trial, and one that meets the test with no values costs
-/// the product of these numbers over its sequences. Each trial takes a copy of the sequences for
-/// each value besides.
+/// that may stand. Before one of several is chosen, the test is asked whether it is known to fail
+/// behind the values so far; where it is, no more of them are chosen.
+///
+/// So most calls cost one trial, and a second one for each value in doubt. One that meets the test
+/// with no values costs at most the product of these numbers over its sequences, and twice that in
+/// trials. Each trial takes a copy of the sequences for each value besides.
 pub fn meets_with<T: Trial>(
     alloc: Global,
     trial: &T,

@@ -10,4 +10,5 @@ mod Pieces
 mod SamePieces
 mod Served
 mod Stepping
+mod Trying
 mod Verdicts

@@ -3,7 +3,7 @@ ghost use Rattle.std.specs.Prelude.{IsTrue};
 ghost use Rattle.svc_values.specs.meaning.Fitting.{writes_fit};
 
 use calls_again::Going;
-use legal_draws::Trial;
+use legal_draws::{Trial, drawn_whole};
 use std::alloc::Global;
 use svc_values::{Call, Draw, Names, NoMemory, ends_committed};
 use table_store::Tables;
@@ -29,6 +29,18 @@ impl Trial for Attempt<'_> {
         let mut going = self.going.probe(self.alloc)?;
         match going.run(self.alloc, self.tables, self.names, self.call, draws)? {
             Some(answers) => Ok(ends_committed(answers.as_slice())),
+            None => Ok(false),
+        }
+    }
+
+    /// The statements whose draws are all given are run: the call fails behind them where one of
+    /// these is refused.
+    fn fails_behind(&self, draws: &[Draw]) -> Result<bool, NoMemory> {
+        let whole = drawn_whole(self.alloc, self.call, draws.len())?;
+        let first = &draws[..whole];
+        let mut going = self.going.probe(self.alloc)?;
+        match going.run(self.alloc, self.tables, self.names, self.call, first)? {
+            Some(answers) => Ok(!ends_committed(answers.as_slice())),
             None => Ok(false),
         }
     }
