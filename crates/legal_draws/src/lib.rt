@@ -12,6 +12,7 @@ mod kept;
 mod numbers;
 mod search;
 mod sequence;
+mod trials;
 mod ways;
 
 pub use asked::{asked_by_call, drawn_whole};
@@ -19,3 +20,4 @@ pub use kept::{Kept, granted};
 pub use numbers::Numbers;
 pub use search::{Trial, meets_with};
 pub use sequence::Sequence;
+pub use trials::Trials;

@@ -1,9 +1,10 @@
 //! Values that are drawn and not told.
-ghost use Rattle.std.specs.Prelude.{◌≡◌, ◌++◌, IfOk, IsTrue, OnOk};
-ghost use Rattle.server_model.specs.meaning.NewValues.{meets_with as meets_with_def};
+ghost use Rattle.std.specs.Prelude.{◌≡◌, ◌++◌, ℕ, IfOk, IsTrue, OnOk, length};
+ghost use Rattle.server_model.specs.meaning.NewValues.{may_give, meets_with as meets_with_def};
 ghost use Rattle.legal_draws.specs.Trials.{FailsBehind};
 
 use crate::numbers::Numbers;
+use crate::trials::Trials;
 use crate::ways::Given;
 use std::alloc::Global;
 use svc_values::{Draw, DrawKind, NoMemory};
@@ -34,16 +35,43 @@ struct Search<'a, T> {
 }
 
 impl<T: Trial> Search<'_, T> {
-    /// Whether it is known, before one of several ways is chosen, that none behind these draws
-    /// meets the test.
-    fn is_in_vain(&self, draws: &[Draw], ways: u64) -> Result<bool, NoMemory>
+    /// In how many ways a draw may go. Where there is none, that is in vain without a trial.
+    fn ways(&self, kind: &DrawKind, numbers: &Numbers, trials: &mut Trials) -> Result<u64, NoMemory>
+        ensures { IfOk result (λ ways. (now : ℕ)
+            → length (may_give numbers.now now kind.now) ≡ ways) }
+    {
+        let ways = numbers.ways(kind)?;
+        if ways == 0 {
+            trials.spend()?;
+        }
+        Ok(ways)
+    }
+
+    /// Whether it is known, when the first way was in vain and before the second one is tried, that
+    /// none behind these draws meets the test.
+    fn is_in_vain(&self, draws: &[Draw], way: u64, trials: &mut Trials) -> Result<bool, NoMemory>
         ensures { IfOk result (λ fails. IsTrue fails
             → FailsBehind (T.test self.now.trial.now) draws.now) }
     {
-        if ways < 2 {
+        if way != 1 {
             return Ok(false);
         }
-        self.trial.fails_behind(draws)
+        let fails = self.trial.fails_behind(draws)?;
+        if fails {
+            trials.spend()?;
+        }
+        Ok(fails)
+    }
+
+    /// Whether these draws meet the test.
+    fn meets(&self, draws: &[Draw], trials: &mut Trials) -> Result<bool, NoMemory>
+        ensures { IfOk result (λ met. met ≡ T.test self.now.trial.now draws.now) }
+    {
+        let met = self.trial.meets(draws)?;
+        if !met {
+            trials.spend()?;
+        }
+        Ok(met)
     }
 
     /// Whether some values for what is asked meet the test behind these draws.
@@ -52,6 +80,7 @@ impl<T: Trial> Search<'_, T> {
         draws: &mut Vec<Draw>,
         asked: &[DrawKind],
         numbers: &Numbers,
+        trials: &mut Trials,
     ) -> Result<bool, NoMemory>
         ensures met { IfOk result (λ met. met ≡ meets_with_def
             (λ more. T.test self.now.trial.now (draws.old.items ++ more))
@@ -59,16 +88,15 @@ impl<T: Trial> Search<'_, T> {
         ensures same { OnOk result (draws.new.items ≡ draws.old.items) }
     {
         let [kind, more @ ..] = asked else {
-            return self.trial.meets(draws.as_slice());
+            return self.meets(draws.as_slice(), trials);
         };
-        let ways = numbers.ways(kind)?;
-        if self.is_in_vain(draws.as_slice(), ways)? {
-            return Ok(false);
-        }
-        for way in 0..ways {
+        for way in 0..self.ways(kind, numbers, trials)? {
+            if self.is_in_vain(draws.as_slice(), way, trials)? {
+                return Ok(false);
+            }
             let Given { draw, after } = numbers.given(self.alloc, self.tick, kind, way)?;
             draws.push(draw)?;
-            let met = self.meets_behind(draws, more, &after)?;
+            let met = self.meets_behind(draws, more, &after, trials)?;
             draws.pop();
             if met {
                 return Ok(true);
@@ -82,23 +110,25 @@ impl<T: Trial> Search<'_, T> {
 ///
 /// It tries them depth first, in the order in which they may be given, and ends at the first that
 /// meet the test. Only the first value of each sequence is in doubt, among one more than the blocks
-/// that may stand. Before one of several is chosen, the test is asked whether it is known to fail
-/// behind the values so far; where it is, no more of them are chosen.
+/// that may stand. Where the first of several was in vain, the test is asked whether it is known to
+/// fail behind the values before it; where it is, no other one is tried.
 ///
-/// So most calls cost one trial, and a second one for each value in doubt. One that meets the test
-/// with no values costs at most the product of these numbers over its sequences, and twice that in
-/// trials. Each trial takes a copy of the sequences for each value besides.
+/// So a call that meets the test with the first values costs one trial. One that meets it with no
+/// values costs at most the product of these numbers over its sequences, and twice that in trials.
+/// Each trial takes a copy of the sequences for each value besides. Where more are in vain than
+/// `trials` has left, that is told as want of memory.
 pub fn meets_with<T: Trial>(
     alloc: Global,
     trial: &T,
     tick: u64,
     asked: &[DrawKind],
     numbers: &Numbers,
+    trials: &mut Trials,
 ) -> Result<bool, NoMemory>
     ensures { IfOk result (λ met.
         met ≡ meets_with_def (T.test trial.now) tick asked.now numbers.now) }
 {
     let search = Search { alloc, trial, tick };
     let mut draws = Vec::new(alloc);
-    search.meets_behind(&mut draws, asked, numbers)
+    search.meets_behind(&mut draws, asked, numbers, trials)
 }

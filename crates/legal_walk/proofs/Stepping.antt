@@ -21,6 +21,7 @@ use Rattle.server_model.specs.meaning.Legal.{deed_holds, is_of_now, may_be_block
 use Rattle.server_model.specs.meaning.NewValues.{Numbers, meets_with, opened}
 use Rattle.server_model.specs.meaning.Walk.{Performed, Transaction, Walk, after_deed, begun, deed, if_nothing, if_stands, if_uncommitted, meaning, next_of, performed_if, stands, stopped, transaction_in, with_meaning}
 use Rattle.calls_again.specs.OnWay.{OnWay, probed}
+use Rattle.legal_draws.specs.declared.trials.Trials.{Trials}
 use Rattle.legal_walk.specs.declared.ongoing.Ongoing.{Ongoing}
 use Rattle.legal_walk.specs.declared.service.Service.{Service}
 use Rattle.legal_walk.specs.declared.walker.Walker.{Walker}
@@ -46,6 +47,10 @@ moved base walk old step new moves same walks = record {
       subst (λ (l : List (SessionId × Transaction)). AllGo new l old.sessions) (sym same)
       (λ session. goes_later old.service new (transaction_in walk.sessions session) (ongoing_in old.sessions session) moves.schemas moves.on (walks.sessions session));
 }
+
+-- other trials are left
+pub with_trials : (base : Base) (walk : Walk) (walker : Walker) (trials : Trials) → Walks base walk walker → Walks base walk (record walker { trials = trials })
+with_trials base walk walker trials walks = record { beside = walks.beside; sessions = walks.sessions }
 
 pub told_sessions : (walk : Walk) (x : Ltxid) (outcome : Outcome) → (if_uncommitted walk x outcome).sessions ≡ walk.sessions
 told_sessions walk x Uncommitted = refl

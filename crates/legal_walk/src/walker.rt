@@ -16,7 +16,7 @@ use crate::performed::Performed;
 use crate::service::Service;
 use crate::sessions::Sessions;
 use crate::start::Start;
-use legal_draws::{asked_by_call, meets_with};
+use legal_draws::{Trials, asked_by_call, meets_with};
 use plain_items::{Item, Thing};
 use std::alloc::Global;
 use svc_values::{Call, Entry, NoMemory, SessionId, Settings, TryCopy};
@@ -27,7 +27,11 @@ pub(crate) struct Walker<'a> {
     alloc: Global,
     service: Service<'a>,
     sessions: Sessions,
+    trials: Trials,
 }
+
+/// How many trials of calls that met a block may be in vain in one walk.
+const MOST_IN_VAIN: u64 = 4_096;
 
 /// The settings that a request begins with: none for a run from outside.
 fn begun_with(alloc: Global, settings: Option<&Settings>) -> Result<Settings, NoMemory>
@@ -54,6 +58,7 @@ impl<'a> Walker<'a> {
             alloc,
             service,
             sessions: Sessions::new(alloc),
+            trials: Trials::new(MOST_IN_VAIN),
         })
     }
 
@@ -137,7 +142,9 @@ impl<'a> Walker<'a> {
                 draws,
             }),
             Thing::MetBlock { replay, call } => {
-                let may = self.may_meet(now, session, *replay, call)?;
+                let mut trials = self.trials;
+                let may = self.may_meet(now, session, *replay, call, &mut trials)?;
+                self.trials = trials;
                 self.service.pass(call)?;
                 Ok(may)
             }
@@ -207,6 +214,7 @@ impl<'a> Walker<'a> {
         session: &SessionId,
         replay: bool,
         call: &Call,
+        trials: &mut Trials,
     ) -> Result<bool, NoMemory>
         requires { IsWalked self.now }
         ensures { IfOk result (λ may. (base : Base) (walk : Walk) → Walks base walk self.now
@@ -218,11 +226,17 @@ impl<'a> Walker<'a> {
         if !self.service.may_block(&self.service.next_of(session)) {
             return Ok(false);
         }
-        self.reaches_commit(now, session, call)
+        self.reaches_commit(now, session, call, trials)
     }
 
     /// Whether with some new values a call reaches its commit.
-    fn reaches_commit(&self, now: u64, session: &SessionId, call: &Call) -> Result<bool, NoMemory>
+    fn reaches_commit(
+        &self,
+        now: u64,
+        session: &SessionId,
+        call: &Call,
+        trials: &mut Trials,
+    ) -> Result<bool, NoMemory>
         requires { IsWalked self.now }
         ensures { IfOk result (λ met. (base : Base) (walk : Walk) → Walks base walk self.now
             → met ≡ reaches base walk now session.now call.now) }
@@ -242,6 +256,7 @@ impl<'a> Walker<'a> {
             now,
             asked.as_slice(),
             &self.service.numbers,
+            trials,
         )?;
         Ok(met)
     }

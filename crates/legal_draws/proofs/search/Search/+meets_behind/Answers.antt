@@ -1,4 +1,4 @@
-use Rattle.std.proofs.Common.{◌≡◌, ◌-◌, length, drop, take, subst, arith}
+use Rattle.std.proofs.Common.{◌≡◌, ◌-◌, ◌∙◌, length, drop, take, subst, arith}
 use Rattle.std.proofs.lemmas.Grind.{common_steps}
 use Rattle.server_model.specs.meaning.NewValues.{may_give}
 use Rattle.legal_draws.specs.Trials.{FailsBehind}
@@ -8,7 +8,7 @@ use Rattle.legal_draws.proofs.search.Search.+meets_behind.Goals as goal
 pub returns-then-branch-clause-met : goal.returns-then-branch-clause-met
 returns-then-branch-clause-met g t c =
     let test = g.T.Trial.test c.args.self.now.trial.now in
-    fails_all test c.args.self.now.tick c.args.draws.now.items c.args.asked.now c.args.numbers.now (subst (FailsBehind test) c.as_slice-2.ensures.value (c.in_ok-is_in_vain.ensures c.if-branch.true))
+    fails_all test c.args.self.now.tick c.args.draws.now.items c.args.asked.now c.args.numbers.now (subst (FailsBehind test) (c.as_slice-in-loop-way.ensures.value ∙ c.loop-way.invariant.same) (c.in_ok-is_in_vain.ensures c.if-branch.true))
 
 pub returns-then-met-clause-met : goal.returns-then-met-clause-met
 returns-then-met-clause-met g t c =
@@ -45,7 +45,7 @@ returns-clause-met g t c =
     let asked = c.args.asked.now in
     let kind = c.kind-item.result in
     let now = c.args.self.now.tick in
-    let many : length (may_give c.args.numbers.now now kind) ≡ c.in_ok-ways.ways = c.in_ok-ways.ensures now in
+    let many : length (may_give c.args.numbers.now now kind) ≡ c.in_ok-way-end.way-end = c.in_ok-way-end.ensures now in
     missed_all (g.T.Trial.test c.args.self.now.trial.now) now c.args.draws.now.items asked kind (take (length asked - 1) (drop 1 asked)) c.args.numbers.now c.loop-way.way
     (asked_first asked kind c.in-len1-up.len_at_least c.kind-item.is)
     c.loop-way.invariant.left
