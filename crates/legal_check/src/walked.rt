@@ -8,7 +8,7 @@ ghost use Rattle.server_model.specs.meaning.Legal.{items_hold};
 ghost use Rattle.server_model.specs.meaning.Walk.{walk_of};
 
 use crate::sequences::sequences_of;
-use before_run::{indexes_of, journal_before};
+use before_run::journal_before;
 use commit_log::Journal;
 use journal_tables::indexed_tables_of;
 use legal_items::PlacedItem;
@@ -16,7 +16,7 @@ use legal_walk::{Start, Unlawful, first_unlawful};
 use mutable_values::Grants;
 use outage_schedule::{Document, Report};
 use plain_items::Item;
-use serial_check::names_of;
+use serial_check::{indexes_for, names_of};
 use std::alloc::Global;
 use svc_values::NoMemory;
 
@@ -54,7 +54,7 @@ pub(crate) fn wrong_item(
         ..
     } = before;
     let names = names_of(alloc, &base.sequences)?;
-    let indexes = indexes_of(alloc, document.tables.as_slice())?;
+    let indexes = indexes_for(alloc, &base, report.entries.as_slice())?;
     let tables = indexed_tables_of(alloc, base, entries.as_slice(), indexes.as_slice())?;
     let keep = document.service.keep;
     let start = Start {

@@ -5,15 +5,13 @@ use Rattle.std.proofs.lemmas.Result.{IfOk-weaker}
 use Rattle.svc_values.specs.declared.entry.Entry.{Entry}
 use Rattle.commit_log.specs.declared.journal.Journal.{Journal}
 use Rattle.commit_log.specs.meaning.Bases.{schemas_of, start_of}
-use Rattle.run_clauses.specs.meaning.Before.{journal_before, tables_of}
+use Rattle.run_clauses.specs.meaning.Before.{tables_of}
 use Rattle.run_clauses.specs.meaning.ServiceBase.{grants_of, service_base}
 use Rattle.plain_items.specs.declared.item.Item.{Item}
 use Rattle.plain_items.specs.Views.{item_as}
 use Rattle.server_model.specs.meaning.Items.{Item as Plain}
 use Rattle.server_model.specs.meaning.Legal.{items_hold}
 use Rattle.server_model.specs.meaning.Walk.{walk_of}
-use Rattle.before_run.specs.Indexes.{indexes_of}
-use Rattle.before_run.proofs.Offered.{indexes_declared}
 use Rattle.table_store.specs.declared.shelves.IndexOf.{IndexOf}
 use Rattle.table_store.specs.Given.{is_index_of}
 use Rattle.table_store.specs.Stored.{Stored}
@@ -25,11 +23,8 @@ use Rattle.legal_check.proofs.walked.wrong_item.Goals as goal
 
 pub indexed_tables_of-requires-clause-indexes : goal.indexed_tables_of-requires-clause-indexes
 indexed_tables_of-requires-clause-indexes c =
-    let document = c.args.document.now in
-    let indexes = c.as_slice-3.result.now in
-    let made : indexes ≡ indexes_of document.tables = c.as_slice-3.ensures.value ∙ (c.in_ok-indexes.ensures ∙ ap indexes_of c.as_slice.ensures) in
-    subst (λ (journal : Journal). IsTrue (list_all (is_index_of (schemas_of journal.base)) indexes)) (sym c.in_ok-before.ensures.is)
-    (subst (λ (of : List IndexOf). IsTrue (list_all (is_index_of (schemas_of (journal_before document).base)) of)) (sym made) (indexes_declared document c.requires))
+    let before = c.in_ok-before.before in
+    subst (λ (of : List IndexOf). IsTrue (list_all (is_index_of (schemas_of before.base)) of)) (sym c.as_slice-3.ensures.value) c.in_ok-indexes.ensures
 
 pub returns : goal.returns
 returns c =
