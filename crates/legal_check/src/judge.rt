@@ -54,10 +54,10 @@ fn wrong_place(
 /// Judges `Legal` of a report of a document: `None` exactly where what was served is legal with the
 /// entries and alerts of the report, and else the place at fault. For a report of size m it takes
 /// m log m and lines times alerts, beside what its calls take when they run again: a select by a
-/// column that 16 selects of its entries ask takes the rows it finds, and any other those of its
-/// table. A call that met a block is tried with new values until it would commit: at once in the
-/// report of a run. Where a report was made up, more than 4,096 trials in vain are told as want of
-/// memory.
+/// column that the document indexes, or that 16 selects of the entries ask, takes the rows it
+/// finds, and any other those of its table. A call that met a block is tried with new values until
+/// it would commit: at once in the report of a run. Where a report was made up, more than 4,096
+/// trials in vain are told as want of memory.
 pub fn judge_legal(
     alloc: Global,
     document: &Document,

@@ -8,7 +8,7 @@ ghost use Rattle.server_model.specs.meaning.Legal.{items_hold};
 ghost use Rattle.server_model.specs.meaning.Walk.{walk_of};
 
 use crate::sequences::sequences_of;
-use before_run::journal_before;
+use before_run::{indexes_of, journal_before};
 use commit_log::Journal;
 use journal_tables::indexed_tables_of;
 use legal_items::PlacedItem;
@@ -54,7 +54,8 @@ pub(crate) fn wrong_item(
         ..
     } = before;
     let names = names_of(alloc, &base.sequences)?;
-    let indexes = indexes_for(alloc, &base, report.entries.as_slice())?;
+    let declared = indexes_of(alloc, document.tables.as_slice())?;
+    let indexes = indexes_for(alloc, &base, report.entries.as_slice(), declared)?;
     let tables = indexed_tables_of(alloc, base, entries.as_slice(), indexes.as_slice())?;
     let keep = document.service.keep;
     let start = Start {

@@ -102,7 +102,11 @@ fn index_by(schemas: &[Schema], table: &Name, column: &Name) -> Option<IndexOf>
     })
 }
 
-/// One index more, where the column is asked often.
+fn is_among(all: &[IndexOf], index: &IndexOf) -> bool {
+    all.iter().any(|one| one.table == index.table && one.column == index.column)
+}
+
+/// One index more, where the column is asked often and has none yet.
 fn add_often(all: &mut Vec<IndexOf>, schemas: &[Schema], one: &Asked) -> Result<(), NoMemory>
     requires { IsTrue (list_all (is_index_of schemas.now) all.old.items) }
     ensures { OnOk result (IsTrue (list_all (is_index_of schemas.now) all.new.items)) }
@@ -113,6 +117,9 @@ fn add_often(all: &mut Vec<IndexOf>, schemas: &[Schema], one: &Asked) -> Result<
     let Some(index) = index_by(schemas, &one.table, &one.column) else {
         return Ok(());
     };
+    if is_among(all.as_slice(), &index) {
+        return Ok(());
+    }
     all.push(index)?;
     Ok(())
 }
@@ -128,23 +135,34 @@ fn schemas_in(alloc: Global, tables: &[BaseTable]) -> Result<Vec<Schema>, NoMemo
     Ok(all)
 }
 
-/// Indexes by those of these columns that are asked often.
-fn often_asked(alloc: Global, schemas: &[Schema], asked: &[Asked]) -> Result<Vec<IndexOf>, NoMemory>
+/// The first indexes, and more by those of these columns that are asked often.
+fn with_often_asked(
+    first: Vec<IndexOf>,
+    schemas: &[Schema],
+    asked: &[Asked],
+) -> Result<Vec<IndexOf>, NoMemory>
+    requires { IsTrue (list_all (is_index_of schemas.now) first.items) }
     ensures { IfOk result (λ all. IsTrue (list_all (is_index_of schemas.now) all.items)) }
 {
-    let mut all = Vec::new(alloc);
+    let mut all = first;
     for one in asked {
         add_often(&mut all, schemas, one)?;
     }
     Ok(all)
 }
 
-/// Indexes of a base's tables by the columns that 16 selects of these entries or more ask. Linear in
-/// the statements.
-pub fn indexes_for(alloc: Global, base: &Base, entries: &[Entry]) -> Result<Vec<IndexOf>, NoMemory>
+/// The first indexes of a base's tables, and more by the columns that 16 selects of these entries
+/// or more ask, where they have none yet. Linear in the statements and in the first indexes.
+pub fn indexes_for(
+    alloc: Global,
+    base: &Base,
+    entries: &[Entry],
+    first: Vec<IndexOf>,
+) -> Result<Vec<IndexOf>, NoMemory>
+    requires { IsTrue (list_all (is_index_of (schemas_of base.now)) first.items) }
     ensures { IfOk result (λ all. IsTrue (list_all (is_index_of (schemas_of base.now)) all.items)) }
 {
     let schemas = schemas_in(alloc, base.tables.as_slice())?;
     let asked = asked_by(alloc, entries)?;
-    often_asked(alloc, schemas.as_slice(), asked.as_slice())
+    with_often_asked(first, schemas.as_slice(), asked.as_slice())
 }

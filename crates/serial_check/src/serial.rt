@@ -9,7 +9,7 @@ ghost use Rattle.serial_check.specs.Replaying.{HasEnded};
 use crate::asked::indexes_for;
 use crate::printed::printed_otherwise;
 use crate::transaction::{Ended, run_again};
-use before_run::journal_before;
+use before_run::{indexes_of, journal_before};
 use commit_log::{BaseSequences, Journal};
 use journal_tables::indexed_tables_of;
 use json_form::Pointer;
@@ -56,7 +56,7 @@ fn failing_entry(
 /// other, an entry without a piece, or behind all entries the first table that has other rows.
 /// There is none exactly where the clause `Serial` holds. For r rows and q calls it takes r log r
 /// and q log r, and for each statement on a whole table its rows. A select by a column that the
-/// document indexes takes the rows it finds.
+/// document indexes, or that 16 selects of the entries ask, takes the rows it finds.
 pub fn judge_serial(
     alloc: Global,
     document: &Document,
@@ -67,7 +67,8 @@ pub fn judge_serial(
 {
     let Journal { base, entries, .. } = journal_before(alloc, document)?;
     let names = names_of(alloc, &base.sequences)?;
-    let indexes = indexes_for(alloc, &base, report.entries.as_slice())?;
+    let declared = indexes_of(alloc, document.tables.as_slice())?;
+    let indexes = indexes_for(alloc, &base, report.entries.as_slice(), declared)?;
     let mut tables = indexed_tables_of(alloc, base, entries.as_slice(), indexes.as_slice())?;
     let place = failing_entry(alloc, &mut tables, &names, report.entries.as_slice())?;
     if place.is_some() {
