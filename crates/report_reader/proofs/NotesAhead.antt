@@ -5,13 +5,13 @@ use Rattle.json.specs.Token.{Token}
 use Rattle.json.specs.Json.{parse_map, after_end_array, value}
 use Rattle.serde_json.specs.Data.{Data, array, Items, no_items, item}
 use Rattle.serde_json.specs.Events.{items_len}
-use Rattle.serde_json.specs.Find.{as_str}
 use Rattle.json_form.specs.meaning.Faults.{Fault, ◌>>=◌, within_item}
-use Rattle.json_form.specs.meaning.Values.{expected, bool_of, whole_of}
+use Rattle.json_form.specs.meaning.Values.{bool_of, whole_of}
 use Rattle.json_form.specs.meaning.Arrays.{each_after, placed, part}
-use Rattle.json_form.specs.meaning.Texts.{chosen, named, word_of, head_of}
+use Rattle.json_form.specs.meaning.Texts.{word_of}
 use Rattle.json_form.specs.Streams.{value_ahead, items_ahead, Begins, IsLastItem}
 use Rattle.json_form.proofs.Offered.{begun, none_left, read_ahead, each_long}
+use Rattle.call_forms.proofs.Offered.{head_is}
 use Rattle.svc_values.specs.declared.entry.Ltxid.{Ltxid}
 use Rattle.outage_schedule.specs.declared.note.AskResult.{AskResult}
 use Rattle.outage_schedule.specs.declared.note.FrameName.{FrameName}
@@ -279,13 +279,6 @@ told_ends w depth ts rest one l =
     (l.0, l.1, λ a d e. let all = item a (item d (item e l.0)) in sure (if_count (3 + behind_of w) (items_len all)) (told_by w 3 (placed all)) one (λ x. Ok (Some x)) (l.2 a d e))
 
 -- ---- the whole note
-
-by_text : {A : Type 0} (pairs : List (List ℕ × A)) (w : A) (o : Option (List ℕ)) → (expected o >>= chosen pairs) ≡ Ok w → named pairs o ≡ Ok w
-by_text pairs w None h = absurd (cc)
-by_text pairs w (Some text) h = h
-
-head_is : {A : Type 0} (pairs : List (List ℕ × A)) (d : Data) (ds : Items) (w : A) → word_of pairs d ≡ Ok w → head_of pairs (array (item d ds)) ≡ Ok w
-head_is pairs d ds w h = by_text pairs w (as_str d) h
 
 pub note_joined : (w : NoteWord) (depth inside : ℕ) (ts begin behind rest : List Token) (one : Note) → value_ahead depth ts ≡ parse_map array (items_ahead inside begin)
     → Begins (word_of note_words) inside begin w behind → Ends (note_by w) inside behind one rest → Begins note_in depth ts one rest

@@ -1,19 +1,16 @@
 -- What members of a report are read as that are read one after the other.
 use Rattle.std.proofs.Common.{◌≡◌, ℕ, List, [], ◌∷◌, ◌++◌, length, Bool, true, false, cond, nat_lt, true≢false, Option, Some, None, option_map, Result, Ok, codes, decimal, append_assoc, refl, sym, ap, ◌∙◌}
-use Rattle.std.specs.Prelude.{◌||◌, is_some, IfSome}
+use Rattle.std.specs.Prelude.{◌||◌, is_some}
 use Rattle.std.proofs.Math.Path.{fun_ext}
 use Rattle.std.specs.Str.{bytes_eq}
 use Rattle.std.specs.List.{AllByRecursion, last_or}
 use Rattle.std.specs.Option.{option_map_or}
 use Rattle.std.proofs.lemmas.List.{append-nil}
 use Rattle.std.proofs.lemmas.Slice.Eq.{bytes_eq-Decides}
-use Rattle.json.specs.Token.{Token}
-use Rattle.json.specs.Json.{parse_map}
 use Rattle.serde_json.specs.Data.{Data, Items, no_items, item}
-use Rattle.json_form.specs.declared.fault.DocCode.TheVariants.{Limit}
-use Rattle.json_form.specs.meaning.Faults.{Fault, ◌>>=◌, here, within_item}
+use Rattle.json_form.specs.meaning.Faults.{Fault, ◌>>=◌, within_item}
 use Rattle.json_form.specs.meaning.Values.{items_of}
-use Rattle.json_form.specs.meaning.Arrays.{each_after, each_of, in_count, counted_of, array_of, list_of}
+use Rattle.json_form.specs.meaning.Arrays.{each_after, each_of, list_of}
 use Rattle.json_form.specs.meaning.Objects.{Named, is_among}
 use Rattle.json_form.specs.Objects.{members_at, putting}
 use Rattle.json_form.specs.declared.object.Members as held
@@ -22,7 +19,7 @@ use Rattle.outage_schedule.specs.declared.note.Note.{Note}
 use Rattle.svc_values.specs.declared.entry.Entry.{Entry}
 use Rattle.outage_schedule.specs.declared.report.ReportTable.{ReportTable}
 use Rattle.outage_schedule.specs.declared.request.RequestReport.{RequestReport}
-use Rattle.json_form.proofs.Offered.{after, ok_is, within_ok, passed, each_keeps, first_true, second_true, begun}
+use Rattle.json_form.proofs.Offered.{after, within_ok, each_keeps, first_true, second_true}
 use Rattle.report_reader.specs.declared.streamed.Ahead.{Ahead}
 use Rattle.report_reader.specs.meaning.Items.{last_event, one_served, served_in}
 use Rattle.report_reader.specs.meaning.Requests.{clients_in}
@@ -34,29 +31,10 @@ use Rattle.report_reader.proofs.ReadItems.{read_behind}
 
 -- ---- values
 
--- what holds of a thing that may be there holds so of the one that is
-pub if_there : {A : Type 0} (P Q : A → Type 0) (o : Option A) → ((x : A) → P x → Q x) → IfSome o P → IfSome o Q
-if_there P Q None more h = tt
-if_there P Q (Some x) more h = more x h
-
 -- what is not there
 pub not_there : {A : Type 0} (o : Option A) → is_some o ≡ false → o ≡ None
 not_there None h = refl
 not_there (Some x) h = absurd (cc)
-
--- what begins with a value that is read alike
-pub begins_alike : {A : Type 0} (f g : Data → Result A Fault) (o : Option (Data × List Token)) (x : A) (r : List Token) → ((d : Data) → f d ≡ Ok x → g d ≡ Ok x)
-    → parse_map f o ≡ Some (Ok x, r) → parse_map g o ≡ Some (Ok x, r)
-begins_alike f g o x r alike e =
-    let b = begun f o x r e in ap (parse_map g) b.1 ∙ ap (λ (q : Result _ Fault). Some (q, r)) (alike b.0 b.2)
-
--- the items of an array of so many are those of one of any number
-pub any_number : {A : Type 0} (read : Items → Result (List A) Fault) (low high : ℕ) (d : Data) (xs : List A) → array_of low high read d ≡ Ok xs → list_of read d ≡ Ok xs
-any_number read low high d xs h =
-    let a = after (counted_of low high d) read xs h in
-    let b = after (items_of d) (in_count low high) a.0 a.1 in
-    let same = ok_is b.0 a.0 (passed _ (Ok b.0) (here Limit) a.0 b.2).1 in
-    ap (λ (r : Result Items Fault). r >>= read) b.1 ∙ ap read same ∙ a.2
 
 -- ---- items in the order of their events
 

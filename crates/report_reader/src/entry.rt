@@ -6,8 +6,8 @@ ghost use Rattle.report_reader.specs.meaning.Entries.{piece_in, pieces_in, entry
 use crate::answer::AnswersReader;
 use crate::draw::DrawsReader;
 use crate::known::KnownRows;
-use crate::part::{CALL, LtxidReader, RowReader, SettingsReader, list_ahead};
-use call_forms::NameReader;
+use crate::part::{CALL, LtxidReader, RowReader, SettingsReader};
+use call_forms::{NameReader, list_ahead};
 use json_form::{DocFault, Flag, Reader, fixed, list_from, object_with};
 use outage_schedule::{DocRows, ReportEntries, ReportTable, ReportTables};
 use serde_json::Value as Json;

@@ -11,8 +11,9 @@ use crate::answer::AnswersReader;
 use crate::draw::DrawsReader;
 use crate::go::go_from;
 use crate::note_ahead::note_ahead;
-use crate::part::{LtxidReader, NUMBER, if_count, list_ahead};
+use crate::part::{LtxidReader, NUMBER, if_count};
 use crate::told::{AskedReader, asked_behind, asked_by};
+use call_forms::list_ahead;
 use json_form::{
     DocCode, DocFault, Parts, Reader, fixed, head_from, list_from, parts_from, word_ahead,
     word_from,

@@ -1,17 +1,16 @@
 //! Readers of the small parts of a report: numbers, octets, values, identifiers, settings and rows.
-ghost use Rattle.std.specs.Prelude.{◌<◌, length, IfOk, IfSome, []};
+ghost use Rattle.std.specs.Prelude.{◌<◌, IfOk, []};
 ghost use Rattle.serde_json.specs.View.{view, items_view};
 ghost use Rattle.json_form.specs.Faults.{Gives};
-ghost use Rattle.json_form.specs.meaning.Arrays.{each_after, each_of, list_of};
+ghost use Rattle.json_form.specs.meaning.Arrays.{each_after};
 ghost use Rattle.json_form.specs.Arrays.{count_at};
-ghost use Rattle.json_form.specs.Streams.{Begins};
 ghost use Rattle.svc_values.specs.SettingsList.{AllBelow};
 ghost use Rattle.report_reader.specs.meaning.Parts.{if_count as if_count_def, octets_in, identifier_in, identifiers_in, session_in, sessions_in, if_rising, setting_in, settings_in, row_in};
 
 use call_forms::{CallReader, NameReader, ValueReader};
 use json_form::{
-    Digits, DocCode, DocFault, Parts, Reader, Whole, array_ahead, array_from, fixed, list_from,
-    octets_from, parts_from, within_item,
+    Digits, DocCode, DocFault, Parts, Reader, Whole, array_from, fixed, list_from, octets_from,
+    parts_from, within_item,
 };
 use outage_schedule::{Ltxids, Sessions};
 use serde_json::Value as Json;
@@ -49,22 +48,6 @@ pub(crate) fn if_count(alloc: Global, parts: &Parts, count: usize) -> Result<(),
     } else {
         Err(DocFault::here(alloc, DocCode::WrongKind))
     }
-}
-
-/// The items of an array of any number, in order, each read as soon as its tokens are passed, so
-/// that no more than one of them is held as a JSON value. There are none where one has a fault, and
-/// in the forms that are read otherwise: `list_from` says which.
-pub(crate) fn list_ahead<T: Drop, R: Reader<T>>(
-    alloc: Global,
-    tokens: &mut json::Reader<'_>,
-    depth: usize,
-    reader: &R,
-) -> Option<Vec<T>>
-    ensures read { IfSome result (λ v. Begins
-        (list_of (each_of (R.Reader.reads reader.now))) depth tokens.old v.items tokens.new) }
-    ensures shorter { IfSome result (λ _. length tokens.new < length tokens.old) }
-{
-    array_ahead(alloc, tokens, depth, usize::MAX, reader)
 }
 
 /// Reads a new identifier that was drawn: 16 octets.

@@ -6,7 +6,8 @@ ghost use Rattle.report_reader.specs.meaning.Requests.{shown_in, outcome_in, cal
 use crate::answer::AnswersReader;
 use crate::draw::DrawsReader;
 use crate::failure::FailedReader;
-use crate::part::{LtxidReader, LtxidsReader, SessionsReader, list_ahead};
+use crate::part::{LtxidReader, LtxidsReader, SessionsReader};
+use call_forms::list_ahead;
 use json_form::{DocFault, Flag, Reader, fixed, list_from, object_with};
 use outage_schedule::{
     Outcome, Outcomes, RequestReport, ShownCall, ShownCalls, Transcript, Transcripts, Tried,

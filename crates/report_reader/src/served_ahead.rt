@@ -6,7 +6,7 @@ ghost use Rattle.report_reader.specs.Ahead.{events_rise as events_rise_def};
 
 use crate::item::ServedReader;
 use crate::known::KnownRows;
-use crate::part::list_ahead;
+use call_forms::list_ahead;
 use outage_schedule::{Notes, Served, ServedItems};
 use std::alloc::Global;
 use svc_values::Listed;

@@ -1,7 +1,7 @@
 use Rattle.std.proofs.Common.{ℕ}
 use Rattle.report_reader.specs.meaning.Notes.{tick_in}
 use Rattle.report_reader.specs.NotesAhead.{Ends}
-use Rattle.report_reader.proofs.OneByOne.{if_there}
+use Rattle.call_forms.proofs.Offered.{of_each}
 use Rattle.report_reader.proofs.note_ahead.parts_ahead.Goals as goal
 
 pub returns-in-Go-clause-ends : goal.returns-in-Go-clause-ends
@@ -35,4 +35,4 @@ pub returns-in-Drain-clause-ends : goal.returns-in-Drain-clause-ends
 returns-in-Drain-clause-ends c = rw c.in-Drain.is c.drain_ahead.ensures.ends
 
 pub returns-in-Tick-clause-ends : goal.returns-in-Tick-clause-ends
-returns-in-Tick-clause-ends c = rw c.in-Tick.is (if_there (λ one. (depth : ℕ) → Ends tick_in depth c.args.tokens.now one c.tick_ahead.new.tokens) (λ one. Ends tick_in c.args.depth c.args.tokens.now one c.tick_ahead.new.tokens) c.tick_ahead.result (λ one ends. ends c.args.depth) c.tick_ahead.ensures.ends)
+returns-in-Tick-clause-ends c = rw c.in-Tick.is (of_each (λ one. (depth : ℕ) → Ends tick_in depth c.args.tokens.now one c.tick_ahead.new.tokens) (λ one. Ends tick_in c.args.depth c.args.tokens.now one c.tick_ahead.new.tokens) c.tick_ahead.result (λ one ends. ends c.args.depth) c.tick_ahead.ensures.ends)

@@ -3,7 +3,8 @@ use Rattle.json_form.specs.Streams.{Begins, value_ahead}
 use Rattle.json_form.specs.meaning.Arrays.{each_of, list_of}
 use Rattle.report_reader.specs.meaning.Items.{one_served, served_in}
 use Rattle.report_reader.specs.Ahead.{events_rise}
-use Rattle.report_reader.proofs.OneByOne.{begins_alike, items_alike}
+use Rattle.call_forms.proofs.Offered.{begins_alike}
+use Rattle.report_reader.proofs.OneByOne.{items_alike}
 use Rattle.report_reader.proofs.served_ahead.served_ahead.Goals as goal
 
 pub returns-clause-read : goal.returns-clause-read
@@ -12,4 +13,4 @@ returns-clause-read c =
     let rise : events_rise 0 items ≡ true = search rules in
     let begins : Begins (list_of (each_of (one_served c.args.notes.now 0))) c.args.depth c.args.tokens.now items c.list_ahead.new.tokens = search rules in
     let same : c.from_vec.result ≡ items = search rules in
-    rw same (begins_alike (list_of (each_of (one_served c.args.notes.now 0))) (served_in c.args.notes.now) (value_ahead c.args.depth c.args.tokens.now) items c.list_ahead.new.tokens (λ d h. items_alike c.args.notes.now d items rise h) begins)
+    rw same (begins_alike (list_of (each_of (one_served c.args.notes.now 0))) (served_in c.args.notes.now) (value_ahead c.args.depth c.args.tokens.now) items items c.list_ahead.new.tokens (λ d h. items_alike c.args.notes.now d items rise h) begins)
