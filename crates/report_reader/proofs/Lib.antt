@@ -5,4 +5,8 @@ pub mod ReadItems
 pub mod ReadReports
 pub mod OneByOne
 pub mod NotesAhead
+pub mod ObjectsAhead
 pub mod Joined
+pub mod AnswersAhead
+pub mod ArraysAhead
+pub mod ServedAhead

@@ -4,18 +4,34 @@ ghost use Rattle.serde_json.specs.View.{view};
 ghost use Rattle.json_form.specs.Faults.{Gives};
 ghost use Rattle.report_reader.specs.meaning.Answers.{rows_in, refusal_of as refusal_of_def, answer_of as answer_of_def, answer_named as answer_named_def, answer_in, answers_in};
 
+use crate::answer_ahead::member_ahead;
 use crate::known::KnownRows;
 use crate::part::{NUMBER, RowReader};
-use call_forms::{only_member, shared};
-use json_form::{DocCode, DocFault, Integer, Reader, Whole, array_from, chosen, list_from, within};
+use call_forms::{list_ahead, only_member, shared};
+use json::Token;
+use json_form::{
+    DocCode, DocFault, Integer, Reader, Whole, array_ahead, array_from, chosen, list_from, within,
+};
 use serde_json::Value as Json;
 use std::alloc::Global;
 use svc_values::{Answer, Answers, Listed, Rows, StatementFault};
 
 /// Reads the rows of an answer, at most 32. Known ones are held once.
 #[derive(Clone, Copy)]
-struct RowsReader<'a> {
-    known: Option<&'a KnownRows>,
+pub(crate) struct RowsReader<'a> {
+    pub(crate) known: Option<&'a KnownRows>,
+}
+
+impl RowsReader<'_> {
+    /// These rows, which are held once where they are known.
+    fn held(&self, alloc: Global, rows: Rows) -> Rows
+        ensures { result ≡ rows }
+    {
+        match self.known {
+            Some(known) => known.once(alloc, rows),
+            None => rows,
+        }
+    }
 }
 
 impl Reader<Rows> for RowsReader<'_> {
@@ -24,10 +40,13 @@ impl Reader<Rows> for RowsReader<'_> {
     fn read(&self, alloc: Global, value: Json) -> Result<Rows, DocFault> {
         let rows = array_from(alloc, value, 0, 32, &RowReader)?;
         let rows = shared(alloc, rows)?;
-        match self.known {
-            Some(known) => Ok(known.once(alloc, rows)),
-            None => Ok(rows),
-        }
+        Ok(self.held(alloc, rows))
+    }
+
+    fn ahead(&self, alloc: Global, tokens: &mut json::Reader<'_>, depth: usize) -> Option<Rows> {
+        let rows = array_ahead(alloc, tokens, depth, 32, &RowReader)?;
+        let rows = shared(alloc, rows).ok()?;
+        Some(self.held(alloc, rows))
     }
 }
 
@@ -77,7 +96,7 @@ fn answer_of(word: AnswerWord) -> Answer
 }
 
 /// The answer that the member of this name says.
-fn answer_named(
+pub(crate) fn answer_named(
     alloc: Global,
     known: Option<&KnownRows>,
     name: &str,
@@ -126,6 +145,18 @@ impl Reader<Answer> for AnswerReader<'_> {
             }
         }
     }
+
+    /// The answer that the tokens begin with, of whose word no copy is made.
+    fn ahead(&self, alloc: Global, tokens: &mut json::Reader<'_>, depth: usize) -> Option<Answer> {
+        match tokens.next()? {
+            Token::String(text) => {
+                let word = chosen(alloc, text, &WORDS).ok()?;
+                Some(answer_of(word))
+            }
+            Token::BeginObject => member_ahead(alloc, self.known, tokens, depth),
+            _ => None,
+        }
+    }
 }
 
 /// Reads the answers of a call, in order. Known rows are held once.
@@ -140,5 +171,10 @@ impl Reader<Answers> for AnswersReader<'_> {
     fn read(&self, alloc: Global, value: Json) -> Result<Answers, DocFault> {
         let answers = list_from(alloc, value, &AnswerReader { known: self.known })?;
         Ok(Listed::from_vec(answers))
+    }
+
+    fn ahead(&self, alloc: Global, tokens: &mut json::Reader<'_>, depth: usize) -> Option<Answers> {
+        let answers = list_ahead(alloc, tokens, depth, &AnswerReader { known: self.known })?;
+        Some(Listed::from_vec(answers))
     }
 }

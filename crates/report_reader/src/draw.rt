@@ -4,7 +4,7 @@ ghost use Rattle.json_form.specs.Faults.{Gives};
 ghost use Rattle.report_reader.specs.meaning.Draws.{seq_in, clock_in, id_in, draw_by as draw_by_def, draw_in, draws_in};
 
 use crate::part::{IdReader, NUMBER};
-use call_forms::NameReader;
+use call_forms::{NameReader, list_ahead};
 use json_form::{DocFault, Integer, Reader, fixed, head_from, list_from};
 use serde_json::Value as Json;
 use std::alloc::Global;
@@ -88,5 +88,10 @@ impl Reader<Draws> for DrawsReader {
     fn read(&self, alloc: Global, value: Json) -> Result<Draws, DocFault> {
         let draws = list_from(alloc, value, &DrawReader)?;
         Ok(Listed::from_vec(draws))
+    }
+
+    fn ahead(&self, alloc: Global, tokens: &mut json::Reader<'_>, depth: usize) -> Option<Draws> {
+        let draws = list_ahead(alloc, tokens, depth, &DrawReader)?;
+        Some(Listed::from_vec(draws))
     }
 }

@@ -6,9 +6,12 @@ ghost use Rattle.report_reader.specs.meaning.Entries.{piece_in, pieces_in, entry
 use crate::answer::AnswersReader;
 use crate::draw::DrawsReader;
 use crate::known::KnownRows;
+use crate::object_ahead::{member_next, object_ends};
 use crate::part::{CALL, LtxidReader, RowReader, SettingsReader};
 use call_forms::{NameReader, list_ahead};
-use json_form::{DocFault, Flag, Reader, fixed, list_from, object_with};
+use json_form::{
+    DocFault, Flag, Reader, array_begins, fixed, last_ahead, list_from, object_begins, object_with,
+};
 use outage_schedule::{DocRows, ReportEntries, ReportTable, ReportTables};
 use serde_json::Value as Json;
 use std::alloc::Global;
@@ -41,6 +44,19 @@ impl Reader<Piece> for PieceReader<'_> {
             draws,
         })
     }
+
+    fn ahead(&self, alloc: Global, tokens: &mut json::Reader<'_>, depth: usize) -> Option<Piece> {
+        let known = Some(self.known);
+        let inside = array_begins(tokens, depth)?;
+        let call = CALL.ahead(alloc, tokens, inside)?;
+        let answers = AnswersReader { known }.ahead(alloc, tokens, inside)?;
+        let draws = last_ahead(alloc, tokens, inside, &DrawsReader)?;
+        Some(Piece {
+            call,
+            answers,
+            draws,
+        })
+    }
 }
 
 /// Reads the calls of an entry, in order.
@@ -55,6 +71,11 @@ impl Reader<Pieces> for PiecesReader<'_> {
     fn read(&self, alloc: Global, value: Json) -> Result<Pieces, DocFault> {
         let pieces = list_from(alloc, value, &PieceReader { known: self.known })?;
         Ok(Listed::from_vec(pieces))
+    }
+
+    fn ahead(&self, alloc: Global, tokens: &mut json::Reader<'_>, depth: usize) -> Option<Pieces> {
+        let pieces = list_ahead(alloc, tokens, depth, &PieceReader { known: self.known })?;
+        Some(Listed::from_vec(pieces))
     }
 }
 
@@ -78,6 +99,23 @@ impl Reader<Entry> for EntryReader<'_> {
         let pieces = members.read(alloc, "pieces", &PiecesReader { known: self.known })?;
         let settings = members.read(alloc, "settings", &SettingsReader)?;
         Ok(Entry {
+            ltxid,
+            completed,
+            settings,
+            pieces,
+            writes: Listed::new(alloc),
+        })
+    }
+
+    fn ahead(&self, alloc: Global, tokens: &mut json::Reader<'_>, depth: usize) -> Option<Entry> {
+        let reader = PiecesReader { known: self.known };
+        let inside = object_begins(tokens, depth)?;
+        let completed = member_next(alloc, tokens, inside, "completed", &Flag)?;
+        let ltxid = member_next(alloc, tokens, inside, "ltxid", &LtxidReader)?;
+        let pieces = member_next(alloc, tokens, inside, "pieces", &reader)?;
+        let settings = member_next(alloc, tokens, inside, "settings", &SettingsReader)?;
+        object_ends(tokens)?;
+        Some(Entry {
             ltxid,
             completed,
             settings,

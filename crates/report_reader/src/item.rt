@@ -11,6 +11,7 @@ use crate::draw::DrawsReader;
 use crate::known::KnownRows;
 use crate::note::count_from;
 use crate::part::{CALL, LtxidReader, NUMBER, SessionReader, SettingsReader, if_count};
+use crate::served_ahead::one_ahead;
 use crate::told::{ToldReader, told_by};
 use json_form::{
     DocCode, DocFault, Flag, Parts, Reader, Whole, fixed, head_from, parts_from, within_item,
@@ -79,10 +80,10 @@ fn fits_event(notes: &[Note], word: ServedWord, last: u64, event: u64) -> bool
 
 /// Reads the event of an item of this word, behind an item at the last one.
 #[derive(Clone, Copy)]
-struct EventReader<'a> {
-    notes: &'a [Note],
-    word: ServedWord,
-    last: u64,
+pub(crate) struct EventReader<'a> {
+    pub(crate) notes: &'a [Note],
+    pub(crate) word: ServedWord,
+    pub(crate) last: u64,
 }
 
 impl Reader<u64> for EventReader<'_> {
@@ -106,7 +107,7 @@ pub struct ServedAt {
 }
 
 /// The item at its event, with its session.
-fn served_at(place: ServedAt, item: Item) -> Served
+pub(crate) fn served_at(place: ServedAt, item: Item) -> Served
     ensures { result ≡ served_at_def place item }
 {
     Served {
@@ -320,6 +321,10 @@ impl Reader<Served> for ServedReader<'_> {
     fn read(&self, alloc: Global, value: Json) -> Result<Served, DocFault> {
         let word = head_from(alloc, &value, &WORDS)?;
         self.by(alloc, value, word)
+    }
+
+    fn ahead(&self, alloc: Global, tokens: &mut json::Reader<'_>, depth: usize) -> Option<Served> {
+        one_ahead(alloc, self, tokens, depth)
     }
 }
 

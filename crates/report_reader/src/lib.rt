@@ -2,6 +2,7 @@
 #![tactic(auto)]
 
 mod answer;
+mod answer_ahead;
 mod draw;
 mod entry;
 mod failure;
@@ -11,6 +12,7 @@ mod known;
 pub mod laws;
 mod note;
 mod note_ahead;
+mod object_ahead;
 mod part;
 mod report;
 mod request;

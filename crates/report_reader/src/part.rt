@@ -9,8 +9,8 @@ ghost use Rattle.report_reader.specs.meaning.Parts.{if_count as if_count_def, oc
 
 use call_forms::{CallReader, NameReader, ValueReader};
 use json_form::{
-    Digits, DocCode, DocFault, Parts, Reader, Whole, array_from, fixed, list_from, octets_from,
-    parts_from, within_item,
+    Digits, DocCode, DocFault, Parts, Reader, Whole, array_ahead, array_begins, array_from, fixed,
+    last_ahead, list_from, octets_from, parts_from, within_item,
 };
 use outage_schedule::{Ltxids, Sessions};
 use serde_json::Value as Json;
@@ -93,6 +93,18 @@ impl Reader<Ltxid> for LtxidReader {
         let session = parts.read(alloc, 1, &NUMBER)?;
         let number = parts.read(alloc, 2, &NUMBER)?;
         Ok(Ltxid {
+            incarnation,
+            session,
+            number,
+        })
+    }
+
+    fn ahead(&self, alloc: Global, tokens: &mut json::Reader<'_>, depth: usize) -> Option<Ltxid> {
+        let inside = array_begins(tokens, depth)?;
+        let incarnation = NUMBER.ahead(alloc, tokens, inside)?;
+        let session = NUMBER.ahead(alloc, tokens, inside)?;
+        let number = last_ahead(alloc, tokens, inside, &NUMBER)?;
+        Some(Ltxid {
             incarnation,
             session,
             number,
@@ -203,5 +215,10 @@ impl Reader<Row> for RowReader {
     fn read(&self, alloc: Global, value: Json) -> Result<Row, DocFault> {
         let values = array_from(alloc, value, 0, 8, &VALUE)?;
         Ok(Limited::from_vec(values))
+    }
+
+    fn ahead(&self, alloc: Global, tokens: &mut json::Reader<'_>, depth: usize) -> Option<Row> {
+        let values = array_ahead(alloc, tokens, depth, 8, &VALUE)?;
+        Some(Limited::from_vec(values))
     }
 }

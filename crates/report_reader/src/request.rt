@@ -6,9 +6,12 @@ ghost use Rattle.report_reader.specs.meaning.Requests.{shown_in, outcome_in, cal
 use crate::answer::AnswersReader;
 use crate::draw::DrawsReader;
 use crate::failure::FailedReader;
+use crate::object_ahead::{member_next, object_ends};
 use crate::part::{LtxidReader, LtxidsReader, SessionsReader};
 use call_forms::list_ahead;
-use json_form::{DocFault, Flag, Reader, fixed, list_from, object_with};
+use json_form::{
+    DocFault, Flag, Reader, array_begins, fixed, last_ahead, list_from, object_begins, object_with,
+};
 use outage_schedule::{
     Outcome, Outcomes, RequestReport, ShownCall, ShownCalls, Transcript, Transcripts, Tried,
 };
@@ -34,6 +37,23 @@ impl Reader<ShownCall> for ShownReader {
             ltxid,
         })
     }
+
+    fn ahead(
+        &self,
+        alloc: Global,
+        tokens: &mut json::Reader<'_>,
+        depth: usize,
+    ) -> Option<ShownCall> {
+        let inside = array_begins(tokens, depth)?;
+        let answers = AnswersReader { known: None }.ahead(alloc, tokens, inside)?;
+        let draws = DrawsReader.ahead(alloc, tokens, inside)?;
+        let ltxid = last_ahead(alloc, tokens, inside, &LtxidReader)?;
+        Some(ShownCall {
+            answers,
+            draws,
+            ltxid,
+        })
+    }
 }
 
 /// Reads the calls that were shown, in order.
@@ -45,6 +65,16 @@ impl Reader<ShownCalls> for CallsReader {
     fn read(&self, alloc: Global, value: Json) -> Result<ShownCalls, DocFault> {
         let calls = list_from(alloc, value, &ShownReader)?;
         Ok(Listed::from_vec(calls))
+    }
+
+    fn ahead(
+        &self,
+        alloc: Global,
+        tokens: &mut json::Reader<'_>,
+        depth: usize,
+    ) -> Option<ShownCalls> {
+        let calls = list_ahead(alloc, tokens, depth, &ShownReader)?;
+        Some(Listed::from_vec(calls))
     }
 }
 
@@ -117,6 +147,28 @@ impl Reader<RequestReport> for RequestReader {
             tried,
         })
     }
+
+    fn ahead(
+        &self,
+        alloc: Global,
+        tokens: &mut json::Reader<'_>,
+        depth: usize,
+    ) -> Option<RequestReport> {
+        let inside = object_begins(tokens, depth)?;
+        let calls = member_next(alloc, tokens, inside, "calls", &CallsReader)?;
+        let failed = member_next(alloc, tokens, inside, "failed", &FailedReader)?;
+        let outcomes = member_next(alloc, tokens, inside, "outcomes", &OutcomesReader)?;
+        let sessions = member_next(alloc, tokens, inside, "sessions", &SessionsReader)?;
+        let tried = member_next(alloc, tokens, inside, "tried", &TriedReader)?;
+        object_ends(tokens)?;
+        Some(RequestReport {
+            calls,
+            failed,
+            outcomes,
+            sessions,
+            tried,
+        })
+    }
 }
 
 /// Reads the requests of one client, in order.
@@ -128,6 +180,16 @@ impl Reader<Transcript> for TranscriptReader {
     fn read(&self, alloc: Global, value: Json) -> Result<Transcript, DocFault> {
         let requests = list_from(alloc, value, &RequestReader)?;
         Ok(Listed::from_vec(requests))
+    }
+
+    fn ahead(
+        &self,
+        alloc: Global,
+        tokens: &mut json::Reader<'_>,
+        depth: usize,
+    ) -> Option<Transcript> {
+        let requests = list_ahead(alloc, tokens, depth, &RequestReader)?;
+        Some(Listed::from_vec(requests))
     }
 }
 
