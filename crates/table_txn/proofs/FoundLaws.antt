@@ -3,7 +3,7 @@ use Rattle.std.proofs.Common.{◌≡◌, ◌⊎◌, inl, inr, ℕ, Bool, true, f
 use Rattle.std.specs.Prelude.{Option, Some, None, IsSome, option_map, ◌&&◌, ◌||◌}
 use Rattle.std.specs.List.{All}
 use Rattle.std.proofs.lemmas.List.Elements.{All-map}
-use Rattle.std.specs.BTreeMap.{BTreeMap, WritesThrough, Updates, is_at, insert_entry}
+use Rattle.std.specs.BTreeMap.{BTreeMap, WritesThrough, is_at, insert_entry}
 use Rattle.std.specs.Map.{lookup, set_value}
 use Rattle.std.specs.declared.cmp.Ordering.{Ordering}
 use Rattle.std.specs.declared.cmp.Ordering.TheVariants.{Less, Equal, Greater}
@@ -93,7 +93,7 @@ reading_of-lookup (entry ∷ rest) q = by_place (reading_of-lookup rest q) (case
         ∙ sym (ap (λ b. option_map (λ one. reading (q, one)) (cond b (Some entry.1) (looked_up rest q))) (at_key q entry.0 ∙ apart))
 
 -- a change of one entry
-has_read : (old new : Entries) (at : Place) (one : ReadPlace) (what : Found) → ((q : Place) → looked_up new q ≡ cond (is_at (place_cmp at) q) (Some one) (looked_up old q))
+pub has_read : (old new : Entries) (at : Place) (one : ReadPlace) (what : Found) → ((q : Place) → looked_up new q ≡ cond (is_at (place_cmp at) q) (Some one) (looked_up old q))
     → Some (reading (at, one)) ≡ Some (read_more (reading_of (readings_of old) at) at (found_rows at what)) → HasRead (readings_of old) at (found_rows at what) (readings_of new)
 has_read old new at one what changed is q = by_place (cases_Bool (same_place at q))
   where
@@ -152,7 +152,7 @@ set_fits (entry ∷ rest) at one all fit = by_place (λ h. set_fits rest at one 
         ap (λ b. are_for (cond b ((entry.0, one) ∷ rest) (entry ∷ set_value (is_at (place_cmp at)) rest one))) apart
         ∙ both_if (fits entry) (are_for (set_value (is_at (place_cmp at)) rest one)) parts.0 (others parts.1)
 
-insert_fits : (entries : Entries) (at : Place) (one : ReadPlace) → are_for entries ≡ true → is_for at one.found ≡ true → are_for (insert_entry place_cmp entries at one) ≡ true
+pub insert_fits : (entries : Entries) (at : Place) (one : ReadPlace) → are_for entries ≡ true → is_for at one.found ≡ true → are_for (insert_entry place_cmp entries at one) ≡ true
 insert_fits [] at one all fit = both_if (is_for at one.found) true fit refl
 insert_fits (entry ∷ rest) at one all fit = by_order (λ h. insert_fits rest at one h fit) (place_cmp at entry.0) refl
   where
@@ -185,14 +185,6 @@ again_read old new at there one what all kind found is written = record {
 -- of a place without a reading
 pub not_read : (old : Entries) (at : Place) → None ≡ looked_up old at → reading_of (readings_of old) at ≡ None
 not_read old at away = reading_of-lookup old at ∙ ap (option_map (λ n. reading (at, n))) (sym away)
-
-pub first_read : (old new : BTreeMap Place ReadPlace) (at : Place) (one : ReadPlace) (what : Found) → are_for old.entries ≡ true → is_for at what ≡ true → reading_of (readings_of old.entries) at ≡ None
-    → one ≡ record { found = what; is_torn = false } → Updates place_cmp old new at (Some one) → new.entries ≡ insert_entry place_cmp old.entries at one → IsRead old.entries at what new.entries
-first_read old new at one what all kind away is updated put = record {
-  has = has_read old.entries new.entries at one what updated.0
-      (ap (λ (n : ReadPlace). Some (reading (at, n))) is ∙ sym (ap (λ o. Some (read_more o at (found_rows at what))) away));
-  kinds = ap are_for put ∙ insert_fits old.entries at one all (ap (λ (n : ReadPlace). is_for at n.found) is ∙ kind);
-}
 
 -- ---- the first that has changed
 

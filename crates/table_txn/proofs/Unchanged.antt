@@ -1,6 +1,7 @@
 -- Readings of places that have what they had.
 use Rattle.std.proofs.Common.{◌≡◌, ◌⊎◌, inl, inr, true, false, not, cond, List, refl, sym, ap, ◌∙◌, subst}
-use Rattle.std.specs.Prelude.{Option, Some, None, Result, Ok, Err, IfSome, IfOk, OnOk, is_some, option_map, ◌||◌}
+use Rattle.std.specs.Prelude.{Option, Some, None, Result, Ok, Err, IfSome, IfOk, OnOk, option_map, ◌||◌}
+use Rattle.std.specs.BTreeMap.{BTreeMap, Updates, insert_entry}
 use Rattle.std.proofs.lemmas.Bool.{cases_Bool}
 use Rattle.svc_values.specs.declared.answer.Answer.{Answer}
 use Rattle.svc_values.specs.declared.tables.PlainRow.{PlainRow}
@@ -8,17 +9,19 @@ use Rattle.svc_values.specs.declared.tables.Place.{Place}
 use Rattle.svc_values.specs.meaning.Tables.{rows_at}
 use Rattle.svc_values.specs.meaning.Same.{same_rows}
 use Rattle.svc_values.specs.Same.{same_place}
+use Rattle.svc_values.specs.Tables.{place_cmp}
 use Rattle.stmt_meaning.specs.declared.plan.Plan.{Plan}
 use Rattle.stmt_meaning.specs.meaning.Plans.{place_of}
 use Rattle.table_store.specs.Stored.{Stored}
 use Rattle.table_txn.specs.declared.readings.ReadPlace.{ReadPlace}
-use Rattle.table_txn.specs.Readings.{Reading, reading_of, read_more, HasRead, HasReadIfAny, AreUnchanged, StayUnchanged}
-use Rattle.table_txn.specs.Found.{reading, readings_of}
+use Rattle.table_txn.specs.Readings.{Reading, reading_of, read_more, HasReadIfAny, AreUnchanged, StayUnchanged}
+use Rattle.table_txn.specs.declared.found.Found.{Found}
+use Rattle.table_txn.specs.Found.{is_for, found_rows, reading, readings_of, are_for, HasBefore, IsRead}
 use Rattle.table_txn.specs.InnerSteps.{HasWritten}
 use Rattle.table_txn.specs.Transactions.{Transaction}
 use Rattle.table_txn.proofs.Same.{same_place_decides, same_rows_decide}
 use Rattle.table_txn.proofs.ReadingLaws.{or_none}
-use Rattle.table_txn.proofs.FoundLaws.{Entries, looked_up, reading_of-lookup}
+use Rattle.table_txn.proofs.FoundLaws.{Entries, looked_up, reading_of-lookup, has_read, insert_fits}
 
 abbrev IsWhole : List PlainRow → Place → Reading → Type 0
 IsWhole now at one = (one.is_torn ≡ false) × (one.found ≡ rows_at now at)
@@ -45,33 +48,33 @@ stay_unchanged now old new (Some at) has all q = by_place (cases_Bool (same_plac
         (subst (λ (p : Place). IsWhole now p made) ((same_place_decides at q).0 here) (fresh now at (reading_of old at) (all at)))
     by_place (inr apart) = subst (λ o. IfSome o (IsWhole now q)) (sym (has q ∙ ap (λ b. cond b (Some made) (reading_of old q)) apart)) (all q)
 
-again : (now : List PlainRow) (at : Place) (before : Option Reading) → IfSome before (IsWhole now at) → is_some before ≡ true → before ≡ Some (read_more before at (rows_at now at))
-again now at None is there = absurd (let e : false ≡ true = there in cc)
-again now at (Some one) is there =
-    let torn : one.is_torn ≡ (one.is_torn || not (same_rows one.found (rows_at now at))) = is.0 ∙ sym (not_torn now at one is) in
-    let same : one ≡ read_more (Some one) at (rows_at now at) = λ i. record { at = one.at; found = one.found; is_torn = torn i } in
-    ap Some same
-
--- a place that was read is not read anew
-pub read_unchanged : (now : List PlainRow) (readings : List Reading) (at : Place) → AreUnchanged now readings → is_some (reading_of readings at) ≡ true → HasRead readings at (rows_at now at) readings
-read_unchanged now readings at all there q = by_place (cases_Bool (same_place at q))
+-- a place that was not read, or has what it had, has the same reading after one more
+pub read_as_before : (old new : BTreeMap Place ReadPlace) (at : Place) (one : ReadPlace) (what : Found) → are_for old.entries ≡ true → is_for at what ≡ true → HasBefore what at old.entries
+    → one ≡ record { found = what; is_torn = false } → Updates place_cmp old new at (Some one) → new.entries ≡ insert_entry place_cmp old.entries at one → IsRead old.entries at what new.entries
+read_as_before old new at one what all kind before is updated put = record {
+  has = has_read old.entries new.entries at one what updated.0
+      (ap (λ (n : ReadPlace). Some (reading (at, n))) is
+      ∙ same_again (looked_up old.entries at) (subst (λ o. IfSome o IsAsFound) (reading_of-lookup old.entries at) before)
+      ∙ sym (ap (λ o. Some (read_more o at rows)) (reading_of-lookup old.entries at)));
+  kinds = ap are_for put ∙ insert_fits old.entries at one all (ap (λ (n : ReadPlace). is_for at n.found) is ∙ kind);
+}
   where
-    made : Reading
-    made = read_more (reading_of readings at) at (rows_at now at)
+    rows : List PlainRow
+    rows = found_rows at what
 
-    by_place : (same_place at q ≡ true) ⊎ (same_place at q ≡ false) → reading_of readings q ≡ cond (same_place at q) (Some made) (reading_of readings q)
-    by_place (inl here) =
-        ap (reading_of readings) (sym ((same_place_decides at q).0 here)) ∙ again now at (reading_of readings at) (all at) there
-        ∙ sym (ap (λ b. cond b (Some made) (reading_of readings q)) here)
-    by_place (inr apart) = sym (ap (λ b. cond b (Some made) (reading_of readings q)) apart)
+    IsAsFound : Reading → Type 0
+    IsAsFound one = (one.is_torn ≡ false) × (one.found ≡ rows)
 
--- whether there is an entry
-pub has_entry : (entries : Entries) (at : Place) → is_some (looked_up entries at) ≡ is_some (reading_of (readings_of entries) at)
-has_entry entries at = by_entry (looked_up entries at) ∙ sym (ap is_some (reading_of-lookup entries at))
-  where
-    by_entry : (o : Option ReadPlace) → is_some o ≡ is_some (option_map (λ one. reading (at, one)) o)
-    by_entry None = refl
-    by_entry (Some one) = refl
+    same_again : (o : Option ReadPlace) → IfSome (option_map (λ n. reading (at, n)) o) IsAsFound → Some (reading (at, record { found = what; is_torn = false })) ≡ Some (read_more (option_map (λ n. reading (at, n)) o) at rows)
+    same_again None is = refl
+    same_again (Some n) is =
+        let torn : (n.is_torn || not (same_rows (found_rows at n.found) rows)) ≡ false = or_none n.is_torn (not (same_rows (found_rows at n.found) rows)) is.0 (ap not ((same_rows_decide (found_rows at n.found) rows).1 is.1)) in
+        let same : reading (at, record { found = what; is_torn = false }) ≡ read_more (Some (reading (at, n))) at rows = λ i. record { at = at; found = sym is.1 i; is_torn = sym torn i } in
+        ap Some same
+
+-- what was found where nothing has changed is what is committed
+pub had_before : (now : List PlainRow) (entries : Entries) (at : Place) (what : Found) → AreUnchanged now (readings_of entries) → rows_at now at ≡ found_rows at what → HasBefore what at entries
+had_before now entries at what all stands = subst (λ rows. IfSome (reading_of (readings_of entries) at) (λ before. (before.is_torn ≡ false) × (before.found ≡ rows))) stands (all at)
 
 -- a plan whose place was read, and then done
 pub worked_unchanged : {E : Type 0} (tables : Stored) (old between new : Transaction) (plan : Plan) (result : Result Answer E) → HasReadIfAny tables.rows old.readings (place_of plan) between.readings

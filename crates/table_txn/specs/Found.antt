@@ -1,5 +1,5 @@
 -- What is found at a place, as it is kept: one row or none, or the rows of a table.
-use Rattle.std.specs.Prelude.{◌≡◌, ◌&&◌, Bool, true, false, List, [], Option, Some, None, map}
+use Rattle.std.specs.Prelude.{◌≡◌, ◌&&◌, Bool, true, false, List, [], Option, Some, None, IfSome, map}
 use Rattle.std.specs.List.{list_all}
 use Rattle.std.specs.Cmp.Lexicographic.{pointwise}
 use Rattle.std.specs.Option.{option_copied}
@@ -73,6 +73,10 @@ are_for entries = list_all (λ entry. is_for entry.0 entry.1.found) entries
 pub record IsRead (old : List (Place × ReadPlace)) (at : Place) (what : Found) (new : List (Place × ReadPlace)) : Type 0 where
   pub has : HasRead (readings_of old) at (found_rows at what) (readings_of new)
   pub kinds : are_for new ≡ true
+
+-- a place that was not read, or has what it had at each of its reads
+abbrev pub HasBefore : Found → Place → List (Place × ReadPlace) → Type 0
+HasBefore what at entries = IfSome (reading_of (readings_of entries) at) (λ before. (before.is_torn ≡ false) × (before.found ≡ found_rows at what))
 
 -- a place without a reading, and nothing has changed
 pub record IsNotRead (old : List (Place × ReadPlace)) (at : Place) (new : List (Place × ReadPlace)) : Type 0 where

@@ -3,7 +3,7 @@ ghost use Rattle.std.specs.Prelude.{◌≡◌, ◌||◌, not, true, [], OnOk, On
 ghost use Rattle.std.specs.Option.{option_copied};
 ghost use Rattle.svc_values.specs.meaning.Tables.{rows_at};
 ghost use Rattle.table_txn.specs.Readings.{HasRead, HasReadIfAny, AreApart, AreUnchanged, reading_of, first_changed};
-ghost use Rattle.table_txn.specs.Found.{kept, is_for, are_for, same_found, IsRead, IsNotRead};
+ghost use Rattle.table_txn.specs.Found.{kept, is_for, are_for, same_found, HasBefore, IsRead, IsNotRead};
 
 use crate::found::{Committed, Found, committed_at};
 use std::alloc::Global;
@@ -63,15 +63,15 @@ fn read_again(places: &mut ReadPlaces, at: &Place, committed: Committed) -> bool
     true
 }
 
-/// The first read of a place.
-fn read_first(
+/// Reads a place that was not read before, or has what it had: then its reading has the same again.
+fn read_as_before(
     alloc: Global,
     places: &mut ReadPlaces,
     at: Place,
     committed: Committed,
 ) -> Result<(), NoMemory>
     requires kind { is_for at (kept committed) ≡ true }
-    requires absent { IsNotRead places.old.entries at places.old.entries }
+    requires before { HasBefore (kept committed) at places.old.entries }
     requires kinds { are_for places.old.entries ≡ true }
     ensures ok { OnOk result (IsRead places.old.entries at (kept committed.entry) places.new.entries) }
     ensures err { OnErr result (places.new.entries ≡ places.old.entries) }
@@ -101,27 +101,17 @@ impl Readings {
         if read_again(&mut self.places, &at, committed) {
             return Ok(());
         }
-        read_first(self.alloc, &mut self.places, at, committed)
-    }
-
-    /// Whether a place was read.
-    fn has(&self, at: &Place) -> bool
-        ensures { result ≡ is_some (reading_of self.now at.now) }
-    {
-        self.places.contains_key(at)
+        read_as_before(self.alloc, &mut self.places, at, committed)
     }
 
     /// Reads a place where each one that was read has what it had: the logarithm of the places and of
-    /// the rows, also for a table that was read before.
+    /// the rows, also for a table that was read before. A reading that was there has the same again.
     fn add_unchanged(&mut self, tables: &Tables, at: Place) -> Result<(), NoMemory>
         requires { AreUnchanged tables.now.rows self.old }
         ensures { OnOk result (HasRead self.old at (rows_at tables.now.rows at) self.new) }
     {
-        if self.has(&at) {
-            return Ok(());
-        }
         let committed = committed_at(tables, &at);
-        read_first(self.alloc, &mut self.places, at, committed)
+        read_as_before(self.alloc, &mut self.places, at, committed)
     }
 
     /// Reads a place, which is known to have what it had, if it was read before, or is not.

@@ -1,22 +1,12 @@
-use Rattle.std.proofs.Common.{◌≡◌, false, refl, sym, ap, ◌∙◌}
-use Rattle.std.specs.Prelude.{Option, None, Some, is_some}
-use Rattle.table_txn.specs.Readings.{Reading, reading_of}
-use Rattle.table_txn.proofs.Unchanged.{read_unchanged}
+use Rattle.std.proofs.Common.{sym, subst}
+use Rattle.table_txn.specs.Found.{kept}
+use Rattle.table_txn.specs.Readings.{AreUnchanged}
+use Rattle.table_txn.proofs.Unchanged.{had_before}
 use Rattle.table_txn.proofs.readings.Readings.add_unchanged.Goals as goal
 
-none_there : (o : Option Reading) → is_some o ≡ false → o ≡ None
-none_there None is = refl
-none_there (Some one) is = cc
-
-pub returns-then-has : goal.returns-then-has
-returns-then-has c = read_unchanged c.args.tables.now.rows c.args.self.now c.args.at c.requires (sym c.has.ensures ∙ c.if-has.true)
-
-pub read_first-requires : goal.read_first-requires
-read_first-requires c = record {
+pub read_as_before-requires : goal.read_as_before-requires
+read_as_before-requires c = record {
   kind = c.committed_at-committed.ensures.kind;
-  absent = record {
-    absent = ap (λ r. reading_of r c.args.at) c.self.view_is ∙ none_there (reading_of c.args.self.now c.args.at) (sym c.has.ensures ∙ c.if-has.false);
-    same = refl;
-  };
+  before = had_before c.args.tables.now.rows c.self.inside.places.entries c.args.at (kept c.committed_at-committed.result) (subst (AreUnchanged c.args.tables.now.rows) (sym c.self.view_is) c.requires) c.committed_at-committed.ensures.stands;
   kinds = c.self.invariant;
 }
