@@ -1,2 +1,3 @@
 mod Beginning
+mod Legality
 mod Lines

@@ -1,5 +1,6 @@
 mod Firsts
 mod Giving
 mod Searching
+mod WaysCounted
 mod WaysGiven
 mod WaysTaken

@@ -8,11 +8,11 @@
 mod asked;
 mod change;
 mod count;
+mod doubts;
 mod kept;
 mod numbers;
 mod search;
 mod sequence;
-mod trials;
 mod ways;
 
 pub use asked::{asked_by_call, drawn_whole};
@@ -20,4 +20,3 @@ pub use kept::{Kept, granted};
 pub use numbers::Numbers;
 pub use search::{Trial, meets_with};
 pub use sequence::Sequence;
-pub use trials::Trials;

@@ -1,10 +1,9 @@
 //! Values that are drawn and not told.
-ghost use Rattle.std.specs.Prelude.{◌≡◌, ◌++◌, ℕ, IfOk, IsTrue, OnOk, length};
-ghost use Rattle.server_model.specs.meaning.NewValues.{may_give, meets_with as meets_with_def};
+ghost use Rattle.std.specs.Prelude.{◌≡◌, ◌++◌, IfOk, IsTrue, OnOk};
+ghost use Rattle.server_model.specs.meaning.NewValues.{meets_with as meets_with_def};
 ghost use Rattle.legal_draws.specs.Trials.{FailsBehind};
 
 use crate::numbers::Numbers;
-use crate::trials::Trials;
 use crate::ways::Given;
 use std::alloc::Global;
 use svc_values::{Draw, DrawKind, NoMemory};
@@ -35,21 +34,9 @@ struct Search<'a, T> {
 }
 
 impl<T: Trial> Search<'_, T> {
-    /// In how many ways a draw may go. Where there is none, that is in vain without a trial.
-    fn ways(&self, kind: &DrawKind, numbers: &Numbers, trials: &mut Trials) -> Result<u64, NoMemory>
-        ensures { IfOk result (λ ways. (now : ℕ)
-            → length (may_give numbers.now now kind.now) ≡ ways) }
-    {
-        let ways = numbers.ways(kind)?;
-        if ways == 0 {
-            trials.spend()?;
-        }
-        Ok(ways)
-    }
-
     /// Whether it is known, when the first way was in vain and before the second one is tried, that
     /// none behind these draws meets the test.
-    fn is_in_vain(&self, draws: &[Draw], way: u64, trials: &mut Trials) -> Result<bool, NoMemory>
+    fn is_in_vain(&self, draws: &[Draw], way: u64) -> Result<bool, NoMemory>
         ensures { IfOk result (λ fails. IsTrue fails
             → FailsBehind (T.test self.now.trial.now) draws.now) }
     {
@@ -57,21 +44,7 @@ impl<T: Trial> Search<'_, T> {
             return Ok(false);
         }
         let fails = self.trial.fails_behind(draws)?;
-        if fails {
-            trials.spend()?;
-        }
         Ok(fails)
-    }
-
-    /// Whether these draws meet the test.
-    fn meets(&self, draws: &[Draw], trials: &mut Trials) -> Result<bool, NoMemory>
-        ensures { IfOk result (λ met. met ≡ T.test self.now.trial.now draws.now) }
-    {
-        let met = self.trial.meets(draws)?;
-        if !met {
-            trials.spend()?;
-        }
-        Ok(met)
     }
 
     /// Whether some values for what is asked meet the test behind these draws.
@@ -80,7 +53,6 @@ impl<T: Trial> Search<'_, T> {
         draws: &mut Vec<Draw>,
         asked: &[DrawKind],
         numbers: &Numbers,
-        trials: &mut Trials,
     ) -> Result<bool, NoMemory>
         ensures met { IfOk result (λ met. met ≡ meets_with_def
             (λ more. T.test self.now.trial.now (draws.old.items ++ more))
@@ -88,15 +60,15 @@ impl<T: Trial> Search<'_, T> {
         ensures same { OnOk result (draws.new.items ≡ draws.old.items) }
     {
         let [kind, more @ ..] = asked else {
-            return self.meets(draws.as_slice(), trials);
+            return self.trial.meets(draws.as_slice());
         };
-        for way in 0..self.ways(kind, numbers, trials)? {
-            if self.is_in_vain(draws.as_slice(), way, trials)? {
+        for way in 0..numbers.ways(kind)? {
+            if self.is_in_vain(draws.as_slice(), way)? {
                 return Ok(false);
             }
             let Given { draw, after } = numbers.given(self.alloc, self.tick, kind, way)?;
             draws.push(draw)?;
-            let met = self.meets_behind(draws, more, &after, trials)?;
+            let met = self.meets_behind(draws, more, &after)?;
             draws.pop();
             if met {
                 return Ok(true);
@@ -114,21 +86,20 @@ impl<T: Trial> Search<'_, T> {
 /// fail behind the values before it; where it is, no other one is tried.
 ///
 /// So a call that meets the test with the first values costs one trial. One that meets it with no
-/// values costs at most the product of these numbers over its sequences, and twice that in trials.
-/// Each trial takes a copy of the sequences for each value besides. Where more are in vain than
-/// `trials` has left, that is told as want of memory.
+/// values costs at most the product of these numbers over its sequences, and twice that in trials:
+/// `Numbers::doubts` tells the product before anything is tried. Each trial takes a copy of the
+/// sequences for each value besides.
 pub fn meets_with<T: Trial>(
     alloc: Global,
     trial: &T,
     tick: u64,
     asked: &[DrawKind],
     numbers: &Numbers,
-    trials: &mut Trials,
 ) -> Result<bool, NoMemory>
     ensures { IfOk result (λ met.
         met ≡ meets_with_def (T.test trial.now) tick asked.now numbers.now) }
 {
     let search = Search { alloc, trial, tick };
     let mut draws = Vec::new(alloc);
-    search.meets_behind(&mut draws, asked, numbers, trials)
+    search.meets_behind(&mut draws, asked, numbers)
 }

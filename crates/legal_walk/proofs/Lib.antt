@@ -1,5 +1,6 @@
 mod Blocking
 mod Counting
+mod Doubting
 mod Drawing
 mod Goings
 mod Holding

@@ -4,6 +4,7 @@
 mod alone;
 mod attempt;
 mod counts;
+mod doubts;
 mod judging;
 mod ledger;
 mod ongoing;
@@ -17,4 +18,4 @@ mod walk;
 mod walker;
 
 pub use start::Start;
-pub use walk::{Unlawful, first_unlawful};
+pub use walk::{Walked, first_unlawful};

@@ -4,7 +4,7 @@ use Rattle.plain_items.specs.Views.{thing_as}
 use Rattle.shown_clauses.specs.meaning.Things.{outcome_of}
 use Rattle.server_model.specs.meaning.Walk.{if_uncommitted, stopped, with_perhaps}
 use Rattle.legal_walk.specs.Moving.{passed}
-use Rattle.legal_walk.proofs.Stepping.{Does, moved, stops, told_sessions, with_trials}
+use Rattle.legal_walk.proofs.Stepping.{Does, moved, stops, told_sessions}
 use Rattle.legal_walk.proofs.walker.Walker.does.Goals as goal
 
 pub returns-in_ok-begin-in-Began : goal.returns-in_ok-begin-in-Began
@@ -17,9 +17,8 @@ returns-in_ok-pass-in-MetBlock c = λ base walk walks.
     let called = c.in-MetBlock.call.now in
     let new = c.pass.new.self in
     let may = c.in_ok-may-in-MetBlock.may in
-    let trials = c.may_meet.new.trials in
-    subst (λ (t : Thing). Does base walk c.args.now c.args.session.now (thing_as t) may (record old { service = new; trials = trials })) (sym c.in-MetBlock.is)
-    (c.in_ok-may-in-MetBlock.ensures base walk walks, λ holds. with_trials base (passed walk called) (record old { service = new }) trials (moved base walk old (λ w. passed w called) new c.in_ok-pass-in-MetBlock.ensures refl walks))
+    subst (λ (t : Thing). Does base walk c.args.now c.args.session.now (thing_as t) may (record old { service = new })) (sym c.in-MetBlock.is)
+    (c.in_ok-may-in-MetBlock.ensures base walk walks, λ holds. moved base walk old (λ w. passed w called) new c.in_ok-pass-in-MetBlock.ensures refl walks)
 
 pub returns-in_ok-tell-in-ToldOutcome : goal.returns-in_ok-tell-in-ToldOutcome
 returns-in_ok-tell-in-ToldOutcome c = λ base walk walks.
