@@ -1,5 +1,5 @@
 -- What members are read as that are read one after the other.
-use Rattle.std.proofs.Common.{◌≡◌, ℕ, List, [], ◌∷◌, length, Bool, true, false, cond, Option, Some, None, option_map, Result, Ok, Err, codes, refl, sym, ap, subst, ◌∙◌}
+use Rattle.std.proofs.Common.{◌≡◌, ℕ, List, [], ◌∷◌, Bool, true, false, cond, Option, Some, None, option_map, Result, Ok, Err, codes, refl, sym, ap, subst, ◌∙◌}
 use Rattle.std.specs.Prelude.{◌||◌, is_some, IfSome, MatchOption}
 use Rattle.std.specs.Result.{result_ok}
 use Rattle.std.proofs.Math.Path.{fun_ext}
@@ -20,9 +20,9 @@ use Rattle.document_forms.specs.meaning.Tables.{tables_of}
 use Rattle.document_forms.specs.meaning.Events.{schedule_of}
 use Rattle.doc_reader.specs.declared.streamed.Ahead.{Ahead}
 use Rattle.doc_reader.specs.meaning.Documents.{clients_of, document_members}
-use Rattle.doc_reader.specs.Ahead.{held_members, held_back, number_in, AreRead}
-use Rattle.json_form.proofs.Offered.{given, without_put, without_other}
-use Rattle.document_forms.proofs.Offered.{at_this, at_other, none_there}
+use Rattle.doc_reader.specs.Ahead.{held_members, held_back, AreRead}
+use Rattle.json_form.proofs.Offered.{without_put, without_other}
+use Rattle.document_forms.proofs.Offered.{at_this, at_other}
 
 given_some : {A : Type 0} (P : A → Type 0) (r : Result A DocFault) (read : Result A Fault) → Gives r read → ((x : A) → read ≡ Ok x → P x) → IfSome (result_ok r) P
 given_some P (Ok x) read h more = more x h
@@ -58,27 +58,25 @@ pub tables_put : (old : Ahead) (tables : List DocTable) (d : Data) (ms : Named) 
 tables_put old tables d ms e are = record {
   tables = ap (option_map tables_of) (at_this (codes "tables") d ms refl) ∙ ap (λ r. Some r) e;
   clients = ap (option_map clients_of) (at_other (codes "clients") (codes "tables") d ms refl) ∙ are.clients;
-  schedule = ap (option_map (schedule_of (number_in old.clients) true)) (at_other (codes "schedule") (codes "tables") d ms refl) ∙ are.schedule;
+  schedule = ap (option_map (schedule_of 64 true)) (at_other (codes "schedule") (codes "tables") d ms refl) ∙ are.schedule;
   others = are.others ∙ sym (ap (λ m. without (codes "schedule") (without (codes "clients") m)) (without_put (codes "tables") d ms));
 }
 
-pub clients_put : (old : Ahead) (clients : List Client) (d : Data) (ms : Named) → old.schedule ≡ None → clients_of d ≡ Ok clients → AreRead old ms
+pub clients_put : (old : Ahead) (clients : List Client) (d : Data) (ms : Named) → clients_of d ≡ Ok clients → AreRead old ms
     → AreRead (record { tables = old.tables; clients = Some clients; schedule = old.schedule; others = old.others }) (putting (codes "clients") d ms)
-clients_put old clients d ms before e are =
-    let none : option_map (given {A = List Event}) old.schedule ≡ None = ap (option_map (given {A = List Event})) before in
-    let unread : ms (codes "schedule") ≡ None = none_there (schedule_of (number_in old.clients) true) (ms (codes "schedule")) (are.schedule ∙ none) in record {
-      tables = ap (option_map tables_of) (at_other (codes "tables") (codes "clients") d ms refl) ∙ are.tables;
-      clients = ap (option_map clients_of) (at_this (codes "clients") d ms refl) ∙ ap (λ r. Some r) e;
-      schedule = ap (option_map (schedule_of (length clients) true)) (at_other (codes "schedule") (codes "clients") d ms refl ∙ unread) ∙ sym none;
-      others = are.others ∙ sym (ap (λ m. without (codes "schedule") (without (codes "clients") m)) (without_other (codes "clients") (codes "tables") d ms refl) ∙ ap (without (codes "schedule")) (without_put (codes "clients") d (without (codes "tables") ms)));
-    }
+clients_put old clients d ms e are = record {
+  tables = ap (option_map tables_of) (at_other (codes "tables") (codes "clients") d ms refl) ∙ are.tables;
+  clients = ap (option_map clients_of) (at_this (codes "clients") d ms refl) ∙ ap (λ r. Some r) e;
+  schedule = ap (option_map (schedule_of 64 true)) (at_other (codes "schedule") (codes "clients") d ms refl) ∙ are.schedule;
+  others = are.others ∙ sym (ap (λ m. without (codes "schedule") (without (codes "clients") m)) (without_other (codes "clients") (codes "tables") d ms refl) ∙ ap (without (codes "schedule")) (without_put (codes "clients") d (without (codes "tables") ms)));
+}
 
-pub schedule_put : (old : Ahead) (clients : List Client) (events : List Event) (d : Data) (ms : Named) → old.clients ≡ Some clients → schedule_of (length clients) true d ≡ Ok events → AreRead old ms
+pub schedule_put : (old : Ahead) (events : List Event) (d : Data) (ms : Named) → schedule_of 64 true d ≡ Ok events → AreRead old ms
     → AreRead (record { tables = old.tables; clients = old.clients; schedule = Some events; others = old.others }) (putting (codes "schedule") d ms)
-schedule_put old clients events d ms there e are = record {
+schedule_put old events d ms e are = record {
   tables = ap (option_map tables_of) (at_other (codes "tables") (codes "schedule") d ms refl) ∙ are.tables;
   clients = ap (option_map clients_of) (at_other (codes "clients") (codes "schedule") d ms refl) ∙ are.clients;
-  schedule = ap (option_map (schedule_of (number_in old.clients) true)) (at_this (codes "schedule") d ms refl) ∙ ap (λ r. Some r) (ap (λ n. schedule_of n true d) (ap number_in there) ∙ e);
+  schedule = ap (option_map (schedule_of 64 true)) (at_this (codes "schedule") d ms refl) ∙ ap (λ r. Some r) e;
   others = are.others ∙ sym (ap (λ m. without (codes "schedule") (without (codes "clients") m)) (without_other (codes "schedule") (codes "tables") d ms refl)
       ∙ ap (without (codes "schedule")) (without_other (codes "schedule") (codes "clients") d (without (codes "tables") ms) refl) ∙ without_put (codes "schedule") d (without (codes "clients") (without (codes "tables") ms)));
 }
@@ -126,7 +124,7 @@ held_put old others k d ms h put are =
     let apart = one_of Apart held_members k h held_apart in record {
       tables = ap (option_map tables_of) (at_other (codes "tables") k d ms apart.tables) ∙ are.tables;
       clients = ap (option_map clients_of) (at_other (codes "clients") k d ms apart.clients) ∙ are.clients;
-      schedule = ap (option_map (schedule_of (number_in old.clients) true)) (at_other (codes "schedule") k d ms apart.schedule) ∙ are.schedule;
+      schedule = ap (option_map (schedule_of 64 true)) (at_other (codes "schedule") k d ms apart.schedule) ∙ are.schedule;
       others = put ∙ ap (putting k d) are.others ∙ sym (ap (λ m. without (codes "schedule") (without (codes "clients") m)) (without_other k (codes "tables") d ms apart.from_tables)
           ∙ ap (without (codes "schedule")) (without_other k (codes "clients") d (without (codes "tables") ms) apart.from_clients) ∙ without_other k (codes "schedule") d (without (codes "clients") (without (codes "tables") ms)) apart.from_schedule);
     }

@@ -1,12 +1,10 @@
 //! Reader of a document whose tables, clients and events are read one after the other.
-ghost use Rattle.std.specs.Prelude.{◌≡◌, ◌<◌, ◌&&◌, not, length, true, Some, None, IfSome, Ok, codes, option_map};
-ghost use Rattle.std.specs.List.{list_any};
+ghost use Rattle.std.specs.Prelude.{◌≡◌, ◌<◌, length, true, Some, None, IfSome, Ok, codes, option_map};
 ghost use Rattle.serde_json.specs.Data.{Data, Members as MemberData, object};
 ghost use Rattle.serde_json.specs.Read.{read};
 ghost use Rattle.json_form.specs.meaning.Objects.{Named, named, known, is_among as is_among_def};
 ghost use Rattle.json_form.specs.Objects.{members_at};
 ghost use Rattle.json_form.specs.Streams.{Begins, members_ahead as members_ahead_def};
-ghost use Rattle.document_forms.specs.Keeping.{takes_store};
 ghost use Rattle.document_forms.specs.meaning.Tables.{tables_of};
 ghost use Rattle.doc_reader.specs.meaning.Documents.{begin_of, document_members, document_of, document_at};
 ghost use Rattle.doc_reader.specs.Keeping.{IsDocument};
@@ -14,11 +12,11 @@ ghost use Rattle.doc_reader.specs.Ahead.{held_members, held_back, AreRead, Passe
 
 use crate::counts::small;
 use crate::document::{Begin, begin_from, clients_ahead, document_with};
-use document_forms::{schedule_ahead, tables_ahead, take_store};
+use document_forms::{all_fit, schedule_ahead, tables_ahead};
 use document_limits::DOCUMENT_LIMIT;
 use json::{Reader, Scratch};
 use json_form::{Members, is_among, object_begins, value_from};
-use outage_schedule::{Clients, DocTables, Document, Event, Events};
+use outage_schedule::{Clients, DocTables, Document, Events};
 use std::alloc::Global;
 use svc_values::Listed;
 
@@ -58,25 +56,21 @@ impl Ahead {
         Some(())
     }
 
-    /// The clients, behind which no schedule was read, since it goes by their number.
     fn take_clients(&mut self, alloc: Global, tokens: &mut Reader<'_>, depth: usize) -> Option<()>
         ensures read { IfSome result (λ _. Passes depth (codes "clients") self.old tokens.old self.new tokens.new) }
         ensures shorter { IfSome result (λ _. length tokens.new < length tokens.old) }
     {
-        if self.schedule.is_some() {
-            return None;
-        }
         let clients = clients_ahead(alloc, tokens, depth)?;
         self.clients = Some(clients);
         Some(())
     }
 
+    /// The events, whose clients may stand behind them.
     fn take_schedule(&mut self, alloc: Global, tokens: &mut Reader<'_>, depth: usize) -> Option<()>
         ensures read { IfSome result (λ _. Passes depth (codes "schedule") self.old tokens.old self.new tokens.new) }
         ensures shorter { IfSome result (λ _. length tokens.new < length tokens.old) }
     {
-        let clients = self.clients.as_ref()?.len() as u64;
-        let events = schedule_ahead(alloc, tokens, depth, clients)?;
+        let events = schedule_ahead(alloc, tokens, depth)?;
         self.schedule = Some(events);
         Some(())
     }
@@ -157,14 +151,7 @@ fn begin_with(alloc: Global, others: &mut Members, tables: Option<DocTables>) ->
     }
 }
 
-/// Whether a crash takes the only store away.
-fn lose_all(standby: bool, events: &[Event]) -> bool
-    ensures { result ≡ (not standby && list_any takes_store events.now) }
-{
-    !standby && take_store(events)
-}
-
-/// The document of which this was read.
+/// The document of which this was read. An event that does not fit it is at fault.
 fn joined(alloc: Global, ahead: Ahead) -> Option<Document>
     ensures { IfSome result (λ document. (ms : MemberData) → known document_members ms ≡ Ok tt → AreRead ahead (named ms)
         → document_of (object ms) ≡ Ok document) }
@@ -178,7 +165,8 @@ fn joined(alloc: Global, ahead: Ahead) -> Option<Document>
     let clients = clients?;
     let begin = begin_with(alloc, &mut others, tables)?;
     let events = schedule.unwrap_or(Listed::new(alloc));
-    if lose_all(begin.service.standby, events.as_slice()) {
+    let count = clients.len() as u64;
+    if !all_fit(events.as_slice(), count, begin.service.standby) {
         return None;
     }
     small(alloc, document_with(begin, clients, events)).ok()

@@ -11,5 +11,5 @@ pub mod ReadService
 pub mod ReadScripts
 pub mod RequestsAhead
 pub mod ReadEvents
-pub mod OneStore
+pub mod Fitting
 pub mod Offered

@@ -1,5 +1,5 @@
 -- What the parts of a document that were read keep to.
-use Rattle.std.specs.Prelude.{ℕ, pos, ◌==◌, Bool, true, false, ◌&&◌, ◌||◌, nat_le, nat_lt, int_le, length}
+use Rattle.std.specs.Prelude.{ℕ, pos, ◌==◌, Bool, true, ◌&&◌, ◌||◌, nat_le, int_le, length}
 use Rattle.std.specs.List.{list_all}
 use Rattle.std.specs.Str.{bytes_eq}
 use Rattle.json_form.specs.Arrays.{have_distinct_keys}
@@ -49,10 +49,11 @@ is_client client = list_all is_request client.requests
 abbrev pub is_pick : Bool → ℕ → Bool
 is_pick standby pick = nat_le pick 3 || (standby && nat_le pick 7)
 
--- the first store is lost for good behind it
-abbrev pub takes_store : Event → Bool
-takes_store (event.Crash connection after pick) = nat_lt 3 pick
-takes_store _ = false
+-- its client is among so many, and the first store is lost for good behind it only where there is a second one
+abbrev pub fits : ℕ → Bool → Event → Bool
+fits clients standby (event.Go client) = nat_le client clients
+fits clients standby (event.Crash connection after pick) = standby || nat_le pick 3
+fits clients standby _ = true
 
 -- an event of a document with so many clients, and with a second store or not
 unfoldable pub is_event : ℕ → Bool → Event → Bool

@@ -1,10 +1,10 @@
 //! Readers of the events of a schedule: arrays that begin with a word.
 ghost use Rattle.std.specs.Prelude.{◌≡◌, ◌≤◌, ◌<◌, true, length, IfOk, IfSome};
-ghost use Rattle.std.specs.List.{list_any};
+ghost use Rattle.std.specs.List.{list_all};
 ghost use Rattle.serde_json.specs.View.{view};
 ghost use Rattle.json_form.specs.Faults.{Gives};
 ghost use Rattle.document_forms.specs.meaning.Events.{count_of, pick_of, lost_pick_of, go_of, serve_of, reap_of, cut_of, crash_of, upcrash_of, bare_of, outside_of, ltxid_of, ask_of, failover_of, event_by as event_by_def, event_of, schedule_of};
-ghost use Rattle.document_forms.specs.Keeping.{takes_store as takes_store_def};
+ghost use Rattle.document_forms.specs.Keeping.{fits as fits_def};
 ghost use Rattle.json_form.specs.Streams.{Begins};
 
 use crate::event_ahead::{event_ahead, ltxid_ahead};
@@ -316,37 +316,36 @@ impl Reader<Events> for ScheduleReader {
     }
 }
 
-/// Whether the first store is lost for good behind this event, so that there has to be a second one.
-fn takes_store(event: &Event) -> bool
-    ensures { result ≡ takes_store_def event.now }
+/// Whether a document with so many clients, and with a second store or not, may have this event of one with
+/// more clients and a second store: its client is there, and the first store is lost for good only where
+/// there is a second one.
+fn fits(event: &Event, clients: u64, standby: bool) -> bool
+    ensures { result ≡ fits_def clients standby event.now }
 {
     match event {
-        Event::Crash { pick, .. } => *pick > 3,
-        _ => false,
+        Event::Go { client } => *client <= clients,
+        Event::Crash { pick, .. } => standby || *pick <= 3,
+        _ => true,
     }
 }
 
-/// Whether the first store is lost for good behind one of these events.
-pub fn take_store(events: &[Event]) -> bool
-    ensures { result ≡ list_any takes_store_def events.now }
+/// Whether such a document may have all these events. The cost is linear in their number.
+pub fn all_fit(events: &[Event], clients: u64, standby: bool) -> bool
+    ensures { result ≡ list_all (fits_def clients standby) events.now }
 {
-    events.iter().any(|event| takes_store(event))
+    events.iter().all(|event| fits(event, clients, standby))
 }
 
-/// The events that `ScheduleReader` reads where there is a second store, each read as soon as its tokens are
-/// passed. Without one they are read alike where `take_store` finds none that takes the first store away.
-pub fn schedule_ahead(
-    alloc: Global,
-    tokens: &mut json::Reader<'_>,
-    depth: usize,
-    clients: u64,
-) -> Option<Events>
+/// The events that `ScheduleReader` reads where there are as many clients as there may be and a second store,
+/// each read as soon as its tokens are passed. With fewer clients, or without a second store, they are read
+/// alike where `all_fit` says so.
+pub fn schedule_ahead(alloc: Global, tokens: &mut json::Reader<'_>, depth: usize) -> Option<Events>
     ensures read { IfSome result
-        (λ events. Begins (schedule_of clients true) depth tokens.old events tokens.new) }
+        (λ events. Begins (schedule_of 64 true) depth tokens.old events tokens.new) }
     ensures shorter { IfSome result (λ _. length tokens.new < length tokens.old) }
 {
     let reader = EventReader {
-        clients,
+        clients: Count::Clients.limit().most as u64,
         standby: true,
     };
     let most = Count::Events.limit().most;

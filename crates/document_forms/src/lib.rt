@@ -12,7 +12,7 @@ mod service;
 mod table;
 mod table_ahead;
 
-pub use event::{ScheduleReader, schedule_ahead, take_store};
+pub use event::{ScheduleReader, all_fit, schedule_ahead};
 pub use script::ClientReader;
 pub use sequence::SequencesReader;
 pub use service::{ServiceReader, usual_service};

@@ -1,19 +1,17 @@
-use Rattle.std.proofs.Common.{◌≡◌, ◌&&◌, not, [], Some, option_map, List, true, false, codes, length, sym, ap, subst, ◌∙◌, rules}
-use Rattle.std.specs.List.{list_any}
+use Rattle.std.proofs.Common.{◌≡◌, [], Some, option_map, List, true, codes, length, sym, ap, subst, ◌∙◌, rules}
+use Rattle.std.specs.List.{list_all}
 use Rattle.std.specs.Option.{unwrap_or}
 use Rattle.json_form.specs.Faults.{Gives}
 use Rattle.json_form.specs.meaning.Objects.{named}
 use Rattle.outage_schedule.specs.declared.document.Client.{Client}
 use Rattle.outage_schedule.specs.declared.document.Document.{Document}
 use Rattle.outage_schedule.specs.declared.event.Event.{Event}
-use Rattle.document_forms.specs.Keeping.{takes_store}
-use Rattle.document_forms.specs.meaning.Events.{schedule_of}
+use Rattle.document_forms.specs.Keeping.{fits}
 use Rattle.doc_reader.specs.meaning.Counts.{if_small}
 use Rattle.doc_reader.specs.meaning.Documents.{document_with}
-use Rattle.doc_reader.specs.Ahead.{number_in}
 use Rattle.json_form.proofs.Offered.{given}
 use Rattle.doc_reader.proofs.OneByOne.{of_given}
-use Rattle.document_forms.proofs.Offered.{with_its_stores}
+use Rattle.document_forms.proofs.Offered.{as_they_fit}
 use Rattle.doc_reader.proofs.Joined.{document_joined}
 use Rattle.doc_reader.proofs.streamed.joined.Goals as goal
 
@@ -25,11 +23,12 @@ returns c =
     let there : c.args.ahead.clients ≡ Some cs = search rules in
     let last : events ≡ unwrap_or c.args.ahead.schedule [] = search rules in
     let sliced : c.as_slice.result.now ≡ events = search rules in
-    let fit : (not begin.service.standby && list_any takes_store events) ≡ false = ap (λ (es : List Event). not begin.service.standby && list_any takes_store es) (sym sliced) ∙ sym c.lose_all.ensures ∙ c.if-lose_all.false in
+    let counted : c.len-count.result ≡ length cs = search rules in
+    let judged : list_all (fits c.len-count.result begin.service.standby) c.as_slice.result.now ≡ true = search rules in
+    let fit : list_all (fits (length cs) begin.service.standby) (unwrap_or c.args.ahead.schedule []) ≡ true =
+    ap (λ n. list_all (fits n begin.service.standby) (unwrap_or c.args.ahead.schedule [])) (sym counted) ∙ ap (list_all (fits c.len-count.result begin.service.standby)) (sym last ∙ sym sliced) ∙ judged in
     let whole : Gives c.small.result (if_small (document_with begin cs events)) = subst (λ (d : Document). Gives c.small.result (if_small d)) c.document_with.ensures c.small.ensures in
     of_given _ c.small.result c.ok.result (if_small (document_with begin cs events)) c.ok.ensures.value whole
     (λ document small ms all are.
-    let o = named ms (codes "schedule") in
-    let told = ap (λ n. option_map (schedule_of n true) o) (sym (ap number_in there)) ∙ are.schedule in
-    let read = with_its_stores (length cs) begin.service.standby o c.args.ahead.schedule told (ap (λ (es : List Event). not begin.service.standby && list_any takes_store es) (sym last) ∙ fit) in
+    let read = as_they_fit 64 (length cs) begin.service.standby (named ms (codes "schedule")) c.args.ahead.schedule are.schedule fit in
     document_joined ms cs begin events document all (are.clients ∙ ap (option_map (given {A = List Client})) there) (c.in_ok-begin.ensures (named ms) are.others are.tables) (read ∙ ap (given {A = List Event}) (sym last)) small)

@@ -1,4 +1,4 @@
-use Rattle.std.proofs.Common.{◌≡◌, true, Some, sym, ap, ◌∙◌, rules}
+use Rattle.std.proofs.Common.{true}
 use Rattle.json_form.specs.Streams.{value_ahead}
 use Rattle.json_form.proofs.Offered.{begun}
 use Rattle.document_forms.specs.meaning.Events.{schedule_of}
@@ -7,6 +7,5 @@ use Rattle.doc_reader.proofs.streamed.Ahead.take_schedule.Goals as goal
 
 pub returns-clause-read : goal.returns-clause-read
 returns-clause-read c =
-    let there : c.args.self.now.clients ≡ Some c.in_ok-as_ref.field-0.now = search rules in
-    let b = begun (schedule_of c.len-clients.result true) (value_ahead c.args.depth c.args.tokens.now) c.in_ok-events.events c.schedule_ahead.new.tokens c.in_ok-events.ensures.read in
-    (b.0, b.1, λ ms are. schedule_put c.args.self.now c.in_ok-as_ref.field-0.now c.in_ok-events.events b.0 ms there (ap (λ n. schedule_of n true b.0) (sym c.len-clients.ensures) ∙ b.2) are)
+    let b = begun (schedule_of 64 true) (value_ahead c.args.depth c.args.tokens.now) c.in_ok-events.events c.schedule_ahead.new.tokens c.in_ok-events.ensures.read in
+    (b.0, b.1, λ ms are. schedule_put c.args.self.now c.in_ok-events.events b.0 ms b.2 are)
