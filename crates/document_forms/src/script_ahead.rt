@@ -1,6 +1,5 @@
 //! Readers of clients and their requests whose calls are read one after the other.
 ghost use Rattle.std.specs.Prelude.{◌≡◌, ◌<◌, ◌≤◌, length, true, Some, None, IfSome, Ok, codes};
-ghost use Rattle.json.specs.Json.{read_key};
 ghost use Rattle.serde_json.specs.Data.{Members as MemberData};
 ghost use Rattle.json_form.specs.declared.hexadecimal.Digits.TheVariants as digits;
 ghost use Rattle.json_form.specs.meaning.Arrays.{array_of, each_of};
@@ -15,7 +14,7 @@ use crate::number::whole;
 use crate::script::{RequestReader, SettingsReader, submitted_rightly};
 use call_forms::{CallReader, counted_ahead, list_ahead};
 use document_limits::{Count, Number};
-use json_form::{Digits, Reader, object_begins};
+use json_form::{Digits, Reader, member_begins, object_begins, object_ends};
 use outage_schedule::{Calls, Client, Request};
 use std::alloc::Global;
 use svc_values::{Listed, Settings};
@@ -161,27 +160,6 @@ pub(crate) fn request_ahead(
     };
     let rightly = submitted_rightly(alloc, request).ok()?;
     Some(rightly)
-}
-
-/// Passes the name of a member, if it is this one and is next.
-fn member_begins(tokens: &mut json::Reader<'_>, name: &str) -> Option<()>
-    ensures { IfSome result (λ _. read_key tokens.old ≡ Some (Some name.now, tokens.new)) }
-{
-    let found = tokens.next_key().ok()??;
-    if found != name {
-        return None;
-    }
-    Some(())
-}
-
-/// Passes the brace that ends an object, if it is next.
-fn object_ends(tokens: &mut json::Reader<'_>) -> Option<()>
-    ensures { IfSome result (λ _. read_key tokens.old ≡ Some (None, tokens.new)) }
-{
-    if tokens.next_key().ok()?.is_some() {
-        return None;
-    }
-    Some(())
 }
 
 /// The client that the tokens begin with, each of whose requests is read as soon as its tokens are passed. There

@@ -198,6 +198,10 @@ pub read_ahead : {A : Type 0} (read : Data → Result A Fault) (depth : ℕ) (ts
     → (d : Data) × (items_ahead depth ts ≡ Some (item d ds, rest)) × (read d ≡ Ok x)
 read_ahead read depth ts r rest x ds begins more = let b = begun read (value_ahead depth ts) x r begins in (b.0, item_ahead depth ts r rest b.0 ds b.1 more, b.2)
 
+-- a value that was passed and is read as this
+pub begins_with : {A : Type 0} (read : Data → Result A Fault) (depth : ℕ) (ts r : List Token) (d : Data) (x : A) → value_ahead depth ts ≡ Some (d, r) → read d ≡ Ok x → Begins read depth ts x r
+begins_with read depth ts r d x passed gives = ap (parse_map read) passed ∙ ap (λ q. Some (q, r)) gives
+
 -- ---- the whole text
 
 -- a value with no token behind it is what the text spells

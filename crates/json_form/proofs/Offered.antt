@@ -3,7 +3,7 @@ use Rattle.json_form.proofs.TakenOut.{has_after, required_after, member_after, o
 -- the tokens of an array, item by item
 pub use Rattle.json_form.proofs.WrittenTokens.{each_written, array_written}
 -- what a reading did that gave a value, one step after the other
-pub use Rattle.json_form.proofs.Readings.{after, given, ok_is, within_ok, passed, part_read, optional_keeps, new_key}
+pub use Rattle.json_form.proofs.Readings.{after, given, ok_is, within_ok, passed, part_read, member_read, optional_keeps, new_key}
 -- the items of an array that was read: how many, and what they keep to
 pub use Rattle.json_form.proofs.Readings.{each_keeps, each_long, ReadArray, read_array, all_push, all_read}
 -- items whose keys were new at their turns have different keys, and keep to what each of them does
@@ -14,6 +14,10 @@ pub use Rattle.json_form.proofs.Readings.{first_true, second_true, both_true}
 pub use Rattle.json_form.proofs.Ahead.{member_turn, members_over, begun, whole_read}
 -- items of a fixed form, and items whose number is told, that are read one after the other
 pub use Rattle.json_form.proofs.Ahead.{read_ahead, one_read, none_left, exact_read}
+-- a text, an object, an array's bracket, and a value that was passed
+pub use Rattle.json_form.proofs.Ahead.{string_ahead, object_ahead, bracket_ahead, begins_with}
+-- items that are passed one after the other: one more of them, their end, and those that were kept
+pub use Rattle.json_form.proofs.Ahead.{item_turn, items_over, items_before, items_before-no_items, one_more_item}
 -- a name, and the end of an object, leave fewer tokens
 pub use Rattle.json.proofs.Grammar.{read_key-shorter}
 -- parts of which a value of the form is made, by how deep it nests

@@ -8,10 +8,10 @@ use Rattle.std.proofs.lemmas.List.Folds.{list_all-append}
 use Rattle.serde_json.specs.Data.{Data, Items, no_items, item}
 use Rattle.serde_json.specs.Events.{items_len}
 use Rattle.json_form.specs.declared.fault.DocCode.TheVariants.{Limit, Duplicate}
-use Rattle.json_form.specs.meaning.Faults.{Fault, ◌>>=◌, here, within_step, within_item}
+use Rattle.json_form.specs.meaning.Faults.{Fault, ◌>>=◌, here, within_step, within, within_item}
 use Rattle.json_form.specs.meaning.Values.{items_of, expected}
 use Rattle.json_form.specs.meaning.Arrays.{Placed, each_after, each_of, in_count, counted_of, array_of, part, fresh}
-use Rattle.json_form.specs.meaning.Objects.{Named, read_or, optional}
+use Rattle.json_form.specs.meaning.Objects.{Named, read_or, optional, required, member_in}
 use Rattle.json_form.specs.meaning.Pointers.{escaped}
 
 -- both readings gave a value
@@ -95,6 +95,12 @@ pub part_read : {A : Type 0} (i : ℕ) (read : Data → Result A Fault) (ds : Pl
 unfolding part
 part_read i read ds x h =
     let a = after (expected (ds i)) (λ inner. within_item i (read inner)) x h in (a.0, within_ok (decimal i) (read a.0) x a.2)
+
+-- the member was there, and was read
+pub member_read : {A : Type 0} (name : List ℕ) (read : Data → Result A Fault) (ms : Named) (x : A) → member_in name read ms ≡ Ok x → (d : Data) × (read d ≡ Ok x)
+unfolding member_in
+member_read name read ms x h =
+    let a = after (required name ms) (λ d. within name (read d)) x h in (a.0, within_ok (escaped name) (read a.0) x a.2)
 
 -- a member that may be missing keeps what its reading keeps, and what stands for it where it is missing
 read_or_keeps : {A : Type 0} (Good : A → Type 0) (name : List ℕ) (otherwise : A) (read : Data → Result A Fault) (o : Option Data) (x : A) → Good otherwise → ((d : Data) (y : A) → read d ≡ Ok y → Good y) → read_or name otherwise read o ≡ Ok x → Good x
