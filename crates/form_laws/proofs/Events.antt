@@ -6,8 +6,8 @@ use Rattle.std.proofs.lemmas.Bool.{and_from}
 use Rattle.outage_schedule.specs.declared.event.Event.{Event}
 use Rattle.outage_schedule.specs.declared.item.Served.{Served}
 use Rattle.outage_schedule.specs.declared.note.Note.{Note}
-use Rattle.report_reader.specs.meaning.Items.{may_stand, note_of, fits_event}
-use Rattle.report_reader.specs.Keeping.{events_fit, word_of_item}
+use Rattle.told_reports.specs.meaning.Places.{may_stand, note_of, fits_event}
+use Rattle.told_reports.specs.Keeping.{events_fit, word_of_item}
 use Rattle.world_model.specs.meaning.Machines.{Machine}
 use Rattle.world_model.specs.meaning.Matching.{Noted}
 use Rattle.world_model.specs.meaning.Settings.{Setting, setting_of}

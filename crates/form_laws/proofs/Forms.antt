@@ -11,8 +11,8 @@ use Rattle.outage_schedule.specs.declared.item.Item.{Item}
 use Rattle.outage_schedule.specs.declared.item.Item.TheVariants as item
 use Rattle.outage_schedule.specs.declared.item.Served.{Served}
 use Rattle.outage_schedule.specs.declared.report.Report.{Report}
-use Rattle.report_reader.specs.Keeping.{events_fit, is_entry, is_item}
-use Rattle.report_reader.specs.meaning.Settings.{names_rise}
+use Rattle.told_reports.specs.Keeping.{events_fit, is_entry, is_item}
+use Rattle.told_reports.specs.meaning.Settings.{names_rise}
 use Rattle.reading_laws.specs.Calls.{fits_call}
 use Rattle.report_limits.specs.meaning.Limits.{fits_identifier, fits_replies, fits_session, fits_settings, fits_u64}
 use Rattle.reading_laws.specs.Reports.{fits_item, fits_served, IsOfForm, fits_entry, fits_piece}

@@ -14,7 +14,7 @@ use Rattle.outage_schedule.specs.declared.item.Item.{Item}
 use Rattle.outage_schedule.specs.declared.item.Item.TheVariants as item
 use Rattle.outage_schedule.specs.declared.item.Served.{Served}
 use Rattle.outage_schedule.specs.declared.note.Note.{Note}
-use Rattle.report_reader.specs.meaning.Items.{may_stand}
+use Rattle.told_reports.specs.meaning.Places.{may_stand}
 use Rattle.world_model.specs.meaning.Crashing.{is_crashed_item}
 use Rattle.world_model.specs.meaning.Links.{Link}
 use Rattle.world_model.specs.meaning.Machines.{Machine, start_of}

@@ -13,9 +13,9 @@ use Rattle.outage_schedule.specs.declared.note.FrameName.{FrameName}
 use Rattle.outage_schedule.specs.declared.note.FrameName.TheVariants as name
 use Rattle.outage_schedule.specs.declared.note.Note.{Note}
 use Rattle.outage_schedule.specs.declared.note.Note.TheVariants as note
-use Rattle.report_reader.specs.declared.item.ServedWord.{ServedWord}
-use Rattle.report_reader.specs.meaning.Items.{is_of_frame, may_stand}
-use Rattle.report_reader.specs.Keeping.{word_of_item}
+use Rattle.told_reports.specs.declared.place.ServedWord.{ServedWord}
+use Rattle.told_reports.specs.meaning.Places.{is_of_frame, may_stand}
+use Rattle.told_reports.specs.Keeping.{word_of_item}
 use Rattle.world_model.specs.meaning.Crashing.{is_crashed_item, is_stopped, is_over, serves_last, crashes, falls, after_stopped}
 use Rattle.world_model.specs.meaning.Machines.{Machine}
 use Rattle.world_model.specs.meaning.Matching.{Noted, Went, ServedOn, CutOff, Reaped, Crashed, Opened, OpeningStopped, Ticked, RanOutside, Asked, Drained, matched}

@@ -11,7 +11,7 @@ use Rattle.outage_schedule.specs.declared.item.Item.TheVariants as item
 use Rattle.outage_schedule.specs.declared.report.Report.{Report}
 use Rattle.doc_reader.specs.meaning.Documents.{document_at}
 use Rattle.report_limits.specs.meaning.Reports.{KeepsLimits}
-use Rattle.report_reader.specs.Keeping.{events_fit}
+use Rattle.told_reports.specs.Keeping.{events_fit}
 use Rattle.reading_laws.specs.Reports.{IsOfForm}
 use Rattle.shown_clauses.specs.meaning.Legal.{legal_of}
 use Rattle.world_model.specs.meaning.Followed.{followed}

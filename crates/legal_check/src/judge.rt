@@ -1,7 +1,7 @@
 //! Whether what was served is legal.
 ghost use Rattle.std.specs.Prelude.{IfOk};
 ghost use Rattle.doc_reader.specs.Keeping.{IsDocument};
-ghost use Rattle.report_reader.specs.Keeping.{IsTold};
+ghost use Rattle.told_reports.specs.Keeping.{IsTold};
 ghost use Rattle.legal_check.specs.Judging.{IsJudged};
 
 use crate::handed::wrong_line;

@@ -7,8 +7,8 @@ use Rattle.outage_schedule.specs.declared.item.Served.{Served}
 use Rattle.outage_schedule.specs.declared.note.Note.{Note}
 use Rattle.outage_schedule.specs.declared.note.Note.TheVariants as note
 use Rattle.outage_schedule.specs.declared.report.Report.{Report}
-use Rattle.report_reader.specs.Keeping.{IsTold, word_of_item, events_fit}
-use Rattle.report_reader.specs.meaning.Items.{fits_event, note_of, may_stand}
+use Rattle.told_reports.specs.Keeping.{IsTold, word_of_item, events_fit}
+use Rattle.told_reports.specs.meaning.Places.{fits_event, note_of, may_stand}
 use Rattle.run_clauses.specs.meaning.Moments.{HappenedAt, moments_of_notes, moment_of_item, before_event, from_event, in_order, moments}
 
 -- from an event on, and up to another one

@@ -1,7 +1,7 @@
 //! What a service did at all events, item by item.
 ghost use Rattle.std.specs.Prelude.{◌≡◌, ◌++◌, [], All, IfOk, OnOk, map, slice_get};
 ghost use Rattle.std.specs.Option.{option_map_or};
-ghost use Rattle.report_reader.specs.Keeping.{IsTold};
+ghost use Rattle.told_reports.specs.Keeping.{IsTold};
 ghost use Rattle.report_moments.specs.Views.{happened_as};
 ghost use Rattle.shown_clauses.specs.meaning.LegalItems.{items_of as items_of_def};
 ghost use Rattle.legal_items.specs.Told.{at_place, items_then, items_told, served_count};

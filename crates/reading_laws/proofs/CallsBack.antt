@@ -27,7 +27,7 @@ use Rattle.call_forms.specs.declared.item.Item.TheVariants as item
 use Rattle.call_forms.specs.meaning.Values.{operand_of}
 use Rattle.call_forms.specs.meaning.Items.{test_words, insert_of, update_of, delete_of, get_of, select_of, count_of, sum_of, show_of, set_of, alter_of, item_read}
 use Rattle.call_forms.specs.meaning.Calls.{work_of, call_of_items, call_of}
-use Rattle.report_reader.specs.meaning.Parts.{call_in}
+use Rattle.answer_forms.specs.meaning.Parts.{call_in}
 use Rattle.report_text.specs.meaning.Parts.{headed, lone}
 use Rattle.report_text.specs.meaning.Values.{literal_value}
 use Rattle.report_text.specs.meaning.Calls.{operand_value, test_word, statement_value, commit_values, call_value}

@@ -23,16 +23,16 @@ use Rattle.outage_schedule.specs.declared.request.ShownCall.{ShownCall}
 use Rattle.outage_schedule.specs.declared.request.Outcome.{Outcome}
 use Rattle.outage_schedule.specs.declared.request.RequestReport.{RequestReport}
 use Rattle.call_forms.specs.meaning.Values.{name_of}
-use Rattle.report_reader.specs.declared.failure.FailureWord.{FailureWord}
-use Rattle.report_reader.specs.declared.failure.FailureWord.TheVariants as word
-use Rattle.report_reader.specs.declared.failure.ReasonWord.{ReasonWord}
-use Rattle.report_reader.specs.declared.failure.ReasonWord.TheVariants as why
-use Rattle.report_reader.specs.meaning.Parts.{number_in, octets_in, identifier_in, identifiers_in, session_in, sessions_in, settings_in, call_in, row_in}
-use Rattle.report_reader.specs.meaning.Answers.{answers_in}
-use Rattle.report_reader.specs.meaning.Draws.{draws_in}
-use Rattle.report_reader.specs.meaning.Failures.{reason_words, number_behind, reason_by, reason_in, failure_words, disabled_in, mismatch_in, incomplete_in, retries_in, timeout_in, replays_in, wait_in, unknown_in, failure_by, failure_in, null_or_failure, failed_in}
-use Rattle.report_reader.specs.meaning.Requests.{shown_in, outcome_in, calls_in, outcomes_in, tried_in, request_members, request_in, transcript_in, clients_in}
-use Rattle.report_reader.specs.meaning.Entries.{piece_in, pieces_in, entry_members, entry_in, entries_in, table_rows_in, table_in, tables_in}
+use Rattle.entry_forms.specs.declared.failure.FailureWord.{FailureWord}
+use Rattle.entry_forms.specs.declared.failure.FailureWord.TheVariants as word
+use Rattle.entry_forms.specs.declared.failure.ReasonWord.{ReasonWord}
+use Rattle.entry_forms.specs.declared.failure.ReasonWord.TheVariants as why
+use Rattle.answer_forms.specs.meaning.Parts.{number_in, octets_in, identifier_in, identifiers_in, session_in, sessions_in, settings_in, call_in, row_in}
+use Rattle.answer_forms.specs.meaning.Answers.{answers_in}
+use Rattle.answer_forms.specs.meaning.Draws.{draws_in}
+use Rattle.entry_forms.specs.meaning.Failures.{reason_words, number_behind, reason_by, reason_in, failure_words, disabled_in, mismatch_in, incomplete_in, retries_in, timeout_in, replays_in, wait_in, unknown_in, failure_by, failure_in, null_or_failure, failed_in}
+use Rattle.entry_forms.specs.meaning.Requests.{shown_in, outcome_in, calls_in, outcomes_in, tried_in, request_members, request_in, transcript_in, clients_in}
+use Rattle.entry_forms.specs.meaning.Entries.{piece_in, pieces_in, entry_members, entry_in, entries_in, table_rows_in, table_in, tables_in}
 use Rattle.report_text.specs.meaning.Octets.{RowsOfBytes, PieceOfBytes, EntryOfBytes, TableOfBytes, FailedOfBytes, ShownOfBytes, RequestOfBytes, ValueOfBytes}
 use Rattle.report_limits.specs.meaning.Limits.{fits_row, fits_identifier, fits_session}
 use Rattle.report_limits.specs.meaning.Notes.{if_there}

@@ -17,10 +17,10 @@ use Rattle.outage_schedule.specs.declared.failure.Failure.TheVariants as failure
 use Rattle.outage_schedule.specs.declared.request.ShownCall.{ShownCall}
 use Rattle.outage_schedule.specs.declared.request.Outcome.{Outcome}
 use Rattle.outage_schedule.specs.declared.request.RequestReport.{RequestReport}
-use Rattle.report_reader.specs.meaning.Parts.{identifier_in, identifiers_in, session_in, sessions_in, row_in}
-use Rattle.report_reader.specs.meaning.Failures.{number_behind, reason_in, disabled_in, mismatch_in, incomplete_in, retries_in, timeout_in, replays_in, wait_in, unknown_in, failure_in, failed_in}
-use Rattle.report_reader.specs.meaning.Requests.{shown_in, outcome_in, calls_in, outcomes_in, tried_in, request_in, transcript_in, clients_in}
-use Rattle.report_reader.specs.meaning.Entries.{piece_in, pieces_in, entry_in, entries_in, table_rows_in, table_in, tables_in}
+use Rattle.answer_forms.specs.meaning.Parts.{identifier_in, identifiers_in, session_in, sessions_in, row_in}
+use Rattle.entry_forms.specs.meaning.Failures.{number_behind, reason_in, disabled_in, mismatch_in, incomplete_in, retries_in, timeout_in, replays_in, wait_in, unknown_in, failure_in, failed_in}
+use Rattle.entry_forms.specs.meaning.Requests.{shown_in, outcome_in, calls_in, outcomes_in, tried_in, request_in, transcript_in, clients_in}
+use Rattle.entry_forms.specs.meaning.Entries.{piece_in, pieces_in, entry_in, entries_in, table_rows_in, table_in, tables_in}
 use Rattle.report_text.specs.meaning.Values.{identifier_value, session_value, row_value}
 use Rattle.report_text.specs.meaning.Entries.{piece_value, entry_value, table_value}
 use Rattle.report_text.specs.meaning.Failures.{reason_value, failure_value, failed_value}

@@ -13,8 +13,9 @@ use Rattle.outage_schedule.specs.declared.note.Note.{Note}
 use Rattle.outage_schedule.specs.declared.item.Item.{Item}
 use Rattle.outage_schedule.specs.declared.item.Item.TheVariants as item
 use Rattle.outage_schedule.specs.declared.item.Served.{Served}
-use Rattle.report_reader.specs.meaning.Items.{fits_event, last_event, place_in, bare_in, begin_in, answered_in, blocked_in, told_in, refused_in, stopped_outcome_in, stopped_call_in, one_served, served_in}
-use Rattle.report_reader.specs.Keeping.{word_of_item, events_fit, is_item}
+use Rattle.told_reports.specs.meaning.Places.{fits_event}
+use Rattle.note_forms.specs.meaning.Items.{last_event, place_in, bare_in, begin_in, answered_in, blocked_in, told_in, refused_in, stopped_outcome_in, stopped_call_in, one_served, served_in}
+use Rattle.told_reports.specs.Keeping.{word_of_item, events_fit, is_item}
 use Rattle.report_text.specs.meaning.Values.{session_value}
 use Rattle.report_text.specs.meaning.Items.{item_value, served_value}
 use Rattle.report_text.specs.meaning.Octets.{ItemOfBytes, ServedOfBytes}

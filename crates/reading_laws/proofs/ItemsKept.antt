@@ -15,15 +15,16 @@ use Rattle.outage_schedule.specs.declared.note.Note.{Note}
 use Rattle.outage_schedule.specs.declared.item.Item.{Item}
 use Rattle.outage_schedule.specs.declared.item.Item.TheVariants as item
 use Rattle.outage_schedule.specs.declared.item.Served.{Served}
-use Rattle.report_reader.specs.declared.item.ServedAt.{ServedAt}
-use Rattle.report_reader.specs.declared.item.ServedWord.{ServedWord}
-use Rattle.report_reader.specs.declared.item.ServedWord.TheVariants as word
-use Rattle.report_reader.specs.meaning.Parts.{if_count, number_in, identifier_in, session_in, settings_in, call_in}
-use Rattle.report_reader.specs.meaning.Answers.{answers_in}
-use Rattle.report_reader.specs.meaning.Draws.{draws_in}
-use Rattle.report_reader.specs.meaning.Told.{told_words, behind_of, told_by}
-use Rattle.report_reader.specs.meaning.Notes.{count_in}
-use Rattle.report_reader.specs.meaning.Items.{item_words, fits_event, last_event, event_in, place_in, served_at, bare_in, begin_in, answered_in, blocked_in, told_in, refused_in, stopped_outcome_in, stopped_call_in, served_by, one_served, served_in}
+use Rattle.note_forms.specs.declared.item.ServedAt.{ServedAt}
+use Rattle.told_reports.specs.declared.place.ServedWord.{ServedWord}
+use Rattle.told_reports.specs.declared.place.ServedWord.TheVariants as word
+use Rattle.answer_forms.specs.meaning.Parts.{if_count, number_in, identifier_in, session_in, settings_in, call_in}
+use Rattle.answer_forms.specs.meaning.Answers.{answers_in}
+use Rattle.answer_forms.specs.meaning.Draws.{draws_in}
+use Rattle.note_forms.specs.meaning.Told.{told_words, behind_of, told_by}
+use Rattle.note_forms.specs.meaning.Notes.{count_in}
+use Rattle.told_reports.specs.meaning.Places.{fits_event}
+use Rattle.note_forms.specs.meaning.Items.{item_words, last_event, event_in, place_in, served_at, bare_in, begin_in, answered_in, blocked_in, told_in, refused_in, stopped_outcome_in, stopped_call_in, served_by, one_served, served_in}
 use Rattle.report_text.specs.meaning.Octets.{ItemOfBytes, ServedOfBytes}
 use Rattle.report_limits.specs.meaning.Limits.{fits_u64, fits_session}
 use Rattle.reading_laws.specs.Reports.{fits_item, fits_served}

@@ -9,10 +9,10 @@ use Rattle.outage_schedule.specs.declared.note.Note.{Note}
 use Rattle.outage_schedule.specs.declared.item.Item.{Item}
 use Rattle.outage_schedule.specs.declared.item.Item.TheVariants as item
 use Rattle.outage_schedule.specs.declared.item.Served.{Served}
-use Rattle.report_reader.specs.declared.item.ServedAt.{ServedAt}
-use Rattle.report_reader.specs.declared.item.ServedWord.{ServedWord}
-use Rattle.report_reader.specs.declared.item.ServedWord.TheVariants as word
-use Rattle.report_reader.specs.meaning.Items.{last_event, event_in, place_in, bare_in, begin_in, answered_in, blocked_in, told_in, refused_in, stopped_outcome_in, stopped_call_in, one_served, served_in}
+use Rattle.note_forms.specs.declared.item.ServedAt.{ServedAt}
+use Rattle.told_reports.specs.declared.place.ServedWord.{ServedWord}
+use Rattle.told_reports.specs.declared.place.ServedWord.TheVariants as word
+use Rattle.note_forms.specs.meaning.Items.{last_event, event_in, place_in, bare_in, begin_in, answered_in, blocked_in, told_in, refused_in, stopped_outcome_in, stopped_call_in, one_served, served_in}
 use Rattle.report_text.specs.meaning.Values.{session_value}
 use Rattle.report_text.specs.meaning.Items.{item_value, served_value}
 use Rattle.reading_laws.proofs.ValuesOrFault.{number_so, settings_so, identifier_so, session_so, answers_so, draws_so}

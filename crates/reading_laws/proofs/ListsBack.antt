@@ -15,7 +15,7 @@ use Rattle.json_form.specs.meaning.Texts.{is_capital, octets_of}
 use Rattle.json_form.specs.meaning.Arrays.{each_after, each_of, list_of, array_of}
 use Rattle.json_form.specs.meaning.Writing.{whole, integer, list_by}
 use Rattle.json_form.proofs.Offered.{first_true, second_true, both_true}
-use Rattle.report_reader.specs.meaning.Parts.{number_in}
+use Rattle.answer_forms.specs.meaning.Parts.{number_in}
 use Rattle.report_text.specs.meaning.Values.{digits}
 use Rattle.report_limits.specs.meaning.Limits.{fits_u64}
 

@@ -17,7 +17,7 @@ use Rattle.outage_schedule.specs.declared.note.OutsideNote.{OutsideNote}
 use Rattle.outage_schedule.specs.declared.note.Note.{Note}
 use Rattle.outage_schedule.specs.declared.note.Note.TheVariants as note
 use Rattle.svc_values.specs.declared.entry.Ltxid.{Ltxid}
-use Rattle.report_reader.specs.meaning.Notes.{go_in, serve_words, serve_in, cut_in, reap_in, crash_in, up_in, upcrash_in, run_in, runs_in, ran_in, outside_in, ask_in, drain_in, note_in, notes_in}
+use Rattle.note_forms.specs.meaning.Notes.{go_in, serve_words, serve_in, cut_in, reap_in, crash_in, up_in, upcrash_in, run_in, runs_in, ran_in, outside_in, ask_in, drain_in, note_in, notes_in}
 use Rattle.report_text.specs.meaning.Parts.{headed}
 use Rattle.report_text.specs.meaning.Values.{identifier_value}
 use Rattle.report_text.specs.meaning.Notes.{did_values, served_word, asked_values, run_value, outside_value, note_value}

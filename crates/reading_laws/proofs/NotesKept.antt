@@ -15,17 +15,17 @@ use Rattle.outage_schedule.specs.declared.note.NoteRun.{NoteRun}
 use Rattle.outage_schedule.specs.declared.note.OutsideNote.{OutsideNote}
 use Rattle.outage_schedule.specs.declared.note.Note.{Note}
 use Rattle.outage_schedule.specs.declared.note.Note.TheVariants as note
-use Rattle.report_reader.specs.declared.go.GoWord.{GoWord}
-use Rattle.report_reader.specs.declared.go.GoWord.TheVariants as go
-use Rattle.report_reader.specs.declared.told.ToldWord.{ToldWord}
-use Rattle.report_reader.specs.declared.told.ToldWord.TheVariants as toldword
-use Rattle.report_reader.specs.declared.note.NoteWord.{NoteWord}
-use Rattle.report_reader.specs.declared.note.NoteWord.TheVariants as word
-use Rattle.report_reader.specs.meaning.Parts.{if_count, number_in, identifier_in}
-use Rattle.report_reader.specs.meaning.Answers.{answers_in}
-use Rattle.report_reader.specs.meaning.Draws.{draws_in}
-use Rattle.report_reader.specs.meaning.Told.{told_by, asked_words, asked_behind, asked_by}
-use Rattle.report_reader.specs.meaning.Notes.{count_in, go_words, go_count, sent_by, go_by, go_in, serve_words, serve_in, just, bytes_in, cut_in, with_word, reap_in, crash_in, opened_in, incarnation_in, up_in, upcrash_in, run_in, runs_in, ran_in, outside_in, ask_in, drain_in, note_words, note_by, note_in, notes_in}
+use Rattle.note_forms.specs.declared.go.GoWord.{GoWord}
+use Rattle.note_forms.specs.declared.go.GoWord.TheVariants as go
+use Rattle.note_forms.specs.declared.told.ToldWord.{ToldWord}
+use Rattle.note_forms.specs.declared.told.ToldWord.TheVariants as toldword
+use Rattle.note_forms.specs.declared.note.NoteWord.{NoteWord}
+use Rattle.note_forms.specs.declared.note.NoteWord.TheVariants as word
+use Rattle.answer_forms.specs.meaning.Parts.{if_count, number_in, identifier_in}
+use Rattle.answer_forms.specs.meaning.Answers.{answers_in}
+use Rattle.answer_forms.specs.meaning.Draws.{draws_in}
+use Rattle.note_forms.specs.meaning.Told.{told_by, asked_words, asked_behind, asked_by}
+use Rattle.note_forms.specs.meaning.Notes.{count_in, go_words, go_count, sent_by, go_by, go_in, serve_words, serve_in, just, bytes_in, cut_in, with_word, reap_in, crash_in, opened_in, incarnation_in, up_in, upcrash_in, run_in, runs_in, ran_in, outside_in, ask_in, drain_in, note_words, note_by, note_in, notes_in}
 use Rattle.report_text.specs.meaning.Octets.{RunOfBytes, NoteOfBytes}
 use Rattle.report_limits.specs.meaning.Limits.{fits_u64}
 use Rattle.report_limits.specs.meaning.Notes.{if_there, fits_step, fits_told, fits_reached, fits_run, fits_outside, fits_note}

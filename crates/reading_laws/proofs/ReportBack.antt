@@ -8,11 +8,11 @@ use Rattle.json_form.specs.meaning.Writing.{text, whole, list_by, members}
 use Rattle.json_form.proofs.Offered.{both_true}
 use Rattle.outage_schedule.specs.declared.report.Report.{Report}
 use Rattle.call_forms.specs.meaning.Values.{line_of}
-use Rattle.report_reader.specs.meaning.Parts.{identifiers_in}
-use Rattle.report_reader.specs.meaning.Requests.{clients_in}
-use Rattle.report_reader.specs.meaning.Notes.{notes_in}
-use Rattle.report_reader.specs.meaning.Items.{served_in}
-use Rattle.report_reader.specs.meaning.Entries.{entries_in, tables_in}
+use Rattle.answer_forms.specs.meaning.Parts.{identifiers_in}
+use Rattle.entry_forms.specs.meaning.Requests.{clients_in}
+use Rattle.note_forms.specs.meaning.Notes.{notes_in}
+use Rattle.note_forms.specs.meaning.Items.{served_in}
+use Rattle.entry_forms.specs.meaning.Entries.{entries_in, tables_in}
 use Rattle.report_reader.specs.meaning.Reports.{alerts_in, front_in, middle_in, back_in, report_in, as_bad}
 use Rattle.report_text.specs.meaning.Values.{identifier_value}
 use Rattle.report_text.specs.meaning.Entries.{entry_value, table_value}

@@ -17,11 +17,11 @@ use Rattle.report_reader.specs.Laws.{IsReadAsTold}
 use Rattle.report_reader.specs.declared.report.Front.{Front}
 use Rattle.report_reader.specs.declared.report.Middle.{Middle}
 use Rattle.report_reader.specs.declared.report.Back.{Back}
-use Rattle.report_reader.specs.meaning.Parts.{identifiers_in}
-use Rattle.report_reader.specs.meaning.Requests.{clients_in}
-use Rattle.report_reader.specs.meaning.Notes.{notes_in}
-use Rattle.report_reader.specs.meaning.Items.{served_in}
-use Rattle.report_reader.specs.meaning.Entries.{entries_in, tables_in}
+use Rattle.answer_forms.specs.meaning.Parts.{identifiers_in}
+use Rattle.entry_forms.specs.meaning.Requests.{clients_in}
+use Rattle.note_forms.specs.meaning.Notes.{notes_in}
+use Rattle.note_forms.specs.meaning.Items.{served_in}
+use Rattle.entry_forms.specs.meaning.Entries.{entries_in, tables_in}
 use Rattle.report_reader.specs.meaning.Reports.{alerts_in, image_bytes_in, image_in, front_in, middle_in, back_in, members_in, report_in, as_bad}
 use Rattle.report_text.specs.meaning.Octets.{ImageOfBytes}
 use Rattle.reading_laws.specs.Laws.{ReadsOnlyTheForm}

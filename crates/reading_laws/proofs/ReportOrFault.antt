@@ -10,11 +10,11 @@ use Rattle.call_forms.specs.meaning.Values.{line_of}
 use Rattle.report_reader.specs.declared.report.Front.{Front}
 use Rattle.report_reader.specs.declared.report.Middle.{Middle}
 use Rattle.report_reader.specs.declared.report.Back.{Back}
-use Rattle.report_reader.specs.meaning.Parts.{identifiers_in}
-use Rattle.report_reader.specs.meaning.Requests.{clients_in}
-use Rattle.report_reader.specs.meaning.Notes.{notes_in}
-use Rattle.report_reader.specs.meaning.Items.{served_in}
-use Rattle.report_reader.specs.meaning.Entries.{entries_in, tables_in}
+use Rattle.answer_forms.specs.meaning.Parts.{identifiers_in}
+use Rattle.entry_forms.specs.meaning.Requests.{clients_in}
+use Rattle.note_forms.specs.meaning.Notes.{notes_in}
+use Rattle.note_forms.specs.meaning.Items.{served_in}
+use Rattle.entry_forms.specs.meaning.Entries.{entries_in, tables_in}
 use Rattle.report_reader.specs.meaning.Reports.{alerts_in, image_bytes_in, front_in, middle_in, back_in, report_in, as_bad, report_of}
 use Rattle.report_text.specs.meaning.Values.{digits}
 use Rattle.report_text.specs.meaning.Report.{report_value}

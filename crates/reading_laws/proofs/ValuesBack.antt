@@ -21,10 +21,10 @@ use Rattle.svc_values.specs.declared.answer.Answer.TheVariants as answer
 use Rattle.svc_values.specs.meaning.SettingsList.{NamedValues, rises, last_name}
 use Rattle.svc_values.specs.meaning.Texts.{is_name}
 use Rattle.call_forms.specs.meaning.Values.{name_of, line_of, bytes_object, value_of}
-use Rattle.report_reader.specs.meaning.Parts.{value_in, identifier_in, session_in, setting_in, settings_in, row_in}
-use Rattle.report_reader.specs.meaning.Answers.{rows_in, refusal_of, answer_in, answers_in}
-use Rattle.report_reader.specs.meaning.Draws.{seq_in, clock_in, id_in, draw_in, draws_in}
-use Rattle.report_reader.specs.meaning.Settings.{names_rise}
+use Rattle.answer_forms.specs.meaning.Parts.{value_in, identifier_in, session_in, setting_in, settings_in, row_in}
+use Rattle.answer_forms.specs.meaning.Answers.{rows_in, refusal_of, answer_in, answers_in}
+use Rattle.answer_forms.specs.meaning.Draws.{seq_in, clock_in, id_in, draw_in, draws_in}
+use Rattle.told_reports.specs.meaning.Settings.{names_rise}
 use Rattle.report_text.specs.meaning.Values.{literal_value, row_value, setting_value, settings_value, identifier_value, session_value}
 use Rattle.report_text.specs.meaning.Answers.{refusal_code, answer_value, draw_value, answers_value, draws_value}
 use Rattle.report_text.specs.meaning.Octets.{ValueOfBytes, RowsOfBytes, SettingsOfBytes, AnswerOfBytes, DrawOfBytes}

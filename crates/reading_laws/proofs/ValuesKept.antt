@@ -28,13 +28,13 @@ use Rattle.svc_values.specs.declared.answer.Answer.TheVariants as answer
 use Rattle.svc_values.specs.meaning.SettingsList.{NamedValues}
 use Rattle.svc_values.specs.meaning.Texts.{is_name}
 use Rattle.call_forms.specs.meaning.Values.{name_of, line_of, only_member, bytes_value, bytes_object, number_or_bytes, text_or_other, value_of}
-use Rattle.report_reader.specs.declared.answer.AnswerWord.{AnswerWord}
-use Rattle.report_reader.specs.declared.answer.AnswerWord.TheVariants as answerword
-use Rattle.report_reader.specs.declared.draw.DrawWord.{DrawWord}
-use Rattle.report_reader.specs.declared.draw.DrawWord.TheVariants as drawword
-use Rattle.report_reader.specs.meaning.Parts.{number_in, octets_in as sized_in, value_in, if_rising, identifier_in, session_in, setting_in, settings_in, row_in}
-use Rattle.report_reader.specs.meaning.Answers.{rows_in, refusal_of, answer_words, answer_of, answer_named, word_or_member, answer_in, answers_in}
-use Rattle.report_reader.specs.meaning.Draws.{draw_words, seq_in, clock_in, id_in, draw_by, draw_in, draws_in}
+use Rattle.answer_forms.specs.declared.answer.AnswerWord.{AnswerWord}
+use Rattle.answer_forms.specs.declared.answer.AnswerWord.TheVariants as answerword
+use Rattle.answer_forms.specs.declared.draw.DrawWord.{DrawWord}
+use Rattle.answer_forms.specs.declared.draw.DrawWord.TheVariants as drawword
+use Rattle.answer_forms.specs.meaning.Parts.{number_in, octets_in as sized_in, value_in, if_rising, identifier_in, session_in, setting_in, settings_in, row_in}
+use Rattle.answer_forms.specs.meaning.Answers.{rows_in, refusal_of, answer_words, answer_of, answer_named, word_or_member, answer_in, answers_in}
+use Rattle.answer_forms.specs.meaning.Draws.{draw_words, seq_in, clock_in, id_in, draw_by, draw_in, draws_in}
 use Rattle.report_text.specs.meaning.Octets.{ValueOfBytes, SettingsOfBytes, AnswerOfBytes, DrawOfBytes}
 use Rattle.report_limits.specs.meaning.Limits.{fits_u64, fits_line, fits_value, fits_row, fits_identifier, fits_session, fits_settings, fits_answer, fits_draw}
 use Rattle.reading_laws.proofs.IfRead.{IfRead, if_kept, either_kept, then_kept, any_kept, within_kept, part_then_kept, rest_kept, list_kept, array_kept, apart, weaker}

@@ -15,9 +15,9 @@ use Rattle.svc_values.specs.declared.answer.Answer.{Answer}
 use Rattle.svc_values.specs.declared.answer.Answer.TheVariants as answer
 use Rattle.svc_values.specs.meaning.SettingsList.{NamedValues}
 use Rattle.call_forms.specs.meaning.Values.{name_of, line_of, bytes_value, bytes_object, value_of}
-use Rattle.report_reader.specs.meaning.Parts.{number_in, octets_in, value_in, if_rising, identifier_in, session_in, setting_in, settings_in, row_in}
-use Rattle.report_reader.specs.meaning.Answers.{rows_in, answer_in, answers_in}
-use Rattle.report_reader.specs.meaning.Draws.{seq_in, clock_in, id_in, draw_in, draws_in}
+use Rattle.answer_forms.specs.meaning.Parts.{number_in, octets_in, value_in, if_rising, identifier_in, session_in, setting_in, settings_in, row_in}
+use Rattle.answer_forms.specs.meaning.Answers.{rows_in, answer_in, answers_in}
+use Rattle.answer_forms.specs.meaning.Draws.{seq_in, clock_in, id_in, draw_in, draws_in}
 use Rattle.report_text.specs.meaning.Values.{digits, literal_value, row_value, setting_value, settings_value, identifier_value, session_value}
 use Rattle.report_text.specs.meaning.Answers.{refusal_code, answer_value, draw_value, answers_value, draws_value}
 use Rattle.reading_laws.proofs.ValuesBack.{code_back, refusal_back}

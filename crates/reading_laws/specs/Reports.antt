@@ -8,7 +8,7 @@ use Rattle.svc_values.specs.declared.entry.Piece.{Piece}
 use Rattle.svc_values.specs.declared.entry.Entry.{Entry}
 use Rattle.outage_schedule.specs.declared.report.Report.{Report}
 use Rattle.report_text.specs.meaning.Octets.{ReportOfBytes}
-use Rattle.report_reader.specs.Keeping.{IsTold}
+use Rattle.told_reports.specs.Keeping.{IsTold}
 use Rattle.report_limits.specs.meaning.Limits.{fits_u64, fits_line, fits_identifier, fits_session, fits_settings, fits_replies}
 use Rattle.report_limits.specs.meaning.Notes.{fits_told, fits_note}
 use Rattle.report_limits.specs.meaning.Requests.{fits_request}

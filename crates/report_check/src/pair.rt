@@ -7,7 +7,7 @@ ghost use Rattle.serde_json.specs.View.{view};
 ghost use Rattle.json_form.specs.Faults.{Gives};
 ghost use Rattle.json_form.specs.Streams.{members_ahead};
 ghost use Rattle.doc_reader.specs.Keeping.{IsDocument};
-ghost use Rattle.report_reader.specs.Keeping.{IsTold};
+ghost use Rattle.told_reports.specs.Keeping.{IsTold};
 ghost use Rattle.report_check.specs.meaning.Pairs.{pair_of, pair_at};
 
 use doc_reader::{document_ahead, document_from};

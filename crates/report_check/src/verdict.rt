@@ -1,7 +1,7 @@
 //! The verdict on a report.
 ghost use Rattle.std.specs.Prelude.{◌≡◌, IfOk};
 ghost use Rattle.doc_reader.specs.Keeping.{IsDocument};
-ghost use Rattle.report_reader.specs.Keeping.{IsTold};
+ghost use Rattle.told_reports.specs.Keeping.{IsTold};
 ghost use Rattle.report_check.specs.Judged.{IsJudged};
 
 use entry_check::{judge_once, judge_same};

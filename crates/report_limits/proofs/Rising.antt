@@ -9,7 +9,7 @@ use Rattle.std.specs.declared.cmp.Ordering.TheVariants.{Less}
 use Rattle.json_form.proofs.Offered.{both_true}
 use Rattle.svc_values.specs.meaning.SettingsList.{NamedValues, rises}
 use Rattle.svc_values.specs.SettingsList.{AreSettings}
-use Rattle.report_reader.specs.meaning.Settings.{names_rise}
+use Rattle.told_reports.specs.meaning.Settings.{names_rise}
 
 rise_above : (name : List ℕ) (settings : NamedValues) → AllByRecursion (λ other. slice_cmp nat_cmp name other ≡ Less) (keys_of settings) → AreSettings settings
     → names_rise (Some name) settings ≡ true

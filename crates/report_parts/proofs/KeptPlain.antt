@@ -12,7 +12,7 @@ use Rattle.shown_clauses.specs.meaning.Parts.{Counted, acquires, counted_from, i
 use Rattle.shown_clauses.specs.meaning.Showings.{showing_at}
 use Rattle.shown_clauses.specs.meaning.Steps.{Step, steps, steps_of}
 use Rattle.shown_clauses.specs.meaning.Submissions.{Submission, submissions_by_client}
-use Rattle.report_reader.specs.Keeping.{IsTold}
+use Rattle.told_reports.specs.Keeping.{IsTold}
 use Rattle.report_story.specs.Brought.{brought}
 use Rattle.report_story.specs.Kept.{kept_of}
 use Rattle.report_story.specs.Passing.{Repeated, passed_by}

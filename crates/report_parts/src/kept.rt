@@ -1,7 +1,7 @@
 //! The draws that calls with the mark bring.
 ghost use Rattle.std.specs.Prelude.{◌≡◌, [], ◌++◌, flat_map, map, option_map, slice_get, IfOk, OnOk};
 ghost use Rattle.std.specs.Option.{option_map_or};
-ghost use Rattle.report_reader.specs.Keeping.{IsTold};
+ghost use Rattle.told_reports.specs.Keeping.{IsTold};
 ghost use Rattle.run_clauses.specs.meaning.Copies.{copies_of, copies_by_client};
 ghost use Rattle.shown_clauses.specs.meaning.KeptDraws.{parts, parts_from, has_marked as has_marked_def};
 ghost use Rattle.shown_clauses.specs.meaning.Parts.{parts_of as parts_of_def};

@@ -12,11 +12,11 @@ use Rattle.outage_schedule.specs.declared.report.ReportTable.{ReportTable}
 use Rattle.outage_schedule.specs.declared.request.RequestReport.{RequestReport}
 use Rattle.json_form.proofs.Offered.{after, ok_is}
 use Rattle.report_reader.specs.declared.streamed.Others.{Others}
-use Rattle.report_reader.specs.meaning.Parts.{identifiers_in}
-use Rattle.report_reader.specs.meaning.Requests.{clients_in}
-use Rattle.report_reader.specs.meaning.Notes.{notes_in}
-use Rattle.report_reader.specs.meaning.Items.{served_in}
-use Rattle.report_reader.specs.meaning.Entries.{entries_in, tables_in}
+use Rattle.answer_forms.specs.meaning.Parts.{identifiers_in}
+use Rattle.entry_forms.specs.meaning.Requests.{clients_in}
+use Rattle.note_forms.specs.meaning.Notes.{notes_in}
+use Rattle.note_forms.specs.meaning.Items.{served_in}
+use Rattle.entry_forms.specs.meaning.Entries.{entries_in, tables_in}
 use Rattle.report_reader.specs.meaning.Reports.{alerts_in, image_bytes_in, image_in, needed_members, report_members, front_in, middle_in, back_in, report_in}
 use Rattle.report_reader.specs.Ahead.{held_members, only, others_in, IsFound}
 

@@ -1,12 +1,4 @@
 pub mod Stays
-pub mod ReadSettings
-pub mod ReadEntries
-pub mod ReadItems
 pub mod ReadReports
 pub mod OneByOne
-pub mod NotesAhead
-pub mod ObjectsAhead
 pub mod Joined
-pub mod AnswersAhead
-pub mod ArraysAhead
-pub mod ServedAhead

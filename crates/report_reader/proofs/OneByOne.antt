@@ -1,16 +1,12 @@
 -- What members of a report are read as that are read one after the other.
-use Rattle.std.proofs.Common.{◌≡◌, ℕ, List, [], ◌∷◌, ◌++◌, length, Bool, true, false, cond, nat_lt, true≢false, Option, Some, None, option_map, Result, Ok, codes, decimal, append_assoc, refl, sym, ap, ◌∙◌}
+use Rattle.std.proofs.Common.{◌≡◌, ℕ, List, [], ◌∷◌, Bool, true, false, cond, true≢false, Option, Some, None, option_map, Result, Ok, codes, refl, sym, ap, ◌∙◌}
 use Rattle.std.specs.Prelude.{◌||◌, is_some}
 use Rattle.std.proofs.Math.Path.{fun_ext}
 use Rattle.std.specs.Str.{bytes_eq}
-use Rattle.std.specs.List.{AllByRecursion, last_or}
-use Rattle.std.specs.Option.{option_map_or}
-use Rattle.std.proofs.lemmas.List.{append-nil}
+use Rattle.std.specs.List.{AllByRecursion}
 use Rattle.std.proofs.lemmas.Slice.Eq.{bytes_eq-Decides}
-use Rattle.serde_json.specs.Data.{Data, Items, no_items, item}
-use Rattle.json_form.specs.meaning.Faults.{Fault, ◌>>=◌, within_item}
-use Rattle.json_form.specs.meaning.Values.{items_of}
-use Rattle.json_form.specs.meaning.Arrays.{each_after, each_of, list_of}
+use Rattle.serde_json.specs.Data.{Data}
+use Rattle.json_form.specs.meaning.Faults.{Fault}
 use Rattle.json_form.specs.meaning.Objects.{Named, is_among}
 use Rattle.json_form.specs.Objects.{members_at, putting}
 use Rattle.json_form.specs.declared.object.Members as held
@@ -19,15 +15,13 @@ use Rattle.outage_schedule.specs.declared.note.Note.{Note}
 use Rattle.svc_values.specs.declared.entry.Entry.{Entry}
 use Rattle.outage_schedule.specs.declared.report.ReportTable.{ReportTable}
 use Rattle.outage_schedule.specs.declared.request.RequestReport.{RequestReport}
-use Rattle.json_form.proofs.Offered.{after, within_ok, each_keeps, first_true, second_true}
 use Rattle.report_reader.specs.declared.streamed.Ahead.{Ahead}
-use Rattle.report_reader.specs.meaning.Items.{last_event, one_served, served_in}
-use Rattle.report_reader.specs.meaning.Requests.{clients_in}
-use Rattle.report_reader.specs.meaning.Notes.{notes_in}
-use Rattle.report_reader.specs.meaning.Entries.{entries_in, tables_in}
+use Rattle.note_forms.specs.meaning.Items.{served_in}
+use Rattle.entry_forms.specs.meaning.Requests.{clients_in}
+use Rattle.note_forms.specs.meaning.Notes.{notes_in}
+use Rattle.entry_forms.specs.meaning.Entries.{entries_in, tables_in}
 use Rattle.report_reader.specs.meaning.Reports.{report_members}
-use Rattle.report_reader.specs.Ahead.{events_rise, held_members, only, noted, IsFound, AreRead}
-use Rattle.report_reader.proofs.ReadItems.{read_behind}
+use Rattle.report_reader.specs.Ahead.{held_members, only, noted, IsFound, AreRead}
 
 -- ---- values
 
@@ -35,37 +29,6 @@ use Rattle.report_reader.proofs.ReadItems.{read_behind}
 pub not_there : {A : Type 0} (o : Option A) → is_some o ≡ false → o ≡ None
 not_there None h = refl
 not_there (Some x) h = absurd (cc)
-
--- ---- items in the order of their events
-
--- an item is behind the one before
-rises_at : (o : Option Served) (before : List Served) (one : Served) (more : List Served) → events_rise (option_map_or (λ s. s.event) o 0) ((before ++ one ∷ []) ++ more) ≡ true
-    → nat_lt (option_map_or (λ s. s.event) (last_or o before) 0) one.event ≡ true
-rises_at o [] one more h = first_true _ _ h
-rises_at o (first ∷ before) one more h = rises_at (Some first) before one more (second_true _ _ h)
-
--- what was read before stands before the others
-keeps_front : {A : Type 0} (read : List A → Data → Result A Fault) (before : List A) (ds : Items) (xs : List A) → each_after read before ds ≡ Ok xs → (more : List A) × (xs ≡ before ++ more)
-keeps_front read before ds xs h =
-    each_keeps (λ (ys : List _). (more : List _) × (ys ≡ before ++ more)) read
-    (λ ys d x front one. (front.0 ++ x ∷ [], ap (λ (zs : List _). zs ++ x ∷ []) front.1 ∙ append_assoc before front.0 (x ∷ []))) before ds xs ([], sym (append-nil before)) h
-
--- items that were read one by one, whose events rise, are read so each behind the one before
-each_behind : (notes : List Note) (before : List Served) (ds : Items) (xs : List Served) → events_rise 0 xs ≡ true → each_after (λ _. one_served notes 0) before ds ≡ Ok xs
-    → each_after (λ ys. one_served notes (last_event ys)) before ds ≡ Ok xs
-each_behind notes before no_items xs rise h = h
-each_behind notes before (item d ds) xs rise h =
-    let a = after (within_item (length before) (one_served notes 0 d)) (λ x. each_after (λ _. one_served notes 0) (before ++ x ∷ []) ds) xs h in
-    let front = keeps_front (λ _. one_served notes 0) (before ++ a.0 ∷ []) ds xs a.2 in
-    let behind = rises_at None before a.0 front.0 (ap (events_rise 0) (sym front.1) ∙ rise) in
-    let one = read_behind notes 0 (last_event before) d a.0 behind (within_ok (decimal (length before)) (one_served notes 0 d) a.0 a.1) in
-    ap (λ (r : Result Served Fault). within_item (length before) r >>= λ x. each_after (λ ys. one_served notes (last_event ys)) (before ++ x ∷ []) ds) one
-    ∙ each_behind notes (before ++ a.0 ∷ []) ds xs rise a.2
-
-pub items_alike : (notes : List Note) (d : Data) (xs : List Served) → events_rise 0 xs ≡ true → list_of (each_of (one_served notes 0)) d ≡ Ok xs → served_in notes d ≡ Ok xs
-items_alike notes d xs rise h =
-    let a = after (items_of d) (each_of (one_served notes 0)) xs h in
-    ap (λ (r : Result Items Fault). r >>= each_after (λ ys. one_served notes (last_event ys)) []) a.1 ∙ each_behind notes [] a.0 xs rise a.2
 
 -- ---- the members that are held
 

@@ -11,16 +11,16 @@ use Rattle.json_form.specs.meaning.Objects.{Named, optional, member_in}
 use Rattle.outage_schedule.specs.declared.document.Document.{Document}
 use Rattle.outage_schedule.specs.declared.note.Note.{Note}
 use Rattle.outage_schedule.specs.declared.report.Report.{Report}
-use Rattle.json_form.proofs.Offered.{after, ok_is}
+use Rattle.json_form.proofs.Offered.{after, ok_is, member_read}
 use Rattle.report_reader.specs.declared.report.Middle.{Middle}
 use Rattle.report_reader.specs.declared.report.Back.{Back}
-use Rattle.report_reader.specs.meaning.Notes.{notes_in}
-use Rattle.report_reader.specs.meaning.Items.{served_in}
-use Rattle.report_reader.specs.meaning.Entries.{entries_in, tables_in}
+use Rattle.note_forms.specs.meaning.Notes.{notes_in}
+use Rattle.note_forms.specs.meaning.Items.{served_in}
+use Rattle.entry_forms.specs.meaning.Entries.{entries_in, tables_in}
 use Rattle.report_reader.specs.meaning.Reports.{members_in, front_in, middle_in, image_in, back_in, report_with, report_in, as_bad, report_of}
-use Rattle.report_reader.specs.Keeping.{is_entry, IsTold}
-use Rattle.report_reader.proofs.ReadEntries.{member_read, entries_read}
-use Rattle.report_reader.proofs.ReadItems.{Good, served_read}
+use Rattle.told_reports.specs.Keeping.{is_entry, IsTold}
+use Rattle.entry_forms.proofs.Offered.{entries_read}
+use Rattle.note_forms.proofs.Offered.{Good, served_read}
 
 middle_read : (print : Bool) (ms : Named) (middle : Middle) → middle_in print ms ≡ Ok middle → list_all is_entry middle.entries ≡ true
 unfolding middle_in

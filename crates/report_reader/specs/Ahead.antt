@@ -1,5 +1,5 @@
 -- A report whose clients, entries, notes, served items and tables are read one after the other.
-use Rattle.std.specs.Prelude.{◌≡◌, ℕ, ◌^◌, ◌-◌, ◌&&◌, Bool, true, nat_lt, List, [], ◌∷◌, if◌then◌else◌, Option, Some, None, option_map, Result, Ok, codes}
+use Rattle.std.specs.Prelude.{◌≡◌, ℕ, ◌^◌, ◌-◌, Bool, List, [], ◌∷◌, if◌then◌else◌, Option, Some, None, option_map, Result, Ok, codes}
 use Rattle.json.specs.Token.{Token}
 use Rattle.serde_json.specs.Data.{Data}
 use Rattle.json_form.specs.meaning.Faults.{Fault, ◌>>=◌}
@@ -7,21 +7,15 @@ use Rattle.json_form.specs.meaning.Values.{whole_of}
 use Rattle.json_form.specs.meaning.Objects.{Named, is_among, optional, member_in}
 use Rattle.json_form.specs.Objects.{members_at, putting}
 use Rattle.json_form.specs.Streams.{value_ahead}
-use Rattle.outage_schedule.specs.declared.item.Served.{Served}
 use Rattle.outage_schedule.specs.declared.note.Note.{Note}
 use Rattle.report_reader.specs.declared.streamed.Ahead.{Ahead}
 use Rattle.report_reader.specs.declared.streamed.Others.{Others}
-use Rattle.report_reader.specs.meaning.Parts.{identifiers_in}
-use Rattle.report_reader.specs.meaning.Requests.{clients_in}
-use Rattle.report_reader.specs.meaning.Notes.{notes_in}
-use Rattle.report_reader.specs.meaning.Items.{served_in}
-use Rattle.report_reader.specs.meaning.Entries.{entries_in, tables_in}
+use Rattle.answer_forms.specs.meaning.Parts.{identifiers_in}
+use Rattle.entry_forms.specs.meaning.Requests.{clients_in}
+use Rattle.note_forms.specs.meaning.Notes.{notes_in}
+use Rattle.note_forms.specs.meaning.Items.{served_in}
+use Rattle.entry_forms.specs.meaning.Entries.{entries_in, tables_in}
 use Rattle.report_reader.specs.meaning.Reports.{alerts_in, image_name, image_in}
-
--- each event is behind the one before
-abbrev pub events_rise : ℕ → List Served → Bool
-events_rise last [] = true
-events_rise last (one ∷ items) = nat_lt last one.event && events_rise one.event items
 
 -- the members whose values are held until the last member was passed
 abbrev pub held_members : Bool → List (List ℕ)

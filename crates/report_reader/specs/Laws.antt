@@ -4,7 +4,7 @@ use Rattle.serde_json.specs.Data.{Data}
 use Rattle.outage_schedule.specs.declared.document.Document.{Document}
 use Rattle.outage_schedule.specs.declared.report.Report.{Report}
 use Rattle.report_reader.specs.meaning.Reports.{report_of}
-use Rattle.report_reader.specs.Keeping.{IsTold}
+use Rattle.told_reports.specs.Keeping.{IsTold}
 
 -- each report that was read keeps to what reports do
 abbrev pub IsReadAsTold : Type 0

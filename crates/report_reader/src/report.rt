@@ -4,17 +4,16 @@ ghost use Rattle.serde_json.specs.View.{view};
 ghost use Rattle.json_form.specs.meaning.Faults.{Fault};
 ghost use Rattle.json_form.specs.Faults.{Gives, GivesBy};
 ghost use Rattle.json_form.specs.Objects.{members_at};
-ghost use Rattle.report_reader.specs.Keeping.{IsTold};
+ghost use Rattle.told_reports.specs.Keeping.{IsTold};
 ghost use Rattle.report_reader.specs.meaning.Reports.{alerts_in, image_bytes_in, image_in, front_in, middle_in, back_in, report_with as report_with_def, members_in, report_in, as_bad as as_bad_def, report_of};
 
-use crate::entry::{EntriesReader, TablesReader};
-use crate::item::ItemsReader;
-use crate::known::KnownRows;
-use crate::note::NotesReader;
-use crate::part::{HORIZON, LtxidsReader};
-use crate::request::ClientsReader;
+use answer_forms::{KnownRows, LtxidsReader};
 use call_forms::LineReader;
-use json_form::{Digits, DocCode, DocFault, Members, Reader, list_from, object_with, octets_from};
+use entry_forms::{ClientsReader, EntriesReader, TablesReader};
+use json_form::{
+    Digits, DocCode, DocFault, Members, Reader, Whole, list_from, object_with, octets_from,
+};
+use note_forms::{ItemsReader, NotesReader};
 use outage_schedule::{
     Alerts, Document, Image, Ltxids, Notes, Report, ReportEntries, ReportTables, ServedItems,
     Transcripts,
@@ -22,6 +21,12 @@ use outage_schedule::{
 use serde_json::Value as Json;
 use std::alloc::Global;
 use svc_values::Listed;
+
+/// Reads the horizon of a run that forgot something.
+pub(crate) const HORIZON: Whole = Whole {
+    low: 1,
+    high: u64::MAX,
+};
 
 /// Reads alert lines, in order.
 pub(crate) struct AlertsReader;

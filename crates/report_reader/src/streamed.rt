@@ -6,18 +6,15 @@ ghost use Rattle.json_form.specs.Faults.{Gives};
 ghost use Rattle.json_form.specs.meaning.Objects.{named, known, is_among as is_among_def};
 ghost use Rattle.json_form.specs.Objects.{members_at};
 ghost use Rattle.json_form.specs.Streams.{Begins, members_ahead as members_ahead_def};
-ghost use Rattle.report_reader.specs.Keeping.{IsTold};
+ghost use Rattle.told_reports.specs.Keeping.{IsTold};
 ghost use Rattle.report_reader.specs.meaning.Reports.{report_members, report_in, report_of};
 ghost use Rattle.report_reader.specs.Ahead.{held_members, others_in, AreRead};
 
-use crate::entry::{entries_ahead, tables_ahead};
-use crate::known::KnownRows;
-use crate::note::notes_ahead;
-use crate::part::{HORIZON, LtxidsReader};
-use crate::report::{AlertsReader, image_from};
-use crate::request::clients_ahead;
-use crate::served_ahead::served_ahead;
+use crate::report::{AlertsReader, HORIZON, image_from};
+use answer_forms::{KnownRows, LtxidsReader};
+use entry_forms::{clients_ahead, entries_ahead, tables_ahead};
 use json_form::{DocFault, Members, is_among, object_begins, value_from};
+use note_forms::{notes_ahead, served_ahead};
 use outage_schedule::{
     Alerts, Document, Image, Ltxids, Notes, Report, ReportEntries, ReportTables, ServedItems,
     Transcripts,

@@ -6,9 +6,9 @@ use Rattle.std.proofs.lemmas.Bool.{and_parts, and_from, eqb-true, eqb-false, ltb
 use Rattle.outage_schedule.specs.declared.item.Served.{Served}
 use Rattle.outage_schedule.specs.declared.note.Note.{Note}
 use Rattle.outage_schedule.specs.declared.note.Note.TheVariants as note
-use Rattle.report_reader.specs.declared.item.ServedWord.{ServedWord}
-use Rattle.report_reader.specs.Keeping.{word_of_item, events_fit}
-use Rattle.report_reader.specs.meaning.Items.{may_stand, fits_event}
+use Rattle.told_reports.specs.declared.place.ServedWord.{ServedWord}
+use Rattle.told_reports.specs.Keeping.{word_of_item, events_fit}
+use Rattle.told_reports.specs.meaning.Places.{may_stand, fits_event}
 use Rattle.run_clauses.specs.meaning.Moments.{moment_of_note}
 use Rattle.shown_clauses.specs.meaning.Fronts.{front_from, front_of, rest_from, rest_of}
 use Rattle.shown_clauses.specs.meaning.Happenings.{is_up_to, items_at}

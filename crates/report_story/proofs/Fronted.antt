@@ -20,7 +20,7 @@ use Rattle.shown_clauses.specs.meaning.Parts.{Part}
 use Rattle.shown_clauses.specs.meaning.KeptDraws.{parts, is_marked_item, place_in, kept_since, kept_in_turn, kept_on_link}
 use Rattle.shown_clauses.specs.meaning.LegalItems.{kept_if, after_moment}
 use Rattle.shown_clauses.specs.meaning.Places.{Place, Front, first_front, behind, reach_from, reach, noted_if, after_served}
-use Rattle.report_reader.specs.Keeping.{IsTold}
+use Rattle.told_reports.specs.Keeping.{IsTold}
 use Rattle.report_story.specs.Kept.{kept_by, kept_here, kept_from}
 use Rattle.report_story.specs.Passing.{Repeated, repeated_in, repeated_if, repeated_by, Passed, pass, passed_by}
 use Rattle.report_story.specs.Plain.{plain_link, plain_seen}

@@ -10,7 +10,7 @@ use Rattle.shown_clauses.specs.meaning.Happenings.{Happening, is_up_to, items_at
 use Rattle.shown_clauses.specs.meaning.Fronts.{rest_of}
 use Rattle.shown_clauses.specs.meaning.Links.{Seen, nothing_seen, after_item, after_note, after_happening}
 use Rattle.shown_clauses.specs.meaning.Steps.{Step as ClientStep, steps_at, steps_from, steps, turns_seen, turns}
-use Rattle.report_reader.specs.Keeping.{IsTold}
+use Rattle.told_reports.specs.Keeping.{IsTold}
 use Rattle.report_story.specs.Plain.{plain_seen, plain_step, plain_note}
 use Rattle.report_story.specs.Passing.{Repeated, repeated_by, Passed, with_step, with_one_if, with_first, with_note, pass, passed_by}
 use Rattle.report_story.proofs.Fitting.{fits, fits_first, is_apart, Step, Here, Apart, step_of, none_at, none_passed, one_at, one_passed}

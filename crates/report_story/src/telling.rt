@@ -1,7 +1,7 @@
 //! The story of a report.
 ghost use Rattle.std.specs.Prelude.{◌≡◌, fold, map, option_map, reverse, IfOk};
 ghost use Rattle.shown_clauses.specs.meaning.Steps.{steps as steps_def, turns as turns_def};
-ghost use Rattle.report_reader.specs.Keeping.{IsTold};
+ghost use Rattle.told_reports.specs.Keeping.{IsTold};
 ghost use Rattle.report_story.specs.Passing.{begun_with, pass, passed_by};
 ghost use Rattle.report_story.specs.Plain.{plain_step};
 ghost use Rattle.report_story.specs.Views.{repeated_as, step_as};

@@ -1,7 +1,7 @@
 //! Whether each request was shown its whole script, or failed.
 ghost use Rattle.std.specs.Prelude.{◌≡◌, ℕ, is_none, map, reverse, IfOk};
 ghost use Rattle.doc_reader.specs.Keeping.{IsDocument};
-ghost use Rattle.report_reader.specs.Keeping.{IsTold};
+ghost use Rattle.told_reports.specs.Keeping.{IsTold};
 ghost use Rattle.svc_values.specs.declared.entry.SessionId.{SessionId as Id};
 ghost use Rattle.run_clauses.specs.meaning.Before.{journal_before as journal_def};
 ghost use Rattle.run_clauses.specs.meaning.EntryEvents.{stored_entries, stored_up_to};

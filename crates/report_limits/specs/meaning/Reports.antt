@@ -11,7 +11,7 @@ use Rattle.svc_values.specs.declared.entry.Entry.{Entry}
 use Rattle.outage_schedule.specs.declared.report.ReportTable.{ReportTable}
 use Rattle.outage_schedule.specs.declared.report.Report.{Report}
 use Rattle.report_text.specs.meaning.Octets.{ReportOfBytes}
-use Rattle.report_reader.specs.meaning.Settings.{names_rise}
+use Rattle.told_reports.specs.meaning.Settings.{names_rise}
 use Rattle.report_limits.specs.meaning.Limits.{fits_u64, fits_line, fits_row, fits_identifier, fits_session, fits_settings, fits_replies}
 use Rattle.report_limits.specs.meaning.Notes.{fits_told, fits_note}
 use Rattle.report_limits.specs.meaning.Requests.{fits_request}

@@ -14,11 +14,11 @@ use Rattle.outage_schedule.specs.declared.report.Report.{Report}
 use Rattle.report_reader.specs.declared.report.Front.{Front}
 use Rattle.report_reader.specs.declared.report.Middle.{Middle}
 use Rattle.report_reader.specs.declared.report.Back.{Back}
-use Rattle.report_reader.specs.meaning.Parts.{identifiers_in}
-use Rattle.report_reader.specs.meaning.Requests.{clients_in}
-use Rattle.report_reader.specs.meaning.Notes.{notes_in}
-use Rattle.report_reader.specs.meaning.Items.{served_in}
-use Rattle.report_reader.specs.meaning.Entries.{entries_in, tables_in}
+use Rattle.answer_forms.specs.meaning.Parts.{identifiers_in}
+use Rattle.entry_forms.specs.meaning.Requests.{clients_in}
+use Rattle.note_forms.specs.meaning.Notes.{notes_in}
+use Rattle.note_forms.specs.meaning.Items.{served_in}
+use Rattle.entry_forms.specs.meaning.Entries.{entries_in, tables_in}
 
 abbrev pub alerts_in : Data → Result (List (List ℕ)) Fault
 alerts_in d = list_of (each_of line_of) d

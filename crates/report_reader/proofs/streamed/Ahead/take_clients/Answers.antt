@@ -1,6 +1,6 @@
 use Rattle.json_form.specs.Streams.{value_ahead}
 use Rattle.json_form.proofs.Offered.{begun}
-use Rattle.report_reader.specs.meaning.Requests.{clients_in}
+use Rattle.entry_forms.specs.meaning.Requests.{clients_in}
 use Rattle.report_reader.proofs.OneByOne.{clients_put}
 use Rattle.report_reader.proofs.streamed.Ahead.take_clients.Goals as goal
 

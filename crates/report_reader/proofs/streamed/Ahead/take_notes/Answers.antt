@@ -1,7 +1,7 @@
 use Rattle.std.proofs.Common.{sym}
 use Rattle.json_form.specs.Streams.{value_ahead}
 use Rattle.json_form.proofs.Offered.{begun}
-use Rattle.report_reader.specs.meaning.Notes.{notes_in}
+use Rattle.note_forms.specs.meaning.Notes.{notes_in}
 use Rattle.report_reader.proofs.OneByOne.{not_there, notes_put}
 use Rattle.report_reader.proofs.streamed.Ahead.take_notes.Goals as goal
 

@@ -1,7 +1,7 @@
 use Rattle.std.proofs.Common.{◌≡◌, Some, rules}
 use Rattle.json_form.specs.Streams.{value_ahead}
 use Rattle.json_form.proofs.Offered.{begun}
-use Rattle.report_reader.specs.meaning.Items.{served_in}
+use Rattle.note_forms.specs.meaning.Items.{served_in}
 use Rattle.report_reader.proofs.OneByOne.{served_put}
 use Rattle.report_reader.proofs.streamed.Ahead.take_served.Goals as goal
 

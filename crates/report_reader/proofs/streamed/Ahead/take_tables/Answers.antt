@@ -1,6 +1,6 @@
 use Rattle.json_form.specs.Streams.{value_ahead}
 use Rattle.json_form.proofs.Offered.{begun}
-use Rattle.report_reader.specs.meaning.Entries.{tables_in}
+use Rattle.entry_forms.specs.meaning.Entries.{tables_in}
 use Rattle.report_reader.proofs.OneByOne.{tables_put}
 use Rattle.report_reader.proofs.streamed.Ahead.take_tables.Goals as goal
 

@@ -1,0 +1,4 @@
+pub mod AnswersAhead
+pub mod ArraysAhead
+pub mod Offered
+pub mod ReadParts

@@ -1,0 +1,134 @@
+//! Rows that a report tells several times, of which one list is kept.
+ghost use Rattle.std.specs.Prelude.{◌≡◌};
+ghost use Rattle.std.specs.Cmp.Lexicographic.{pointwise};
+ghost use Rattle.svc_values.specs.meaning.Same.{same_value};
+
+use outage_schedule::{RequestReport, Transcript, Transcripts};
+use std::alloc::Global;
+use svc_values::laws::compares_exactly;
+use svc_values::{Answer, KeyMap, NoMemory, Row, Rows, TryCopy, Value};
+
+/// What the number of no rows is, and by what it is multiplied with each part (the hash FNV-1a).
+const FIRST: u64 = 0xcbf2_9ce4_8422_2325;
+
+const PRIME: u64 = 0x0000_0100_0000_01b3;
+
+fn with_part(number: u64, part: u64) -> u64 {
+    (number ^ part).wrapping_mul(PRIME)
+}
+
+fn with_bytes(number: u64, bytes: &[u8]) -> u64 {
+    let mut all = with_part(number, bytes.len() as u64);
+    for byte in bytes {
+        all = with_part(all, *byte as u64);
+    }
+    all
+}
+
+fn with_value(number: u64, value: &Value) -> u64 {
+    match value {
+        Value::Int(n) => with_part(number, n.unsigned_abs()),
+        Value::Text(text) => with_bytes(number, text.as_str().as_bytes()),
+        Value::Bytes(bytes) => with_bytes(number, bytes.as_slice()),
+    }
+}
+
+fn with_row(number: u64, row: &Row) -> u64 {
+    let mut all = with_part(number, row.len() as u64);
+    for value in row.as_slice() {
+        all = with_value(all, value);
+    }
+    all
+}
+
+/// A number that is the same of the same rows, and seldom of others. Linear in their bytes.
+fn number_of(rows: &[Row]) -> u64 {
+    let mut all = FIRST;
+    for row in rows {
+        all = with_row(all, row);
+    }
+    all
+}
+
+/// Whether the two are the same rows.
+fn are_same(one: &Rows, other: &Rows) -> bool
+    ensures { result ≡ pointwise (pointwise same_value) one.now other.now }
+{
+    compares_exactly();
+    *one == *other
+}
+
+/// These rows, which are held once where the known ones are the same.
+fn held_once(alloc: Global, known: &Rows, rows: Rows) -> Rows
+    ensures { result ≡ rows }
+{
+    if are_same(known, &rows) {
+        return match known.copy(alloc) {
+            Ok(copy) => copy,
+            Err(NoMemory) => rows,
+        };
+    }
+    rows
+}
+
+/// Rows that clients were shown, by their numbers. What was stored and what was served tell the
+/// same rows again. Which rows are known decides no answer, but for the memory that is held.
+#[derive(Drop)]
+pub struct KnownRows {
+    rows: KeyMap<u64, Rows>,
+}
+
+impl KnownRows {
+    /// No rows.
+    pub fn new(alloc: Global) -> KnownRows {
+        KnownRows {
+            rows: KeyMap::new(alloc),
+        }
+    }
+
+    /// The rows that these clients were shown, or those before memory was refused. It takes the
+    /// time of their bytes, and n log n for n lists of rows.
+    pub fn shown(alloc: Global, clients: &Transcripts) -> KnownRows {
+        let mut known = KnownRows::new(alloc);
+        for client in clients.as_slice() {
+            if known.note_client(alloc, client).is_err() {
+                return known;
+            }
+        }
+        known
+    }
+
+    fn note_client(&mut self, alloc: Global, client: &Transcript) -> Result<(), NoMemory> {
+        for request in client.as_slice() {
+            self.note_request(alloc, request)?;
+        }
+        Ok(())
+    }
+
+    fn note_request(&mut self, alloc: Global, request: &RequestReport) -> Result<(), NoMemory> {
+        for call in request.calls.as_slice() {
+            self.note_answers(alloc, call.answers.as_slice())?;
+        }
+        Ok(())
+    }
+
+    fn note_answers(&mut self, alloc: Global, answers: &[Answer]) -> Result<(), NoMemory> {
+        for answer in answers {
+            if let Answer::Rows(rows) = answer {
+                self.rows
+                    .put(number_of(rows.as_slice()), rows.copy(alloc)?)?;
+            }
+        }
+        Ok(())
+    }
+
+    /// These rows, which are held once where they are known.
+    pub(crate) fn once(&self, alloc: Global, rows: Rows) -> Rows
+        ensures { result ≡ rows }
+    {
+        match self.rows.get(&number_of(rows.as_slice())) {
+            Some(known) => held_once(alloc, known, rows),
+            None => rows,
+        }
+    }
+}

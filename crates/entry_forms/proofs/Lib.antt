@@ -1,0 +1,3 @@
+pub mod ObjectsAhead
+pub mod Offered
+pub mod ReadEntries

@@ -1,0 +1,2 @@
+pub mod ObjectsAhead
+pub mod meaning

@@ -1,0 +1,4 @@
+-- What the program's promise means: all that its definition uses of this crate.
+pub mod Entries
+pub mod Failures
+pub mod Requests

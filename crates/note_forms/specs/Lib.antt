@@ -1,0 +1,3 @@
+pub mod ItemsAhead
+pub mod NotesAhead
+pub mod meaning

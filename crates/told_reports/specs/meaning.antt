@@ -1,0 +1,3 @@
+-- What the program's promise means: all that its definition uses of this crate.
+pub mod Places
+pub mod Settings
