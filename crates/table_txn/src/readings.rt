@@ -1,8 +1,8 @@
 //! What a transaction read.
-ghost use Rattle.std.specs.Prelude.{◌≡◌, ◌||◌, not, true, [], OnOk, OnErr, IsTrue, MatchBool, is_some};
+ghost use Rattle.std.specs.Prelude.{◌≡◌, ◌||◌, not, true, [], OnOk, OnErr, IsTrue, MatchBool};
 ghost use Rattle.std.specs.Option.{option_copied};
 ghost use Rattle.svc_values.specs.meaning.Tables.{rows_at};
-ghost use Rattle.table_txn.specs.Readings.{HasRead, HasReadIfAny, AreApart, AreUnchanged, reading_of, first_changed};
+ghost use Rattle.table_txn.specs.Readings.{HasRead, HasReadIfAny, AreApart, AreUnchanged, first_changed};
 ghost use Rattle.table_txn.specs.Found.{kept, is_for, are_for, same_found, HasBefore, IsRead, IsNotRead};
 
 use crate::found::{Committed, Found, committed_at};
