@@ -3,4 +3,5 @@ pub mod ListsAhead
 pub mod ItemsAhead
 pub mod NamesAhead
 pub mod ReadCalls
+pub mod ValuesAhead
 pub mod Offered

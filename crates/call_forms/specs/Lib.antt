@@ -1,2 +1,3 @@
 pub mod ItemsAhead
+pub mod ValuesAhead
 pub mod meaning

@@ -1,15 +1,18 @@
 //! Readers of names, values and operands.
-ghost use Rattle.std.specs.Prelude.{◌≡◌, ◌≤◌, length, string_bytes, IfOk, IfErr};
+ghost use Rattle.std.specs.Prelude.{◌≡◌, ◌≤◌, length, string_bytes, IfOk, IfErr, IfSome};
 ghost use Rattle.std.specs.Str.{bytes_eq};
+ghost use Rattle.json.specs.Reads.{token_of};
 ghost use Rattle.serde_json.specs.View.{view, members_view};
 ghost use Rattle.json_form.specs.Faults.{Gives, GivesBy};
 ghost use Rattle.json_form.specs.meaning.Arrays.{is_key};
 ghost use Rattle.json_form.specs.declared.fault.DocFault.TheVariants.{NoMemory};
 ghost use Rattle.call_forms.specs.meaning.Values.{name_of, new_name, value_of, bytes_value, bytes_object, line_of, only_member as only_member_def, operand_named as operand_named_def, operand_of, draw_words};
+ghost use Rattle.call_forms.specs.ValuesAhead.{IsPlain};
 
 use json::Token;
 use json_form::{
-    Digits, DocCode, DocFault, Integer, Reader, Taken, object_with, octets_from, text_from, within,
+    Digits, DocCode, DocFault, Integer, Reader, Taken, integer_in, object_from, object_with,
+    octets_from, text_from, within,
 };
 use serde_json::{Map, Value as Json};
 use std::alloc::Global;
@@ -94,6 +97,14 @@ impl Reader<Text> for LineReader {
             Err(_) => Err(DocFault::here(alloc, DocCode::Limit)),
         }
     }
+
+    /// The text that the tokens begin with, which is copied once.
+    fn ahead(&self, alloc: Global, tokens: &mut json::Reader<'_>, _depth: usize) -> Option<Text> {
+        match tokens.next()? {
+            Token::String(text) => Text::new(alloc, text).ok(),
+            _ => None,
+        }
+    }
 }
 
 /// At most 64 bytes, as hexadecimal digits.
@@ -116,6 +127,24 @@ fn bytes_member(alloc: Global, value: Json, digits: Digits) -> Result<Value, Doc
     within(alloc, "hex", bytes_from(alloc, hex, digits))
 }
 
+/// The value that a token is by itself: a text or a number. There is none of a text past its limit, of a
+/// number that is not an integer of 64 bits or is `-0`, and of each other token.
+fn plain_value(alloc: Global, token: Token<'_>) -> Option<Value>
+    ensures { IfSome result (λ x. IsPlain (token_of token.entry) x) }
+{
+    match token {
+        Token::String(text) => {
+            let text = Text::new(alloc, text).ok()?;
+            Some(Value::Text(text))
+        }
+        Token::Number(text) => {
+            let number = integer_in(text)?;
+            Some(Value::Int(number))
+        }
+        _ => None,
+    }
+}
+
 /// Reads a value: a number, a text, or an object of bytes in these digits.
 #[derive(Clone, Copy, Debug, PartialEq, Eq)]
 pub struct ValueReader {
@@ -134,6 +163,18 @@ impl Reader<Value> for ValueReader {
             return Ok(Value::Int(Integer.read(alloc, value)?));
         }
         bytes_member(alloc, value, self.digits)
+    }
+
+    /// The value that the tokens begin with, with no JSON value between where it is a text or a number.
+    fn ahead(&self, alloc: Global, tokens: &mut json::Reader<'_>, depth: usize) -> Option<Value> {
+        match tokens.next()? {
+            Token::BeginObject => {
+                let bytes = object_from(alloc, tokens, depth)?;
+                let value = self.read(alloc, bytes).ok()?;
+                Some(value)
+            }
+            token => plain_value(alloc, token),
+        }
     }
 }
 
@@ -220,6 +261,21 @@ impl Reader<Operand> for OperandReader {
                 operand_named(alloc, name.as_str(), inner, digits)
             }
             literal => Ok(Operand::Lit(ValueReader { digits }.read(alloc, literal)?)),
+        }
+    }
+
+    /// The operand that the tokens begin with, with no JSON value between where it is a text or a number.
+    fn ahead(&self, alloc: Global, tokens: &mut json::Reader<'_>, depth: usize) -> Option<Operand> {
+        match tokens.next()? {
+            Token::BeginObject => {
+                let named = object_from(alloc, tokens, depth)?;
+                let operand = self.read(alloc, named).ok()?;
+                Some(operand)
+            }
+            token => {
+                let literal = plain_value(alloc, token)?;
+                Some(Operand::Lit(literal))
+            }
         }
     }
 }

@@ -2,13 +2,35 @@
 ghost use Rattle.std.specs.Prelude.{◌≡◌, ◌<◌, length, IfSome};
 ghost use Rattle.json_form.specs.meaning.Arrays.{is_key};
 ghost use Rattle.json_form.specs.Streams.{Begins};
-ghost use Rattle.document_forms.specs.meaning.Tables.{row_of};
+ghost use Rattle.document_forms.specs.meaning.Tables.{field_of, row_of};
 ghost use Rattle.document_forms.specs.RowsAhead.{fields_of};
 
-use crate::table::{field_from, fitting_row};
-use json_form::{Taken, array_begins, value_from};
+use crate::table::fitting_row;
+use call_forms::ValueReader;
+use json_form::{Digits, Reader, Taken, array_begins};
 use std::alloc::Global;
 use svc_values::{Columns, Limited, Row, Value};
+
+/// One value of a row: the first is the key, which does not stand before.
+fn field_ahead(
+    alloc: Global,
+    taken: &Taken<Value>,
+    before: &[Value],
+    tokens: &mut json::Reader<'_>,
+    depth: usize,
+) -> Option<Value>
+    ensures begins { IfSome result (λ x. Begins
+        (field_of (is_key ⟦<Value as PartialEq>⟧.eq taken.now) before.now) depth tokens.old x tokens.new) }
+    ensures shorter { IfSome result (λ _. length tokens.new < length tokens.old) }
+{
+    let digits = Digits::Any;
+    let field = ValueReader { digits }.ahead(alloc, tokens, depth)?;
+    if !before.is_empty() {
+        return Some(field);
+    }
+    taken.fresh(alloc, &field).ok()?;
+    Some(field)
+}
 
 /// The values of a row of so many. Beside the list of them memory is taken for the bytes of texts and of
 /// octets alone.
@@ -30,8 +52,7 @@ fn fields_ahead(
         if found.len() >= count {
             return None;
         }
-        let value = value_from(alloc, tokens, inside)?;
-        let field = field_from(alloc, taken, found.as_slice(), value).ok()?;
+        let field = field_ahead(alloc, taken, found.as_slice(), tokens, inside)?;
         found.push(field).ok()?;
     }
     if found.len() != count {

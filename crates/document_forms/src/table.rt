@@ -75,7 +75,7 @@ pub(crate) fn columns_from(alloc: Global, value: Json) -> Result<Columns, DocFau
 }
 
 /// One value of a row: the first is the key, which does not stand before.
-pub(crate) fn field_from(
+fn field_from(
     alloc: Global,
     taken: &Taken<Value>,
     before: &[Value],

@@ -5,12 +5,14 @@ pub mod Failures
 pub mod FormsBack
 pub mod Keys
 pub mod Known
+pub mod NumbersAhead
 pub mod Offered
 pub mod PutThere
 pub mod Readings
 pub mod Runs
 pub mod Shapes
 pub mod ShortNumbers
+pub mod SignedTexts
 pub mod TakenOut
 pub mod There
 pub mod Utf8

@@ -18,6 +18,8 @@ pub use Rattle.json_form.proofs.Ahead.{read_ahead, one_read, none_left, exact_re
 pub use Rattle.json_form.proofs.Ahead.{string_ahead, object_ahead, bracket_ahead, begins_with}
 -- items that are passed one after the other: one more of them, their end, and those that were kept
 pub use Rattle.json_form.proofs.Ahead.{item_turn, items_over, items_before, items_before-no_items, one_more_item}
+-- a number is what its token is, and one of 64 bits with a sign is read as itself
+pub use Rattle.json_form.proofs.NumbersAhead.{number_ahead, integer_read}
 -- a name, and the end of an object, leave fewer tokens
 pub use Rattle.json.proofs.Grammar.{read_key-shorter}
 -- parts of which a value of the form is made, by how deep it nests

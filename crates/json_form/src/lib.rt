@@ -24,12 +24,13 @@ pub use distinct::{KeyedReader, Taken, distinct_ahead, distinct_from, distinct_l
 pub use fault::{DocCode, DocFault};
 pub use fixed_ahead::{array_ends, last_ahead, word_ahead};
 pub use hexadecimal::{Digits, octets_by, octets_from, octets_in};
+pub use number::integer_in;
 pub use object::{Members, is_among, object_with};
 pub use object_ahead::{member_begins, object_ends};
 pub use parts::{Parts, fixed, parts_from};
 pub use pointer::Pointer;
 pub use reader::{Flag, Integer, Reader, Whole};
 pub use step::{within, within_item};
-pub use stream::{array_begins, object_begins, value_from};
+pub use stream::{array_begins, object_begins, object_from, value_from};
 pub use text::{TextWriter, Writer};
 pub use word::{chosen, head_from, text_from, word_from};

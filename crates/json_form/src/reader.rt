@@ -8,7 +8,9 @@ ghost use Rattle.json_form.specs.meaning.Values.{whole_of, integer_of, bool_of};
 ghost use Rattle.json_form.specs.Streams.{Begins};
 
 use crate::fault::{DocCode, DocFault};
+use crate::number::{integer_in, whole_in};
 use crate::stream::value_from;
+use json::Token;
 use serde_json::{Number, Value};
 use std::alloc::Global;
 
@@ -70,6 +72,18 @@ impl Reader<u64> for Whole {
         }
         Ok(number)
     }
+
+    /// The number that the tokens begin with, with no JSON value of it between.
+    fn ahead(&self, _alloc: Global, tokens: &mut json::Reader<'_>, _depth: usize) -> Option<u64> {
+        let Token::Number(text) = tokens.next()? else {
+            return None;
+        };
+        let number = whole_in(text)?;
+        if number < self.low || self.high < number {
+            return None;
+        }
+        Some(number)
+    }
 }
 
 /// Reads a whole number of 64 bits with a sign.
@@ -88,6 +102,15 @@ impl Reader<i64> for Integer {
             Ok(small) => Ok(small),
             Err(_) => Err(DocFault::here(alloc, DocCode::Limit)),
         }
+    }
+
+    /// The number that the tokens begin with, with no JSON value of it between.
+    fn ahead(&self, _alloc: Global, tokens: &mut json::Reader<'_>, _depth: usize) -> Option<i64> {
+        let Token::Number(text) = tokens.next()? else {
+            return None;
+        };
+        let number = integer_in(text)?;
+        Some(number)
     }
 }
 

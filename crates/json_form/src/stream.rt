@@ -1,11 +1,12 @@
 //! Values that are read from the tokens of a text one after the other.
-ghost use Rattle.std.specs.Prelude.{◌≡◌, ◌+◌, ◌<◌, length, Some, IfSome};
+ghost use Rattle.std.specs.Prelude.{◌≡◌, ◌+◌, ◌<◌, ◌∷◌, length, Some, IfSome};
 ghost use Rattle.json.specs.Json.{parse_map};
+ghost use Rattle.json.specs.Token.{begin_object};
 ghost use Rattle.serde_json.specs.Data.{array, object};
 ghost use Rattle.serde_json.specs.View.{view, items_view, members_view};
 ghost use Rattle.json_form.specs.Streams.{value_ahead, items_ahead, members_ahead};
 
-use crate::number::integer_in;
+use crate::number::number_in;
 use json::{Reader, Token};
 use serde_json::{Map, Value};
 use std::alloc::Global;
@@ -21,7 +22,7 @@ pub fn value_from(alloc: Global, tokens: &mut Reader<'_>, depth: usize) -> Optio
     let token = tokens.next()?;
     match token {
         Token::String(text) => Some(Value::String(String::from_str(alloc, text).ok()?)),
-        Token::Number(text) => Some(Value::Number(integer_in(text)?)),
+        Token::Number(text) => Some(Value::Number(number_in(text)?)),
         Token::Bool(flag) => Some(Value::Bool(flag)),
         Token::Null => Some(Value::Null),
         Token::EndObject | Token::EndArray | Token::Key(_) | Token::Bad => None,
@@ -31,13 +32,22 @@ pub fn value_from(alloc: Global, tokens: &mut Reader<'_>, depth: usize) -> Optio
             }
             Some(Value::Array(items_from(alloc, tokens, depth - 1)?))
         }
-        Token::BeginObject => {
-            if depth == 0 {
-                return None;
-            }
-            Some(Value::Object(members_from(alloc, tokens, depth - 1)?))
-        }
+        Token::BeginObject => object_from(alloc, tokens, depth),
     }
+}
+
+/// The object whose brace was passed, nested no deeper than `depth`. There is none where `value_from` gives
+/// none.
+#[cycle(ahead)]
+pub fn object_from(alloc: Global, tokens: &mut Reader<'_>, depth: usize) -> Option<Value>
+    ensures read { IfSome result
+        (λ v. value_ahead depth (begin_object ∷ tokens.old) ≡ Some (view v, tokens.new)) }
+    ensures shorter { IfSome result (λ _. length tokens.new < length tokens.old) }
+{
+    if depth == 0 {
+        return None;
+    }
+    Some(Value::Object(members_from(alloc, tokens, depth - 1)?))
 }
 
 #[cycle(ahead)]

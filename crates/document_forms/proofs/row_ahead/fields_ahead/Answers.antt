@@ -1,14 +1,14 @@
-use Rattle.std.proofs.Common.{◌≡◌, ◌-◌, ◌<◌, [], ◌∷◌, ◌++◌, length, None, Ok, sym, ap, ◌∙◌, arith, rules}
+use Rattle.std.proofs.Common.{◌≡◌, ◌-◌, ◌<◌, [], ◌∷◌, ◌++◌, length, None, sym, ap, ◌∙◌, arith, rules}
 use Rattle.std.proofs.lemmas.List.{length_push}
 use Rattle.json.specs.Json.{parse_map, after_end_array, items, value}
 use Rattle.serde_json.specs.Read.{of_items, converted}
-use Rattle.serde_json.specs.View.{view}
 use Rattle.json_form.specs.meaning.Faults.{within_item}
 use Rattle.json_form.specs.meaning.Arrays.{each_after, is_key}
+use Rattle.json_form.specs.Streams.{Begins, value_ahead}
 use Rattle.svc_values.specs.contracts.value.ValuePartialEq.TheImpl.{eq-value}
 use Rattle.document_forms.specs.meaning.Tables.{field_of}
 use Rattle.document_forms.specs.RowsAhead.{fields_of}
-use Rattle.json_form.proofs.Offered.{one_read, none_left, exact_read}
+use Rattle.json_form.proofs.Offered.{begun, one_read, none_left, exact_read}
 use Rattle.document_forms.proofs.row_ahead.fields_ahead.Goals as goal
 
 pub fields-preserved : goal.fields-preserved
@@ -18,13 +18,14 @@ fields-preserved c =
     let n = l.invariant.turns in
     let reads = field_of (is_key eq-value.it c.args.taken.now) in
     let x = c.in_ok-field.field in
-    let r = c.value_from.new.tokens in
+    let r = c.field_ahead.new.tokens in
     let going : (after_end_array l.tokens ≡ None) × (c.take_end_array.new.self ≡ l.tokens) = grind arith in
-    let done = c.in_ok-value.ensures in
+    let done = c.in_ok-field.ensures in
     let less : length r < length l.tokens = rw (← going.1) done.shorter in
-    let told : reads l.found.items (view c.in_ok-value.value) ≡ Ok x = search rules in
-    let one = ap (within_item (length l.found.items)) told in
-    let turn = one_read reads l.found.items p n l.tokens r (view c.in_ok-value.value) x (omega (arith, l.invariant.enough)) going.0 (rw (← going.1) done.read) one in
+    let begins : Begins (reads l.found.items) c.in_ok-inside.inside l.tokens x r = search rules in
+    let b = begun (reads l.found.items) (value_ahead c.in_ok-inside.inside l.tokens) x r begins in
+    let one = ap (within_item (length l.found.items)) b.2 in
+    let turn = one_read reads l.found.items p n l.tokens r b.0 x (omega (arith, l.invariant.enough)) going.0 b.1 one in
     let grown : c.push.new.self.items ≡ l.found.items ++ x ∷ [] = search rules in
     record {
       turns = n - 1;

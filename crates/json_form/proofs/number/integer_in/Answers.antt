@@ -1,30 +1,26 @@
-use Rattle.std.proofs.Common.{◌≡◌, drop, get_or, true, false, ◌==◌, sym, ap, ◌∙◌, arith, take_all, length-drop, Option, Some, None}
-use Rattle.std.specs.Prelude.{IfSome}
+use Rattle.std.proofs.Common.{◌≡◌, ◌==◌, ℕ, get_or, drop, ap, sym, ◌∙◌, arith, take_all, length-drop, false, Option, Some}
 use Rattle.fast_float.specs.Text.{scan}
-use Rattle.serde_json.specs.Data.{Num}
-use Rattle.serde_json.specs.View.{number_view}
-use Rattle.serde_json.specs.declared.number.Number.{Number}
-use Rattle.serde_json.specs.Read.{number_of, number_from}
+use Rattle.serde_json.specs.Find.{of_integer}
+use Rattle.serde_json.specs.Data.{unsigned}
+use Rattle.serde_json.specs.Read.{number_from}
+use Rattle.json_form.proofs.SignedTexts.{behind_minus, without_minus, small_enough}
 use Rattle.json_form.proofs.number.integer_in.Goals as goal
 
--- a number that was found is that of each text which reads so
-found : (r : Option Number) (one other : Option Num) → one ≡ other → IfSome r (λ n. one ≡ Some (number_view n)) → IfSome r (λ n. other ≡ Some (number_view n))
-found None one other same h = h
-found (Some n) one other same h = sym same ∙ h
+abbrev whole : ℕ → Option ℕ
+whole n = Some n
 
 pub returns-then-has_minus : goal.returns-then-has_minus
-unfolding number_of
 returns-then-has_minus c =
-    let s = c.as_bytes-bytes.result.now in
-    let signed : (get_or s 0 0 == 45) ≡ true = sym c.if-has_minus.ensures.value in
-    let parts : c.scan.result ≡ scan (drop 1 s) = c.scan.ensures.parts ∙ ap scan (take_all _ (drop 1 s) (omega (arith, length-drop 1 s))) in
-    let read : number_from true (scan (drop 1 s)) ≡ number_of s = rw signed in
-    found c.negative.result _ _ (ap (number_from true) parts ∙ read ∙ ap number_of c.as_bytes-bytes.ensures.value) c.negative.ensures
+    let s = c.args.text.now in
+    let cut = take_all _ (drop 1 c.as_bytes-bytes.result.now) (omega (arith, length-drop 1 c.as_bytes-bytes.result.now)) in
+    let scanned = c.scan.ensures.parts ∙ ap scan (cut ∙ ap (drop 1) c.as_bytes-bytes.ensures.value) in
+    behind_minus of_integer s c.negative.result (ap (λ t. get_or t 0 0 == 45) (sym c.as_bytes-bytes.ensures.value) ∙ sym c.if-has_minus.ensures.value) (rw (← scanned) c.negative.ensures)
 
-pub returns-else-has_minus : goal.returns-else-has_minus
-unfolding number_of
-returns-else-has_minus c =
-    let s = c.as_bytes-bytes.result.now in
-    let unsigned : (get_or s 0 0 == 45) ≡ false = sym c.if-has_minus.ensures.value in
-    let read : number_from false (scan s) ≡ number_of s = rw unsigned in
-    found c.unsigned.result _ _ (ap (number_from false) c.scan-else-has_minus.ensures.parts ∙ read ∙ ap number_of c.as_bytes-bytes.ensures.value) c.unsigned.ensures
+pub returns-in_ok-whole : goal.returns-in_ok-whole
+returns-in_ok-whole c =
+    let s = c.args.text.now in
+    let n = c.in_ok-whole.whole in
+    let scanned = c.scan-else-has_minus.ensures.parts ∙ ap scan c.as_bytes-bytes.ensures.value in
+    let told : number_from false (scan s) ≡ Some (unsigned n) = rw (← scanned) c.in_ok-whole.ensures in
+    let read = without_minus unsigned s (whole n) (ap (λ t. get_or t 0 0 == 45) (sym c.as_bytes-bytes.ensures.value) ∙ sym c.if-has_minus.ensures.value) told in
+    rw c.ok.ensures.value (small_enough _ s n c.try_from.result read c.try_from.ensures)

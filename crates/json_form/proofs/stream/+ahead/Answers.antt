@@ -34,12 +34,12 @@ value_from-returns-in-Null-clause-read t c =
     let seen : view (Null) ≡ null = search (rules, the_lemmas) in
     ap (converted of_json) (ap (value c.args.depth) is ∙ value_is c.args.depth _) ∙ ap (λ d. Some (d, c.next.new.self)) (sym seen)
 
-pub value_from-returns-in_ok-integer_in-in-Number-clause-read : goal.value_from-returns-in_ok-integer_in-in-Number-clause-read
-value_from-returns-in_ok-integer_in-in-Number-clause-read t c =
+pub value_from-returns-in_ok-number_in-in-Number-clause-read : goal.value_from-returns-in_ok-number_in-in-Number-clause-read
+value_from-returns-in_ok-number_in-in-Number-clause-read t c =
     let first : c.args.tokens.now ≡ token_of c.in_ok-token.token ∷ c.next.new.self = grind arith in
     let is : c.args.tokens.now ≡ Token.number c.in-Number.text.now ∷ c.next.new.self = grind (arith, first) in
-    let seen : view (Number c.in_ok-integer_in-in-Number.field-0) ≡ number (number_view c.in_ok-integer_in-in-Number.field-0) = search (rules, the_lemmas) in
-    ap (converted of_json) (ap (value c.args.depth) is ∙ value_is c.args.depth _) ∙ rw (c.in_ok-integer_in-in-Number.ensures, seen)
+    let seen : view (Number c.in_ok-number_in-in-Number.field-0) ≡ number (number_view c.in_ok-number_in-in-Number.field-0) = search (rules, the_lemmas) in
+    ap (converted of_json) (ap (value c.args.depth) is ∙ value_is c.args.depth _) ∙ rw (c.in_ok-number_in-in-Number.ensures, seen)
 
 pub value_from-returns-in_ok-items_from-in-BeginArray-clause-read : goal.value_from-returns-in_ok-items_from-in-BeginArray-clause-read
 value_from-returns-in_ok-items_from-in-BeginArray-clause-read t c =
@@ -48,12 +48,16 @@ value_from-returns-in_ok-items_from-in-BeginArray-clause-read t c =
     let found = c.in_ok-items_from-in-BeginArray in
     opened ∙ ap (parse_map array) found.ensures.read ∙ ap (λ d. Some (d, c.items_from.new.tokens)) (sym (view-Array found.field-0))
 
-pub value_from-returns-in_ok-members_from-in-BeginObject-clause-read : goal.value_from-returns-in_ok-members_from-in-BeginObject-clause-read
-value_from-returns-in_ok-members_from-in-BeginObject-clause-read t c =
+pub value_from-returns-in-BeginObject-clause-read : goal.value_from-returns-in-BeginObject-clause-read
+value_from-returns-in-BeginObject-clause-read t c =
     let first : c.args.tokens.now ≡ token_of c.in_ok-token.token ∷ c.next.new.self = grind arith in
-    let opened = ap (value_ahead c.args.depth) (first ∙ ap (λ k. token_of k ∷ c.next.new.self) c.in-BeginObject.is) ∙ object_ahead c.args.depth c.next.new.self (omega arith) in
-    let found = c.in_ok-members_from-in-BeginObject in
-    opened ∙ ap (parse_map object) found.ensures.read ∙ ap (λ d. Some (d, c.members_from.new.tokens)) (sym (view-Object found.field-0))
+    let opened : Token.begin_object ∷ c.next.new.self ≡ c.args.tokens.now = sym (first ∙ ap (λ k. token_of k ∷ c.next.new.self) c.in-BeginObject.is) in
+    rw (← opened) c.object_from.ensures.read
+
+pub object_from-returns-clause-read : goal.object_from-returns-clause-read
+object_from-returns-clause-read t c =
+    let found = c.in_ok-members_from in
+    object_ahead c.args.depth c.args.tokens.now (omega arith) ∙ ap (parse_map object) found.ensures.read ∙ ap (λ d. Some (d, c.members_from.new.tokens)) (sym (view-Object found.field-0))
 
 pub items_from-items-init : goal.items_from-items-init
 items_from-items-init t c =

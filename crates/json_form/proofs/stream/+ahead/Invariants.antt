@@ -7,13 +7,16 @@ use Rattle.json_form.proofs.Ahead.{items_before}
 use Rattle.json_form.proofs.stream.+ahead.Given as goal
 
 abbrev pub decreases-value_from : goal.decreases-value_from
-decreases-value_from l = 2 * l.depth
+decreases-value_from l = 3 * l.depth + 1
+
+abbrev pub decreases-object_from : goal.decreases-object_from
+decreases-object_from l = 3 * l.depth
 
 abbrev pub decreases-items_from : goal.decreases-items_from
-decreases-items_from l = 2 * l.depth + 1
+decreases-items_from l = 3 * l.depth + 2
 
 abbrev pub decreases-members_from : goal.decreases-members_from
-decreases-members_from l = 2 * l.depth + 1
+decreases-members_from l = 3 * l.depth + 2
 
 abbrev pub invariant-items_from-items : goal.invariant-items_from-items
 invariant-items_from-items l =
