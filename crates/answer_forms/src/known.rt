@@ -8,19 +8,29 @@ use std::alloc::Global;
 use svc_values::laws::compares_exactly;
 use svc_values::{Answer, KeyMap, NoMemory, Row, Rows, TryCopy, Value};
 
-/// What the number of no rows is, and by what it is multiplied with each part (the hash FNV-1a).
-const FIRST: u64 = 0xcbf2_9ce4_8422_2325;
-
-const PRIME: u64 = 0x0000_0100_0000_01b3;
+/// By what a number is multiplied with each part, once it was turned by five bits.
+const FACTOR: u64 = 0x517c_c1b7_2722_0a95;
 
 fn with_part(number: u64, part: u64) -> u64 {
-    (number ^ part).wrapping_mul(PRIME)
+    (number.rotate_left(5) ^ part).wrapping_mul(FACTOR)
+}
+
+/// The number that at most eight bytes are.
+fn part_of(bytes: &[u8]) -> u64 {
+    if let Ok(eight) = <[u8; 8]>::try_from(bytes) {
+        return u64::from_le_bytes(eight);
+    }
+    let mut part = 0;
+    for byte in bytes {
+        part = (part << 8) | *byte as u64;
+    }
+    part
 }
 
 fn with_bytes(number: u64, bytes: &[u8]) -> u64 {
     let mut all = with_part(number, bytes.len() as u64);
-    for byte in bytes {
-        all = with_part(all, *byte as u64);
+    for part in bytes.chunks(8) {
+        all = with_part(all, part_of(part));
     }
     all
 }
@@ -43,7 +53,7 @@ fn with_row(number: u64, row: &Row) -> u64 {
 
 /// A number that is the same of the same rows, and seldom of others. Linear in their bytes.
 fn number_of(rows: &[Row]) -> u64 {
-    let mut all = FIRST;
+    let mut all = rows.len() as u64;
     for row in rows {
         all = with_row(all, row);
     }
