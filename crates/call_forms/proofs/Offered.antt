@@ -5,3 +5,5 @@ pub use Rattle.call_forms.proofs.ReadCalls.{call_read}
 pub use Rattle.call_forms.proofs.ListsAhead.{of_each, begins_alike, any_number}
 -- an array that begins with a word
 pub use Rattle.call_forms.proofs.ItemsAhead.{head_is}
+-- a text and a number are each read from one token
+pub use Rattle.call_forms.proofs.ValuesAhead.{text_plain, integer_plain}

@@ -1,5 +1,5 @@
 -- Values and operands that were read from their tokens.
-use Rattle.std.proofs.Common.{◌≡◌, ◌<◌, ◌≤◌, ◌^◌, ℕ, ℤ, List, ◌∷◌, length, Bool, true, false, nat_le, w64, FitsSigned, Option, Some, None, Result, Ok, Err, refl, sym, ap, ◌∙◌}
+use Rattle.std.proofs.Common.{◌≡◌, ◌<◌, ℕ, ℤ, List, ◌∷◌, length, true, nat_le, w64, FitsSigned, Option, Some, None, Result, Ok, Err, refl, sym, ap, ◌∙◌}
 use Rattle.std.specs.Prelude.{IfOk, IfSome, IsErrOf, ◌↔◌, if◌then◌else◌}
 use Rattle.std.specs.Result.{result_ok}
 use Rattle.std.proofs.lemmas.Bool.{le-leb, cases_lt}
@@ -17,7 +17,6 @@ use Rattle.svc_values.specs.declared.text.TextFault.{TextFault}
 use Rattle.svc_values.specs.declared.text.TextFault.TheVariants.{TooLong}
 use Rattle.svc_values.specs.declared.value.Value.{Value}
 use Rattle.svc_values.specs.declared.value.Value.TheVariants as value
-use Rattle.svc_values.specs.declared.statement.Operand.{Operand}
 use Rattle.svc_values.specs.declared.statement.Operand.TheVariants as operand
 use Rattle.call_forms.specs.meaning.Values.{line_of, value_of, operand_of, literal_or_named}
 use Rattle.call_forms.specs.ValuesAhead.{IsPlain}

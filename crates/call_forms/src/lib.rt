@@ -14,5 +14,6 @@ pub use item::{ChangeWord, Item, ItemWord};
 pub use lists::{counted_ahead, list_ahead};
 pub use statement::ItemReader;
 pub use value::{
-    LineReader, NameReader, NewNameReader, OperandReader, ValueReader, copied, only_member, shared,
+    LineReader, NameReader, NewNameReader, OperandReader, ValueReader, copied, only_member,
+    plain_value, shared,
 };

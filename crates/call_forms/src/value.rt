@@ -129,7 +129,7 @@ fn bytes_member(alloc: Global, value: Json, digits: Digits) -> Result<Value, Doc
 
 /// The value that a token is by itself: a text or a number. There is none of a text past its limit, of a
 /// number that is not an integer of 64 bits or is `-0`, and of each other token.
-fn plain_value(alloc: Global, token: Token<'_>) -> Option<Value>
+pub fn plain_value(alloc: Global, token: Token<'_>) -> Option<Value>
     ensures { IfSome result (λ x. IsPlain (token_of token.entry) x) }
 {
     match token {

@@ -1,5 +1,5 @@
 -- Numbers that were read from their tokens.
-use Rattle.std.proofs.Common.{◌≡◌, ℕ, ◌^◌, ◌≤◌, ◌&&◌, ℤ, pos, negsuc, List, ◌∷◌, true, nat_le, Option, Some, Ok, Err, option_map, w64, FitsSigned, ap, ◌∙◌, arith}
+use Rattle.std.proofs.Common.{◌≡◌, ℕ, ◌^◌, ◌≤◌, ℤ, pos, negsuc, List, ◌∷◌, true, nat_le, Some, Ok, Err, option_map, w64, FitsSigned, ap, ◌∙◌, arith}
 use Rattle.std.specs.Prelude.{if◌then◌else◌}
 use Rattle.std.proofs.lemmas.Bool.{lt-ltb, le-leb}
 use Rattle.json.specs.Token.{Token}
@@ -9,7 +9,7 @@ use Rattle.serde_json.specs.Data.{Num, unsigned, number}
 use Rattle.serde_json.specs.Find.{of_integer}
 use Rattle.serde_json.specs.Read.{of_json, converted, number_of}
 use Rattle.json_form.specs.declared.fault.DocCode.TheVariants.{Limit}
-use Rattle.json_form.specs.meaning.Faults.{◌>>=◌, here}
+use Rattle.json_form.specs.meaning.Faults.{here}
 use Rattle.json_form.specs.meaning.Values.{fits_i64, integer_of, whole_of}
 use Rattle.json_form.specs.Streams.{value_ahead, Begins}
 use Rattle.json_form.proofs.Readings.{both_true}

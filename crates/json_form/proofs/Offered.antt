@@ -13,7 +13,7 @@ pub use Rattle.json_form.proofs.Readings.{first_true, second_true, both_true}
 -- values, items and members that are read one after the other from the tokens of a text
 pub use Rattle.json_form.proofs.Ahead.{member_turn, members_over, begun, whole_read}
 -- items of a fixed form, and items whose number is told, that are read one after the other
-pub use Rattle.json_form.proofs.Ahead.{read_ahead, one_read, none_left, exact_read}
+pub use Rattle.json_form.proofs.Ahead.{read_ahead, one_read, none_left, exact_read, array_read}
 -- a text, an object, an array's bracket, and a value that was passed
 pub use Rattle.json_form.proofs.Ahead.{string_ahead, object_ahead, bracket_ahead, begins_with}
 -- items that are passed one after the other: one more of them, their end, and those that were kept

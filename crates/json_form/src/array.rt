@@ -1,11 +1,12 @@
 //! Arrays whose items are read each by itself.
-ghost use Rattle.std.specs.Prelude.{◌≡◌, ◌≤◌, ◌<◌, Result, List, length, IfOk, IfSome};
+ghost use Rattle.std.specs.Prelude.{◌≡◌, ◌≤◌, ◌<◌, Result, Ok, List, length, Some, IfOk, IfSome};
+ghost use Rattle.json.specs.Json.{parse_map};
 ghost use Rattle.serde_json.specs.View.{view, items_view};
 ghost use Rattle.json_form.specs.meaning.Faults.{Fault, within};
 ghost use Rattle.json_form.specs.Faults.{GivesBy};
 ghost use Rattle.json_form.specs.meaning.Values.{items_of};
-ghost use Rattle.json_form.specs.meaning.Arrays.{each_of, counted_of, exact_of, array_of, list_of};
-ghost use Rattle.json_form.specs.Streams.{Begins};
+ghost use Rattle.json_form.specs.meaning.Arrays.{each_after, each_of, counted_of, exact_of, array_of, list_of};
+ghost use Rattle.json_form.specs.Streams.{Begins, items_ahead};
 
 use crate::fault::{DocCode, DocFault};
 use crate::reader::Reader;
@@ -144,6 +145,33 @@ pub fn list_at<T: Drop, R: Reader<T>>(
     list_within(alloc, name, list_from(alloc, member, reader))
 }
 
+/// The items of an array of at most `high`: those found, and behind them what is left up to the bracket that
+/// ends it, each read as soon as its tokens are passed. There are none where the reader gives none of one, and
+/// where there are too many.
+pub fn rest_ahead<T: Drop, R: Reader<T>>(
+    alloc: Global,
+    tokens: &mut json::Reader<'_>,
+    depth: usize,
+    high: usize,
+    reader: &R,
+    mut found: Vec<T>,
+) -> Option<Vec<T>>
+    requires { length found.items ≤ high }
+    ensures read { IfSome result (λ v. parse_map (each_after (λ before. R.Reader.reads reader.now) found.items)
+        (items_ahead depth tokens.old) ≡ Some (Ok v.items, tokens.new)) }
+    ensures count { IfSome result (λ v. length v.items ≤ high) }
+    ensures shorter { IfSome result (λ _. length tokens.new < length tokens.old) }
+{
+    'items: while !tokens.take_end_array() {
+        if found.len() >= high {
+            return None;
+        }
+        let item = reader.ahead(alloc, tokens, depth)?;
+        found.push(item).ok()?;
+    }
+    Some(found)
+}
+
 /// The items of an array of at most `high`, in order, each read as soon as its tokens are passed, so that no
 /// more than one of them is held as a JSON value. There are none where the reader gives none of one, and
 /// where there are too many: `array_from` tells what is at fault.
@@ -160,13 +188,6 @@ pub fn array_ahead<T: Drop, R: Reader<T>>(
     ensures shorter { IfSome result (λ _. length tokens.new < length tokens.old) }
 {
     let inside = array_begins(tokens, depth)?;
-    let mut found = Vec::new(alloc);
-    'items: while !tokens.take_end_array() {
-        if found.len() >= high {
-            return None;
-        }
-        let item = reader.ahead(alloc, tokens, inside)?;
-        found.push(item).ok()?;
-    }
+    let found = rest_ahead(alloc, tokens, inside, high, reader, Vec::new(alloc))?;
     Some(found)
 }

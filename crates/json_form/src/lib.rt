@@ -18,7 +18,7 @@ mod stream;
 mod text;
 mod word;
 
-pub use array::{array_ahead, array_at, array_from, exact_from, list_at, list_from};
+pub use array::{array_ahead, array_at, array_from, exact_from, list_at, list_from, rest_ahead};
 pub use bytes::json_from;
 pub use distinct::{KeyedReader, Taken, distinct_ahead, distinct_from, distinct_list};
 pub use fault::{DocCode, DocFault};

@@ -25,11 +25,7 @@ fn negative(numeral: &Numeral<'_>) -> Option<i64>
     ensures { IfSome result (λ z. number_from true numeral.now ≡ Some (of_integer z)) }
 {
     let number = numeral.to_i64(true)?;
-    if number < 0 {
-        Some(number)
-    } else {
-        None
-    }
+    if number < 0 { Some(number) } else { None }
 }
 
 /// The number that a token of JSON writes, where it is an integer of 64 bits without a sign.

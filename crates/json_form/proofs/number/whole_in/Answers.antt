@@ -1,4 +1,4 @@
-use Rattle.std.proofs.Common.{◌≡◌, ◌==◌, get_or, ap, sym, ◌∙◌}
+use Rattle.std.proofs.Common.{◌==◌, get_or, ap, sym, ◌∙◌}
 use Rattle.fast_float.specs.Text.{scan}
 use Rattle.serde_json.specs.Data.{unsigned}
 use Rattle.json_form.proofs.SignedTexts.{without_minus}
