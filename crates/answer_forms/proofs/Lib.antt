@@ -1,3 +1,4 @@
+pub mod KnownItems
 pub mod AnswersAhead
 pub mod ArraysAhead
 pub mod Offered

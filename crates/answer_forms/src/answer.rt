@@ -7,6 +7,7 @@ ghost use Rattle.answer_forms.specs.meaning.Answers.{rows_in, refusal_of as refu
 use crate::answer_ahead::member_ahead;
 use crate::known::KnownRows;
 use crate::part::{NUMBER, RowReader};
+use crate::rows_ahead::rows_ahead;
 use call_forms::{list_ahead, only_member, shared};
 use json::Token;
 use json_form::{
@@ -44,9 +45,12 @@ impl Reader<Rows> for RowsReader<'_> {
     }
 
     fn ahead(&self, alloc: Global, tokens: &mut json::Reader<'_>, depth: usize) -> Option<Rows> {
+        if let Some(known) = self.known {
+            return rows_ahead(alloc, known, tokens, depth);
+        }
         let rows = array_ahead(alloc, tokens, depth, 32, &RowReader)?;
         let rows = shared(alloc, rows).ok()?;
-        Some(self.held(alloc, rows))
+        Some(rows)
     }
 }
 

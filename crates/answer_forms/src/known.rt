@@ -1,5 +1,5 @@
 //! Rows that a report tells several times, of which one list is kept.
-ghost use Rattle.std.specs.Prelude.{◌≡◌};
+ghost use Rattle.std.specs.Prelude.{◌≡◌, ◌∷◌, [], take, IsTrue, IfSome};
 ghost use Rattle.std.specs.Cmp.Lexicographic.{pointwise};
 ghost use Rattle.svc_values.specs.meaning.Same.{same_value};
 
@@ -68,6 +68,17 @@ fn are_same(one: &Rows, other: &Rows) -> bool
     *one == *other
 }
 
+/// Whether the rows begin with this one.
+fn begin_with(rows: &Rows, first: &Row) -> bool
+    ensures { IsTrue result → take 1 rows.now ≡ first.now ∷ [] }
+{
+    compares_exactly();
+    match rows.as_slice() {
+        [] => false,
+        [row, ..] => *row == *first,
+    }
+}
+
 /// These rows, which are held once where the known ones are the same.
 fn held_once(alloc: Global, known: &Rows, rows: Rows) -> Rows
     ensures { result ≡ rows }
@@ -81,11 +92,12 @@ fn held_once(alloc: Global, known: &Rows, rows: Rows) -> Rows
     rows
 }
 
-/// Rows that clients were shown, by their numbers. What was stored and what was served tell the
+/// Rows that clients were shown, by their numbers, and by that of the first row. What was stored and what was served tell the
 /// same rows again. Which rows are known decides no answer, but for the memory that is held.
 #[derive(Drop)]
 pub struct KnownRows {
     rows: KeyMap<u64, Rows>,
+    firsts: KeyMap<u64, Rows>,
 }
 
 impl KnownRows {
@@ -93,6 +105,7 @@ impl KnownRows {
     pub fn new(alloc: Global) -> KnownRows {
         KnownRows {
             rows: KeyMap::new(alloc),
+            firsts: KeyMap::new(alloc),
         }
     }
 
@@ -125,11 +138,30 @@ impl KnownRows {
     fn note_answers(&mut self, alloc: Global, answers: &[Answer]) -> Result<(), NoMemory> {
         for answer in answers {
             if let Answer::Rows(rows) = answer {
-                self.rows
-                    .put(number_of(rows.as_slice()), rows.copy(alloc)?)?;
+                self.note_rows(alloc, rows)?;
             }
         }
         Ok(())
+    }
+
+    fn note_rows(&mut self, alloc: Global, rows: &Rows) -> Result<(), NoMemory> {
+        if let [first, ..] = rows.as_slice() {
+            self.firsts.put(with_row(0, first), rows.copy(alloc)?)?;
+        }
+        self.rows
+            .put(number_of(rows.as_slice()), rows.copy(alloc)?)?;
+        Ok(())
+    }
+
+    /// Known rows that begin with this one, if there are any.
+    pub(crate) fn beginning_with(&self, first: &Row) -> Option<&Rows>
+        ensures { IfSome result (λ rows. take 1 rows.now ≡ first.now ∷ []) }
+    {
+        let rows = self.firsts.get(&with_row(0, first))?;
+        if !begin_with(rows, first) {
+            return None;
+        }
+        Some(rows)
     }
 
     /// These rows, which are held once where they are known.

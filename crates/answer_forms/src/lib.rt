@@ -4,9 +4,11 @@
 
 mod answer;
 mod answer_ahead;
+mod beside;
 mod draw;
 mod known;
 mod part;
+mod rows_ahead;
 
 pub use answer::AnswersReader;
 pub use draw::DrawsReader;

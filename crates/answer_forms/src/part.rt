@@ -24,7 +24,7 @@ pub const NUMBER: Whole = Whole {
 };
 
 /// Reads a value, its octets in lower case.
-const VALUE: ValueReader = ValueReader {
+pub(crate) const VALUE: ValueReader = ValueReader {
     digits: Digits::Lower,
 };
 
