@@ -1,3 +1,4 @@
 pub mod Knowing
 pub mod Living
+pub mod Made
 pub mod Ready

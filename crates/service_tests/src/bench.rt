@@ -10,6 +10,7 @@ ghost use Rattle.server_model.specs.ServiceCalls.{ends_session};
 use crate::frames::{Says, frame, ltxid};
 use crate::known::Known;
 use crate::said::{of_down, of_ended, of_journal, of_kept, of_outside, of_verdict, words};
+use crate::script::{Does, calls};
 use commit_log::{Journal, Log, LogFault};
 use disk_model::MemDisk;
 use mutable_values::Grants;
@@ -68,7 +69,8 @@ pub fn read(rt: &impl Abort, alloc: Global, bytes: &[u8]) -> Result<Journal, u64
     }
 }
 
-/// A service on the store with these bytes, which is down; and the place of the damage, if they are no store.
+/// A service on the store with these bytes, which is down; and the place of the damage, if they
+/// are no store.
 pub fn over(
     rt: &impl Abort,
     alloc: Global,
@@ -233,8 +235,14 @@ impl<S: Service + Drop> Bench<S> {
         }
     }
 
-    /// What calls from outside are told: the first identifier of their session, and what each that ran was answered.
-    pub fn outside(&mut self, rt: &impl Abort, calls: &[Call]) -> String
+    /// What calls from outside are told: the first identifier of their session, and what each that
+    /// ran was answered.
+    pub fn runs(&mut self, rt: &impl Abort, script: &[Does]) -> String {
+        let calls = calls(rt, self.alloc, script);
+        self.outside(rt, calls.as_slice())
+    }
+
+    fn outside(&mut self, rt: &impl Abort, calls: &[Call]) -> String
         requires { AllByRecursion IsMade calls.now }
     {
         assert!(rt; self.known.may_call());
@@ -271,8 +279,8 @@ impl<S: Service + Drop> Bench<S> {
         }
     }
 
-    /// What the store holds: its opening, its horizon, the identifiers of its entries, those that are blocked, the ends of
-    /// its reservations and its lines.
+    /// What the store holds: its opening, its horizon, the identifiers of its entries, those that
+    /// are blocked, the ends of its reservations and its lines.
     pub fn holds(&mut self, rt: &impl Abort) -> String {
         let journal = self.stored(rt);
         of_journal(rt, self.alloc, &journal)
@@ -284,24 +292,13 @@ impl<S: Service + Drop> Bench<S> {
         of_kept(rt, self.alloc, &journal)
     }
 
-    /// What the service leaves at its end: its horizon, the identifiers of its entries, those that are blocked, its lines
-    /// and the rows of its tables.
+    /// What the service leaves at its end: its horizon, the identifiers of its entries, those that
+    /// are blocked, its lines and the rows of its tables.
     pub fn ends_with(self, rt: &impl Abort) -> String {
         assert!(rt; self.known.may_call());
         match self.service.into_ended(self.alloc) {
             Ok(ended) => of_ended(rt, self.alloc, ended),
             Err(fault) => panic!(rt; "{fault}"),
         }
-    }
-}
-
-/// A frame on a connection, and what is told of it.
-pub type Line = (u64, Says, &'static str);
-
-/// Serves these frames, one after the other, and sees that each is told what stands beside it.
-pub fn converse<S: Service + Drop>(rt: &impl Abort, bench: &mut Bench<S>, lines: &[Line]) {
-    for (connection, says, wanted) in lines {
-        let told = bench.says(rt, *connection, *says);
-        assert_eq!(rt; told.as_str(), *wanted, "{says:?} on {connection}");
     }
 }

@@ -8,16 +8,16 @@ use std::process::Abort;
 use svc_values::{Draw, Draws, Ltxid, Settings, Up};
 
 /// A draw that a frame asks to be kept. The bytes of an identifier are all the same.
-#[derive(Clone, Copy, Debug)]
+#[derive(Clone, Copy)]
 pub enum Keeps {
     Seq(&'static str, i64),
     Clock(u64),
     Id(u8),
 }
 
-/// A frame: a call may be marked as one of a replay, and has the draws that are to be kept. An outcome is asked of the
-/// identifier with these parts.
-#[derive(Clone, Copy, Debug)]
+/// A frame: a call may be marked as one of a replay, and has the draws that are to be kept. An
+/// outcome is asked of the identifier with these parts.
+#[derive(Clone, Copy)]
 pub enum Says {
     Connect,
     Begin,

@@ -1,7 +1,7 @@
 //! Images of stores, made by hand.
 
-/// A store that was never opened: the tables `acc` (id int, bal int), with one row, and `t` (id int, name text), and three
-/// sequences.
+/// A store that was never opened: the tables `acc` (id int, bal int), with one row, and `t` (id
+/// int, name text), and three sequences.
 pub const SHOP: [u8; 214] = [
     84, 71, 83, 84, 79, 82, 69, 49, // TGSTORE1
     1, 0, 0, 0, 0, 0, 0, 0, 196, // at 8

@@ -1,5 +1,5 @@
-//! Tests of a service, which run it on a disk in memory: conversations with its sessions as tables, crashes at each
-//! device call, outcomes, openings, and frames that no client sends.
+//! Tests of a service, which run it on a disk in memory: conversations with its sessions as
+//! tables, crashes at each device call, outcomes, openings, and frames that no client sends.
 #![tactic(auto)]
 
 #[cfg(test)]
@@ -36,3 +36,5 @@ mod pairs;
 mod said;
 #[cfg(test)]
 mod script;
+#[cfg(test)]
+mod steps;

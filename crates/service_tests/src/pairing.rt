@@ -21,8 +21,8 @@ fn disk(rt: &impl Abort, alloc: Global, bytes: &[u8], failing: &[u64]) -> MemDis
     disk
 }
 
-/// A pair on two stores with the bytes of the shop, which is down. The first disk fails in the calls with the numbers
-/// `first`, and the second in those with the numbers `second`.
+/// A pair on two stores with the bytes of the shop, which is down. The first disk fails in the
+/// calls with the numbers `first`, and the second in those with the numbers `second`.
 pub fn paired(
     rt: &impl Abort,
     alloc: Global,

@@ -1,41 +1,30 @@
-//! A pair that is stopped in each of its device calls: what a crash leaves, and what it leaves that takes the first store
-//! away.
+//! A pair that is stopped in each of its device calls: what a crash leaves, and what it leaves
+//! that takes the first store away.
 
-use crate::bench::{Bench, Line, converse};
+use crate::bench::Bench;
 use crate::frames::Says::{self, Begin, Call, Connect, Outcome};
 use crate::pairing::pair;
-use crate::said::words;
 use crate::script::Asks::Seq;
 use crate::script::Does::{Alter, Commit, Insert, InsertCommit, Show, ShowCommit};
-use crate::script::call;
-use disk_model::MemDisk;
-use standby_ship::Pair;
+use crate::steps::Step::{self, Asks, Crashes, FailsToOpen, IsUp, Joins, On, Opens, Runs, Stops};
+use crate::steps::go;
+use service_calls::Service;
 use std::alloc::Global;
 use std::process::Abort;
-
-/// What is tried under a stop.
-#[derive(Clone, Copy, Debug)]
-enum Tried {
-    /// A frame on the connection 1.
-    Frame(Says),
-    /// Two calls from outside, each of which commits.
-    Outside,
-    /// The outcome of 1.9.0, asked from outside.
-    Ask,
-    /// The opening behind a crash that left the second store without the two last records.
-    Opening,
-}
 
 /// What is tried under each stop and each pick, and what is wanted of it.
 #[derive(Clone, Copy)]
 struct Case {
-    tried: Tried,
-    /// What it tells where it is not stopped.
-    told: &'static str,
+    /// What comes before it.
+    before: &'static [Step],
+    /// What is tried, where it is not stopped.
+    done: Step,
+    /// The same, where it is stopped.
+    stopped: Step,
     /// How many records it adds to the first store.
     records: u8,
-    /// How many device calls it makes on both disks together: four for a record that is added, and four for one that is
-    /// shipped.
+    /// How many device calls it makes on both disks together: four for a record that is added, and
+    /// four for one that is shipped.
     calls: u64,
     /// What is stored where none of its records stand, where one stands, and so on.
     stored: &'static [&'static str],
@@ -44,64 +33,26 @@ struct Case {
     outcomes: &'static [&'static str],
 }
 
-const WRITTEN: &[Line] = &[
-    (1, Connect, "hello 1.1.0"),
-    (1, Begin, "nothing"),
-    (1, Call(Insert(1)), "done 1 at 1.1.0"),
+/// The first session has written a row.
+const WRITTEN: &[Step] = &[
+    Joins(1),
+    On(1, Connect, "hello 1.1.0"),
+    On(1, Begin, "nothing"),
+    On(1, Call(Insert(1)), "done 1 at 1.1.0"),
 ];
 
-/// A pair whose first session has written a row.
-fn written(rt: &impl Abort, alloc: Global) -> Bench<Pair<MemDisk>> {
-    let mut bench = pair(rt, alloc);
-    assert!(rt; bench.connect(rt, 1));
-    converse(rt, &mut bench, WRITTEN);
-    bench
-}
+/// The pair is down, and its second store lacks the two last records: it was stopped before the
+/// first was shipped.
+const LAGS: &[Step] = &[
+    Stops(Some(8)),
+    Runs(&[InsertCommit(7), InsertCommit(8)], "stopped"),
+    Crashes(1),
+];
 
-/// What two calls from outside are told, each of which commits.
-fn two_commits(rt: &impl Abort, alloc: Global, bench: &mut Bench<Pair<MemDisk>>) -> String {
-    let calls = [
-        call(rt, alloc, InsertCommit(7)),
-        call(rt, alloc, InsertCommit(8)),
-    ];
-    bench.outside(rt, &calls)
-}
-
-/// A pair that is down, whose second store lacks the two last records: it was stopped before the first was shipped.
-fn lagging(rt: &impl Abort, alloc: Global) -> Bench<Pair<MemDisk>> {
-    let mut bench = pair(rt, alloc);
-    bench.stop_after(rt, Some(8));
-    assert_eq!(rt; two_commits(rt, alloc, &mut bench).as_str(), "stopped");
-    bench.crash(rt, 1);
-    bench
-}
-
-fn opening(rt: &impl Abort, alloc: Global, bench: &mut Bench<Pair<MemDisk>>) -> String {
-    let told = if bench.up(rt, 0) { "opened" } else { "stopped" };
-    words(rt, alloc, told)
-}
-
-/// A pair in which this may be tried.
-fn ready(rt: &impl Abort, alloc: Global, tried: Tried) -> Bench<Pair<MemDisk>> {
-    match tried {
-        Tried::Opening => lagging(rt, alloc),
-        _ => written(rt, alloc),
-    }
-}
-
-/// Tries it, and tells what it is told.
-fn act(rt: &impl Abort, alloc: Global, bench: &mut Bench<Pair<MemDisk>>, tried: Tried) -> String {
-    match tried {
-        Tried::Frame(says) => bench.says(rt, 1, says),
-        Tried::Outside => two_commits(rt, alloc, bench),
-        Tried::Ask => bench.ask(rt, (1, 9, 0)),
-        Tried::Opening => opening(rt, alloc, bench),
-    }
-}
-
-/// How many of so many records stand in a store whose disk was stopped behind so many calls: at least, and at most. The
-/// third call of a record opens its gate and the fourth makes that durable. Between them a crash leaves it with the pick
-/// 0, and with 2 where it stands at an even place.
+/// How many of so many records stand in a store whose disk was stopped behind so many calls: at
+/// least, and at most. The third call of a record opens its gate and the fourth makes that
+/// durable. Between them a crash leaves it with the pick 0, and with 2 where it stands at an even
+/// place.
 fn standing(calls: u64, records: u8, pick: u8) -> (u64, u64) {
     let whole = (calls / 4).min(records.into());
     let is_between = calls % 4 == 3 && whole < records.into();
@@ -113,8 +64,8 @@ fn standing(calls: u64, records: u8, pick: u8) -> (u64, u64) {
     }
 }
 
-/// How many of a case's records stand behind this stop and this pick, at least and at most. The second disk is called
-/// once the first store has them all.
+/// How many of a case's records stand behind this stop and this pick, at least and at most. The
+/// second disk is called once the first store has them all.
 fn left(case: &Case, stop: u64, pick: u8) -> (u64, u64) {
     let calls = if pick < 4 {
         stop
@@ -137,69 +88,82 @@ fn found(rt: &impl Abort, held: &str, case: &Case, (least, most): (u64, u64)) ->
     most
 }
 
+/// Sees what a frame on the connection 2 is told at least.
+fn begins_with<S: Service + Drop>(rt: &impl Abort, bench: &mut Bench<S>, says: Says, front: &str) {
+    assert!(rt; bench.says(rt, 2, says).as_str().starts_with(front));
+}
+
 /// Sees that the store goes on: its next session commits.
-fn goes_on(rt: &impl Abort, bench: &mut Bench<Pair<MemDisk>>) {
+fn goes_on<S: Service + Drop>(rt: &impl Abort, bench: &mut Bench<S>) {
     assert!(rt; bench.connect(rt, 2));
-    assert!(rt; bench.says(rt, 2, Connect).as_str().starts_with("hello"));
+    begins_with(rt, bench, Connect, "hello");
     assert_eq!(rt; bench.says(rt, 2, Begin).as_str(), "nothing");
-    let told = bench.says(rt, 2, Call(InsertCommit(9)));
-    assert!(rt; told.as_str().starts_with("done 1, committed"));
+    begins_with(rt, bench, Call(InsertCommit(9)), "done 1, committed");
 }
 
 /// Sees that the second store, where there is one, has what the first one has: it is lost now.
-fn loses_the_first(rt: &impl Abort, bench: &mut Bench<Pair<MemDisk>>) {
+fn loses_the_first<S: Service + Drop>(rt: &impl Abort, bench: &mut Bench<S>) {
     let kept = bench.keeps(rt);
     bench.crash(rt, 4);
     assert!(rt; bench.up(rt, 0));
     assert_eq!(rt; bench.keeps(rt).as_str(), kept.as_str());
 }
 
-/// Crashes a pair with this pick, and sees that it goes on with what the stop left.
-fn recovers(rt: &impl Abort, bench: &mut Bench<Pair<MemDisk>>, case: &Case, stop: u64, pick: u8) {
-    bench.crash(rt, pick);
-    assert!(rt; !bench.is_up());
-    assert!(rt; bench.up(rt, 0));
+/// Sees that a pair that was crashed with this pick goes on with what the stop left.
+fn recovers<S: Service + Drop>(
+    rt: &impl Abort,
+    bench: &mut Bench<S>,
+    case: &Case,
+    stop: u64,
+    pick: u8,
+) {
+    let crash = [Crashes(pick), IsUp(false), Opens(0)];
+    go(rt, bench, (stop, pick), crash.as_slice());
     let stands = found(rt, bench.holds(rt).as_str(), case, left(case, stop, pick));
     loses_the_first(rt, bench);
-    assert_eq!(rt;
-        bench.ask(rt, case.asked).as_str(),
-        text_at(case.outcomes, stands),
-        "stop {stop}, pick {pick}"
-    );
+    let question = [Asks(case.asked, text_at(case.outcomes, stands))];
+    go(rt, bench, (stop, pick), question.as_slice());
     goes_on(rt, bench);
 }
 
-/// Tries a case under one stop and one pick. It is answered once all its calls were made.
-fn try_once(rt: &impl Abort, alloc: Global, case: &Case, stop: u64, pick: u8) {
-    let mut bench = ready(rt, alloc, case.tried);
-    bench.stop_after(rt, Some(stop));
-    let told = act(rt, alloc, &mut bench, case.tried);
+/// Tries a case under a stop. It is answered once all its calls were made.
+fn stops<S: Service + Drop>(
+    rt: &impl Abort,
+    bench: &mut Bench<S>,
+    case: &Case,
+    stop: u64,
+    pick: u8,
+) {
     let is_answered = stop >= case.calls;
-    let wanted = if is_answered { case.told } else { "stopped" };
-    assert_eq!(rt; told.as_str(), wanted, "stop {stop}, pick {pick}");
-    assert_eq!(rt; bench.is_up(), is_answered);
+    let tried = if is_answered { case.done } else { case.stopped };
+    let steps = [Stops(Some(stop)), tried, IsUp(is_answered)];
+    go(rt, bench, (stop, pick), case.before);
+    go(rt, bench, (stop, pick), steps.as_slice());
+}
+
+/// Tries a case under one stop and one pick.
+fn try_once(rt: &impl Abort, alloc: Global, case: &Case, stop: u64, pick: u8) {
+    let mut bench = pair(rt, alloc);
+    stops(rt, &mut bench, case, stop, pick);
     if pick < 4 || bench.may_lose_a_store() {
         recovers(rt, &mut bench, case, stop, pick);
     }
 }
 
-fn try_each_pick(rt: &impl Abort, alloc: Global, case: &Case, stop: u64) {
-    for pick in 0..8 {
-        try_once(rt, alloc, case, stop, pick);
-    }
-}
-
 fn try_each_stop(rt: &impl Abort, alloc: Global, case: &Case) {
     for stop in 0..case.calls.saturating_add(2) {
-        try_each_pick(rt, alloc, case, stop);
+        for pick in 0..8 {
+            try_once(rt, alloc, case, stop, pick);
+        }
     }
 }
 
 const NOT_COMMITTED: &str = "committed false, completed false";
 
 const A_COMMIT: Case = Case {
-    tried: Tried::Frame(Call(Commit)),
-    told: "committed at 1.1.1",
+    before: WRITTEN,
+    done: On(1, Call(Commit), "committed at 1.1.1"),
+    stopped: On(1, Call(Commit), "stopped"),
     records: 1,
     calls: 8,
     stored: &[
@@ -216,8 +180,9 @@ fn a_commit_on_two_stores(rt: HostRuntime) {
 }
 
 const A_DRAW: Case = Case {
-    tried: Tried::Frame(Call(Show(&[Seq("s")]))),
-    told: "[1], drew s 1 at 1.1.0",
+    before: WRITTEN,
+    done: On(1, Call(Show(&[Seq("s")])), "[1], drew s 1 at 1.1.0"),
+    stopped: On(1, Call(Show(&[Seq("s")])), "stopped"),
     records: 1,
     calls: 8,
     stored: &["opened 2, horizon 0", "opened 2, horizon 0, s to 16"],
@@ -231,8 +196,13 @@ fn a_reservation_on_two_stores(rt: HostRuntime) {
 }
 
 const A_DRAW_AND_A_COMMIT: Case = Case {
-    tried: Tried::Frame(Call(ShowCommit(&[Seq("s")]))),
-    told: "[1], committed, drew s 1 at 1.1.1",
+    before: WRITTEN,
+    done: On(
+        1,
+        Call(ShowCommit(&[Seq("s")])),
+        "[1], committed, drew s 1 at 1.1.1",
+    ),
+    stopped: On(1, Call(ShowCommit(&[Seq("s")])), "stopped"),
     records: 2,
     calls: 16,
     stored: &[
@@ -254,8 +224,9 @@ fn a_reservation_and_a_commit_on_two_stores(rt: HostRuntime) {
 }
 
 const A_LINE: Case = Case {
-    tried: Tried::Frame(Call(Alter)),
-    told: "done 1 at 1.1.0",
+    before: WRITTEN,
+    done: On(1, Call(Alter), "done 1 at 1.1.0"),
+    stopped: On(1, Call(Alter), "stopped"),
     records: 1,
     calls: 8,
     stored: &["opened 2, horizon 0", "opened 2, horizon 0, line flush"],
@@ -269,8 +240,9 @@ fn a_line_on_two_stores(rt: HostRuntime) {
 }
 
 const AN_OUTCOME: Case = Case {
-    tried: Tried::Frame(Outcome(1, 9, 0)),
-    told: NOT_COMMITTED,
+    before: WRITTEN,
+    done: On(1, Outcome(1, 9, 0), NOT_COMMITTED),
+    stopped: On(1, Outcome(1, 9, 0), "stopped"),
     records: 1,
     calls: 8,
     stored: &["opened 2, horizon 0", "opened 2, horizon 0, blocked 1.9.0"],
@@ -284,7 +256,8 @@ fn an_outcome_by_a_frame_on_two_stores(rt: HostRuntime) {
 }
 
 const A_QUESTION: Case = Case {
-    tried: Tried::Ask,
+    done: Asks((1, 9, 0), NOT_COMMITTED),
+    stopped: Asks((1, 9, 0), "stopped"),
     ..AN_OUTCOME
 };
 
@@ -294,8 +267,12 @@ fn an_outcome_from_outside_on_two_stores(rt: HostRuntime) {
 }
 
 const CALLS_FROM_OUTSIDE: Case = Case {
-    tried: Tried::Outside,
-    told: "1.2.0; done 1, committed; done 1, committed",
+    before: WRITTEN,
+    done: Runs(
+        &[InsertCommit(7), InsertCommit(8)],
+        "1.2.0; done 1, committed; done 1, committed",
+    ),
+    stopped: Runs(&[InsertCommit(7), InsertCommit(8)], "stopped"),
     records: 2,
     calls: 16,
     stored: &[
@@ -318,8 +295,9 @@ fn calls_from_outside_on_two_stores(rt: HostRuntime) {
 
 /// A crash in the opening takes no store away; behind it no record is lacked.
 const AN_OPENING: Case = Case {
-    tried: Tried::Opening,
-    told: "opened",
+    before: LAGS,
+    done: Opens(0),
+    stopped: FailsToOpen(0),
     records: 1,
     calls: 16,
     stored: &[

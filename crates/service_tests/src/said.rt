@@ -1,11 +1,12 @@
-//! What the service tells, as a text.
+//! What the service tells, as a text. Each part is added to the text before it.
 
 use commit_log::{Journal, Recorded, Reservation};
 use ltxid_book::Verdict;
-use service_calls::{Ended, Outside};
+use service_calls::{Ended, Outside, Run};
 use std::alloc::Global;
 use std::process::Abort;
 use svc_values::{Ahead, Answer, Down, Draw, Entry, Ltxid, Row, Text, Value};
+use table_store::{TableRows, Tables};
 
 /// A text with these words.
 pub fn words(rt: &impl Abort, alloc: Global, words: &str) -> String {
@@ -16,216 +17,230 @@ fn add(rt: &impl Abort, text: &mut String, more: &str) {
     text.push_str(more).expect(rt, "a text");
 }
 
-fn of_bytes(rt: &impl Abort, alloc: Global, bytes: &[u8]) -> String {
-    let mut text = String::new(alloc);
-    for byte in bytes {
-        let two = format!(in alloc; "{byte:02x}").expect(rt, "a text");
-        add(rt, &mut text, &two);
+/// Adds a mark between items: before each but the first.
+fn add_between(rt: &impl Abort, text: &mut String, mark: &str, place: usize) {
+    if place > 0 {
+        add(rt, text, mark);
     }
-    text
 }
 
-fn of_value(rt: &impl Abort, alloc: Global, value: &Value) -> String {
+fn add_number(rt: &impl Abort, text: &mut String, number: u64) {
+    write!(text, "{number}").expect(rt, "a text");
+}
+
+fn add_integer(rt: &impl Abort, text: &mut String, number: i64) {
+    write!(text, "{number}").expect(rt, "a text");
+}
+
+fn add_named(rt: &impl Abort, text: &mut String, name: &str, number: u64) {
+    add(rt, text, name);
+    add_number(rt, text, number);
+}
+
+fn add_bytes(rt: &impl Abort, text: &mut String, bytes: &[u8]) {
+    for byte in bytes {
+        write!(text, "{byte:02x}").expect(rt, "a text");
+    }
+}
+
+fn add_value(rt: &impl Abort, text: &mut String, value: &Value) {
     match value {
-        Value::Int(number) => format!(in alloc; "{number}").expect(rt, "a text"),
-        Value::Text(text) => words(rt, alloc, text.as_str()),
-        Value::Bytes(bytes) => of_bytes(rt, alloc, bytes.as_slice()),
+        Value::Int(number) => add_integer(rt, text, *number),
+        Value::Text(word) => add(rt, text, word.as_str()),
+        Value::Bytes(bytes) => add_bytes(rt, text, bytes.as_slice()),
     }
 }
 
 /// The values with a blank between them, in brackets.
-fn of_row(rt: &impl Abort, alloc: Global, row: &Row) -> String {
-    let mut text = words(rt, alloc, "[");
+fn add_row(rt: &impl Abort, text: &mut String, row: &Row) {
+    add(rt, text, "[");
     for (place, value) in row.as_slice().iter().enumerate() {
-        if place > 0 {
-            add(rt, &mut text, " ");
-        }
-        add(rt, &mut text, &of_value(rt, alloc, value));
+        add_between(rt, text, " ", place);
+        add_value(rt, text, value);
     }
-    add(rt, &mut text, "]");
-    text
+    add(rt, text, "]");
 }
 
-fn of_rows(rt: &impl Abort, alloc: Global, rows: &[Row]) -> String {
+fn add_rows(rt: &impl Abort, text: &mut String, rows: &[Row]) {
     if rows.is_empty() {
-        return words(rt, alloc, "no row");
+        add(rt, text, "no row");
     }
-    let mut text = String::new(alloc);
     for row in rows {
-        add(rt, &mut text, &of_row(rt, alloc, row));
+        add_row(rt, text, row);
     }
-    text
 }
 
-fn of_answer(rt: &impl Abort, alloc: Global, answer: &Answer) -> String {
+fn add_answer(rt: &impl Abort, text: &mut String, answer: &Answer) {
     match answer {
-        Answer::Done(count) => format!(in alloc; "done {count}").expect(rt, "a text"),
-        Answer::Rows(rows) => of_rows(rt, alloc, rows.as_slice()),
-        Answer::Number(number) => format!(in alloc; "number {number}").expect(rt, "a text"),
-        Answer::Committed => words(rt, alloc, "committed"),
-        Answer::Conflict => words(rt, alloc, "conflict"),
-        Answer::RolledBack => words(rt, alloc, "rolled back"),
-        Answer::CommitInReplay => words(rt, alloc, "commit in replay"),
-        Answer::Refused(fault) => format!(in alloc; "refused {fault:?}").expect(rt, "a text"),
-    }
-}
-
-/// The answers with a comma behind each but the last.
-fn of_answers(rt: &impl Abort, alloc: Global, answers: &[Answer]) -> String {
-    let mut text = String::new(alloc);
-    for (place, answer) in answers.iter().enumerate() {
-        if place > 0 {
-            add(rt, &mut text, ", ");
+        Answer::Done(count) => add_named(rt, text, "done ", *count),
+        Answer::Rows(rows) => add_rows(rt, text, rows.as_slice()),
+        Answer::Number(number) => {
+            add(rt, text, "number ");
+            add_integer(rt, text, *number);
         }
-        add(rt, &mut text, &of_answer(rt, alloc, answer));
+        Answer::Committed => add(rt, text, "committed"),
+        Answer::Conflict => add(rt, text, "conflict"),
+        Answer::RolledBack => add(rt, text, "rolled back"),
+        Answer::CommitInReplay => add(rt, text, "commit in replay"),
+        Answer::Refused(fault) => write!(text, "refused {fault:?}").expect(rt, "a text"),
     }
-    text
 }
 
-fn of_id(rt: &impl Abort, alloc: Global, id: &[u8; 16]) -> String {
-    let id = of_bytes(rt, alloc, id);
-    format!(in alloc; ", drew id {id}").expect(rt, "a text")
+/// The answers with a comma between them.
+fn add_answers(rt: &impl Abort, text: &mut String, answers: &[Answer]) {
+    for (place, answer) in answers.iter().enumerate() {
+        add_between(rt, text, ", ", place);
+        add_answer(rt, text, answer);
+    }
 }
 
-fn of_draw(rt: &impl Abort, alloc: Global, draw: &Draw) -> String {
+fn add_draw(rt: &impl Abort, text: &mut String, draw: &Draw) {
     match draw {
         Draw::Seq { name, value } => {
-            let name = name.as_str();
-            format!(in alloc; ", drew {name} {value}").expect(rt, "a text")
+            add(rt, text, name.as_str());
+            add(rt, text, " ");
+            add_integer(rt, text, *value);
         }
-        Draw::Clock { tick } => format!(in alloc; ", drew clock {tick}").expect(rt, "a text"),
-        Draw::Id { id } => of_id(rt, alloc, id),
+        Draw::Clock { tick } => add_named(rt, text, "clock ", *tick),
+        Draw::Id { id } => {
+            add(rt, text, "id ");
+            add_bytes(rt, text, id.as_slice());
+        }
     }
 }
 
-/// The draws, each with a comma before it.
-fn of_draws(rt: &impl Abort, alloc: Global, draws: &[Draw]) -> String {
-    let mut text = String::new(alloc);
+/// The draws, each behind a comma.
+fn add_draws(rt: &impl Abort, text: &mut String, draws: &[Draw]) {
     for draw in draws {
-        add(rt, &mut text, &of_draw(rt, alloc, draw));
+        add(rt, text, ", drew ");
+        add_draw(rt, text, draw);
     }
-    text
 }
 
 /// The three parts of an identifier.
-fn of_ltxid(rt: &impl Abort, alloc: Global, ltxid: &Ltxid) -> String {
-    let incarnation = ltxid.incarnation;
-    let session = ltxid.session;
-    let number = ltxid.number;
-    format!(in alloc; "{incarnation}.{session}.{number}").expect(rt, "a text")
+fn add_ltxid(rt: &impl Abort, text: &mut String, ltxid: &Ltxid) {
+    add_number(rt, text, ltxid.incarnation);
+    add_named(rt, text, ".", ltxid.session);
+    add_named(rt, text, ".", ltxid.number);
 }
 
 fn of_ahead(ahead: Ahead) -> &'static str {
     match ahead {
-        Ahead::Server => "server ahead",
-        Ahead::Client => "client ahead",
-        Ahead::Forgotten => "forgotten",
+        Ahead::Server => "server ahead ",
+        Ahead::Client => "client ahead ",
+        Ahead::Forgotten => "forgotten ",
     }
 }
 
-fn of_hello(rt: &impl Abort, alloc: Global, ltxid: &Ltxid) -> String {
-    let ltxid = of_ltxid(rt, alloc, ltxid);
-    format!(in alloc; "hello {ltxid}").expect(rt, "a text")
+fn add_ahead(rt: &impl Abort, text: &mut String, ahead: Ahead, next: u64) {
+    add_named(rt, text, of_ahead(ahead), next);
 }
 
-fn of_reply(
+fn add_outcome(rt: &impl Abort, text: &mut String, committed: bool, completed: bool) {
+    write!(text, "committed {committed}, completed {completed}").expect(rt, "a text");
+}
+
+fn add_reply(
     rt: &impl Abort,
-    alloc: Global,
+    text: &mut String,
     answers: &[Answer],
     draws: &[Draw],
     ltxid: &Ltxid,
-) -> String {
-    let mut text = of_answers(rt, alloc, answers);
-    add(rt, &mut text, &of_draws(rt, alloc, draws));
-    add(rt, &mut text, " at ");
-    add(rt, &mut text, &of_ltxid(rt, alloc, ltxid));
-    text
+) {
+    add_answers(rt, text, answers);
+    add_draws(rt, text, draws);
+    add(rt, text, " at ");
+    add_ltxid(rt, text, ltxid);
 }
 
-fn of_outcome(rt: &impl Abort, alloc: Global, committed: bool, completed: bool) -> String {
-    format!(in alloc; "committed {committed}, completed {completed}").expect(rt, "a text")
-}
-
-fn of_ahead_by(rt: &impl Abort, alloc: Global, ahead: Ahead, next: u64) -> String {
-    let ahead = of_ahead(ahead);
-    format!(in alloc; "{ahead} {next}").expect(rt, "a text")
+fn add_down(rt: &impl Abort, text: &mut String, down: &Down) {
+    match down {
+        Down::Hello { ltxid } => {
+            add(rt, text, "hello ");
+            add_ltxid(rt, text, ltxid);
+        }
+        Down::Reply {
+            answers,
+            draws,
+            ltxid,
+        } => add_reply(rt, text, answers.as_slice(), draws.as_slice(), ltxid),
+        Down::OutcomeIs {
+            committed,
+            completed,
+        } => add_outcome(rt, text, *committed, *completed),
+        Down::OutcomeRefused { ahead, next } => add_ahead(rt, text, *ahead, *next),
+        Down::Blocked => add(rt, text, "blocked"),
+        Down::Refused { cause } => add_named(rt, text, "refused ", u64::from(*cause)),
+    }
 }
 
 /// What is told of a frame.
 pub fn of_down(rt: &impl Abort, alloc: Global, told: &Option<Down>) -> String {
+    let mut text = String::new(alloc);
     match told {
-        None => words(rt, alloc, "nothing"),
-        Some(Down::Hello { ltxid }) => of_hello(rt, alloc, ltxid),
-        Some(
-            Down::Reply {
-                answers,
-                draws,
-                ltxid,
-            },
-        ) => of_reply(rt, alloc, answers.as_slice(), draws.as_slice(), ltxid),
-        Some(
-            Down::OutcomeIs {
-                committed,
-                completed,
-            },
-        ) => of_outcome(rt, alloc, *committed, *completed),
-        Some(Down::OutcomeRefused { ahead, next }) => of_ahead_by(rt, alloc, *ahead, *next),
-        Some(Down::Blocked) => words(rt, alloc, "blocked"),
-        Some(Down::Refused { cause }) => {
-            format!(in alloc; "refused {cause}").expect(rt, "a text")
-        }
+        None => add(rt, &mut text, "nothing"),
+        Some(down) => add_down(rt, &mut text, down),
+    }
+    text
+}
+
+fn add_verdict(rt: &impl Abort, text: &mut String, verdict: Verdict) {
+    match verdict {
+        Verdict::Committed { completed } => add_outcome(rt, text, true, completed),
+        Verdict::BlockIt => add(rt, text, "still to be blocked"),
+        Verdict::AlreadyBlocked => add_outcome(rt, text, false, false),
+        Verdict::ServerAhead { next } => add_ahead(rt, text, Ahead::Server, next),
+        Verdict::ClientAhead { next } => add_ahead(rt, text, Ahead::Client, next),
+        Verdict::Forgotten { horizon } => add_ahead(rt, text, Ahead::Forgotten, horizon),
     }
 }
 
 /// What is told of an identifier from outside.
 pub fn of_verdict(rt: &impl Abort, alloc: Global, verdict: Verdict) -> String {
-    match verdict {
-        Verdict::Committed { completed } => of_outcome(rt, alloc, true, completed),
-        Verdict::BlockIt => words(rt, alloc, "still to be blocked"),
-        Verdict::AlreadyBlocked => of_outcome(rt, alloc, false, false),
-        Verdict::ServerAhead { next } => of_ahead_by(rt, alloc, Ahead::Server, next),
-        Verdict::ClientAhead { next } => of_ahead_by(rt, alloc, Ahead::Client, next),
-        Verdict::Forgotten { horizon } => of_ahead_by(rt, alloc, Ahead::Forgotten, horizon),
-    }
+    let mut text = String::new(alloc);
+    add_verdict(rt, &mut text, verdict);
+    text
 }
 
-/// What calls from outside are told: the first identifier of their session, and what each that ran was answered.
+fn add_run(rt: &impl Abort, text: &mut String, run: &Run) {
+    add(rt, text, "; ");
+    add_answers(rt, text, run.answers.as_slice());
+    add_draws(rt, text, run.draws.as_slice());
+}
+
+/// What calls from outside are told: the first identifier of their session, and what each that ran
+/// was answered.
 pub fn of_outside(rt: &impl Abort, alloc: Global, ran: &Outside) -> String {
-    let mut text = of_ltxid(rt, alloc, &ran.ltxid);
+    let mut text = String::new(alloc);
+    add_ltxid(rt, &mut text, &ran.ltxid);
     for run in ran.runs.as_slice() {
-        add(rt, &mut text, "; ");
-        add(
-            rt,
-            &mut text,
-            &of_answers(rt, alloc, run.answers.as_slice()),
-        );
-        add(rt, &mut text, &of_draws(rt, alloc, run.draws.as_slice()));
+        add_run(rt, &mut text, run);
     }
     text
 }
 
-fn add_entries(rt: &impl Abort, alloc: Global, text: &mut String, entries: &[Entry]) {
+fn add_entries(rt: &impl Abort, text: &mut String, entries: &[Entry]) {
     for entry in entries {
-        let ltxid = of_ltxid(rt, alloc, &entry.ltxid);
         let completed = entry.completed;
-        let more = format!(in alloc; ", entry {ltxid} completed {completed}").expect(rt, "a text");
-        add(rt, text, &more);
+        add(rt, text, ", entry ");
+        add_ltxid(rt, text, &entry.ltxid);
+        write!(text, " completed {completed}").expect(rt, "a text");
     }
 }
 
-fn add_blocks(rt: &impl Abort, alloc: Global, text: &mut String, blocked: &[Ltxid]) {
+fn add_blocks(rt: &impl Abort, text: &mut String, blocked: &[Ltxid]) {
     for x in blocked {
         add(rt, text, ", blocked ");
-        add(rt, text, &of_ltxid(rt, alloc, x));
+        add_ltxid(rt, text, x);
     }
 }
 
-fn add_reservations(rt: &impl Abort, alloc: Global, text: &mut String, reserved: &[Reservation]) {
+fn add_reservations(rt: &impl Abort, text: &mut String, reserved: &[Reservation]) {
     for reservation in reserved {
-        let name = reservation.name.as_str();
-        let upto = reservation.upto;
-        let more = format!(in alloc; ", {name} to {upto}").expect(rt, "a text");
-        add(rt, text, &more);
+        add(rt, text, ", ");
+        add(rt, text, reservation.name.as_str());
+        add(rt, text, " to ");
+        add_integer(rt, text, reservation.upto);
     }
 }
 
@@ -236,46 +251,60 @@ fn add_lines(rt: &impl Abort, text: &mut String, lines: &[Text]) {
     }
 }
 
-/// What a journal holds beside its opening: its horizon, the identifiers of its entries, those that are blocked, the ends
-/// of its reservations and its lines.
+/// Adds what a journal holds beside its opening: its horizon, the identifiers of its entries,
+/// those that are blocked, the ends of its reservations and its lines.
+fn add_kept(rt: &impl Abort, text: &mut String, journal: &Journal) {
+    add_named(rt, text, "horizon ", journal.horizon);
+    add_entries(rt, text, journal.entries.as_slice());
+    add_blocks(rt, text, journal.blocked.as_slice());
+    add_reservations(rt, text, journal.reserved.as_slice());
+    add_lines(rt, text, journal.alerts.as_slice());
+}
+
+/// What a journal holds beside its opening.
 pub fn of_kept(rt: &impl Abort, alloc: Global, journal: &Journal) -> String {
-    let horizon = journal.horizon;
-    let mut text = format!(in alloc; "horizon {horizon}").expect(rt, "a text");
-    add_entries(rt, alloc, &mut text, journal.entries.as_slice());
-    add_blocks(rt, alloc, &mut text, journal.blocked.as_slice());
-    add_reservations(rt, alloc, &mut text, journal.reserved.as_slice());
-    add_lines(rt, &mut text, journal.alerts.as_slice());
+    let mut text = String::new(alloc);
+    add_kept(rt, &mut text, journal);
     text
 }
 
 /// What a journal holds: its opening, and the rest.
 pub fn of_journal(rt: &impl Abort, alloc: Global, journal: &Journal) -> String {
-    let incarnation = journal.incarnation;
-    let mut text = format!(in alloc; "opened {incarnation}, ").expect(rt, "a text");
-    add(rt, &mut text, &of_kept(rt, alloc, journal));
+    let mut text = String::new(alloc);
+    add_named(rt, &mut text, "opened ", journal.incarnation);
+    add(rt, &mut text, ", ");
+    add_kept(rt, &mut text, journal);
     text
 }
 
-/// What the records behind a base say: the horizon, the identifiers of the entries, those that are blocked, and the
-/// lines.
-fn of_recorded(rt: &impl Abort, alloc: Global, recorded: &Recorded) -> String {
-    let horizon = recorded.horizon;
-    let mut text = format!(in alloc; "horizon {horizon}").expect(rt, "a text");
-    add_entries(rt, alloc, &mut text, recorded.entries.as_slice());
-    add_blocks(rt, alloc, &mut text, recorded.blocked.as_slice());
-    add_lines(rt, &mut text, recorded.alerts.as_slice());
-    text
+/// Adds what the records behind a base say: the horizon, the identifiers of the entries, those
+/// that are blocked, and the lines.
+fn add_recorded(rt: &impl Abort, text: &mut String, recorded: &Recorded) {
+    add_named(rt, text, "horizon ", recorded.horizon);
+    add_entries(rt, text, recorded.entries.as_slice());
+    add_blocks(rt, text, recorded.blocked.as_slice());
+    add_lines(rt, text, recorded.alerts.as_slice());
+}
+
+fn add_table(rt: &impl Abort, text: &mut String, one: &TableRows) {
+    add(rt, text, ", ");
+    add(rt, text, one.table.as_str());
+    add(rt, text, " ");
+    add_rows(rt, text, one.rows.as_slice());
+}
+
+fn add_tables(rt: &impl Abort, text: &mut String, tables: Tables) {
+    let all = tables.into_rows().expect(rt, "the rows");
+    for one in all.as_slice() {
+        add_table(rt, text, one);
+    }
 }
 
 /// What a service leaves at its end: what was recorded, and the rows of each table.
 pub fn of_ended(rt: &impl Abort, alloc: Global, ended: Ended) -> String {
     let Ended { recorded, tables } = ended;
-    let mut text = of_recorded(rt, alloc, &recorded);
-    for one in tables.into_rows().expect(rt, "the rows") {
-        let table = one.table.as_str();
-        let rows = of_rows(rt, alloc, &one.rows);
-        let more = format!(in alloc; ", {table} {rows}").expect(rt, "a text");
-        add(rt, &mut text, &more);
-    }
+    let mut text = String::new(alloc);
+    add_recorded(rt, &mut text, &recorded);
+    add_tables(rt, &mut text, tables);
     text
 }

@@ -1,5 +1,6 @@
-//! Calls and frames, by short words. The tables are `acc`, with a key and a balance, and `t`, with a key and a name; the
-//! sequences are `n`, `r` and `s`.
+//! Calls and frames, by short words. The tables are `acc`, with a key and a balance, and `t`, with
+//! a key and a name; the sequences are `n`, `r` and `s`.
+ghost use Rattle.std.specs.List.{AllByRecursion};
 ghost use Rattle.svc_values.specs.Calls.{IsMade};
 
 use std::alloc::Global;
@@ -9,7 +10,7 @@ use svc_values::{
 };
 
 /// What an operand asks for.
-#[derive(Clone, Copy, Debug)]
+#[derive(Clone, Copy)]
 pub enum Asks {
     Seq(&'static str),
     Clock,
@@ -17,7 +18,7 @@ pub enum Asks {
 }
 
 /// A call.
-#[derive(Clone, Copy, Debug)]
+#[derive(Clone, Copy)]
 pub enum Does {
     Insert(i64),
     InsertCommit(i64),
@@ -153,4 +154,16 @@ pub fn call(rt: &impl Abort, alloc: Global, does: Does) -> Call
         Does::Rollback => Call::Rollback,
         _ => work(rt, alloc, does),
     }
+}
+
+/// The calls of these names.
+#[tactic(auto, using(crate::proofs::Made::made_last))]
+pub fn calls(rt: &impl Abort, alloc: Global, script: &[Does]) -> Vec<Call>
+    ensures { AllByRecursion IsMade result.items }
+{
+    let mut calls = Vec::new(alloc);
+    for does in script {
+        calls.push(call(rt, alloc, *does)).expect(rt, "a call");
+    }
+    calls
 }
