@@ -1,9 +1,10 @@
 //! Images made by hand, and what a reading says of them.
 
 use crate::opening::{no_tables, open_with};
-use commit_log::{Log, LogFault};
+use commit_log::{Journal, Log, LogFault};
 use disk_model::MemDisk;
-use std::alloc::{AllocError, Global};
+use std::alloc::Global;
+use std::process::Abort;
 
 // A store over a base without tables and sequences, opened once.
 const OPENED: [u8; 71] = [
@@ -27,24 +28,47 @@ const OPENED_IN_FORMAT_1: [u8; 53] = [
     0, // the closed gate at 52
 ];
 
-/// What a reading of the bytes says: the last opening and the number of entries, or the place of
-/// the damage.
-fn said(alloc: Global, bytes: &[u8]) -> Result<String, AllocError> {
-    let mut disk = MemDisk::of(alloc, bytes)?;
-    match Log::read(alloc, &mut disk) {
-        Ok(journal) => {
-            let incarnation = journal.incarnation;
-            let count = journal.entries.len();
-            match journal.horizon {
-                0 => format!(in alloc; "opened {incarnation}, entries {count}"),
-                horizon => {
-                    format!(in alloc; "opened {incarnation}, entries {count}, horizon {horizon}")
-                }
-            }
-        }
-        Err(LogFault::Damaged(place)) => format!(in alloc; "damaged at {place}"),
-        Err(fault) => format!(in alloc; "{fault}"),
+// The same, opened a second time with the horizon 0.
+const OPENED_TWICE: [u8; 89] = [
+    0x54, 0x47, 0x53, 0x54, 0x4f, 0x52, 0x45, 0x31, // TGSTORE1
+    1, 0, 0, 0, 0, 0, 0, 0, 17, // at 8
+    1, 0, 0, 0, 0, 0, 0, 0, 0, 0, 0, 0, 0, 0, 0, 0, 0, // two empty lists
+    1, 0, 0, 0, 0, 0, 0, 0, 9, // at 34
+    2, 0, 0, 0, 0, 0, 0, 0, 1, // the first opening
+    1, 0, 0, 0, 0, 0, 0, 0, 9, // at 52
+    7, 0, 0, 0, 0, 0, 0, 0, 0, // the horizon 0
+    1, 0, 0, 0, 0, 0, 0, 0, 9, // at 70
+    2, 0, 0, 0, 0, 0, 0, 0, 2, // the second opening
+    0, // the closed gate at 88
+];
+
+/// What is said of a journal: the last opening, the number of entries, and a horizon that is not 0.
+fn of_journal(rt: &impl Abort, alloc: Global, journal: &Journal) -> String {
+    let incarnation = journal.incarnation;
+    let count = journal.entries.len();
+    let horizon = journal.horizon;
+    let mut text = format!(in alloc; "opened {incarnation}, entries {count}").expect(rt, "memory");
+    if horizon > 0 {
+        write!(text, ", horizon {horizon}").expect(rt, "memory");
     }
+    text
+}
+
+/// What a reading of the bytes says: what the journal has, or the place of the damage.
+fn said(rt: &impl Abort, alloc: Global, bytes: &[u8]) -> String {
+    let mut disk = MemDisk::of(alloc, bytes).expect(rt, "memory");
+    match Log::read(alloc, &mut disk) {
+        Ok(journal) => of_journal(rt, alloc, &journal),
+        Err(LogFault::Damaged(place)) => {
+            format!(in alloc; "damaged at {place}").expect(rt, "memory")
+        }
+        Err(fault) => panic!(rt; "{fault}"),
+    }
+}
+
+/// Sees that a reading of the bytes says this.
+fn is_said(rt: &impl Abort, alloc: Global, bytes: &[u8], wanted: &str) {
+    assert_eq!(rt; said(rt, alloc, bytes).as_str(), wanted, "{bytes:?}");
 }
 
 #[test]
@@ -52,10 +76,7 @@ fn the_bytes_of_a_store_that_was_made_and_opened(rt: HostRuntime) {
     let alloc = rt.alloc();
     let mut disk = MemDisk::new(alloc);
     Log::create(alloc, &mut disk, &no_tables(alloc)).expect(&rt, "a store");
-    assert_eq!(rt;
-        said(alloc, disk.bytes()).expect(&rt, "memory").as_str(),
-        "opened 0, entries 0"
-    );
+    is_said(&rt, alloc, disk.bytes(), "opened 0, entries 0");
     let (log, journal) = Log::open(alloc, &mut disk, 0).expect(&rt, "a store");
     assert!(rt; log.is_live());
     assert_eq!(rt; log.count(), 3);
@@ -69,44 +90,24 @@ fn an_opening_gives_a_store_of_format_1_a_horizon(rt: HostRuntime) {
     let mut disk = MemDisk::of(alloc, &OPENED_IN_FORMAT_1).expect(&rt, "memory");
     let opened = open_with(alloc, &mut disk, 0).expect(&rt, "a store");
     assert!(rt; opened.is_some_and(|(log, journal)| log.count() == 4 && journal.horizon == 0));
-    let mut bytes = OPENED_IN_FORMAT_1[..52].to_vec(alloc).expect(&rt, "memory");
-    bytes
-        .extend_from_slice(&[1, 0, 0, 0, 0, 0, 0, 0, 9])
-        .expect(&rt, "memory");
-    bytes
-        .extend_from_slice(&[7, 0, 0, 0, 0, 0, 0, 0, 0])
-        .expect(&rt, "memory");
-    bytes
-        .extend_from_slice(&[1, 0, 0, 0, 0, 0, 0, 0, 9])
-        .expect(&rt, "memory");
-    bytes
-        .extend_from_slice(&[2, 0, 0, 0, 0, 0, 0, 0, 2])
-        .expect(&rt, "memory");
-    bytes.push(0).expect(&rt, "memory");
-    assert_eq!(rt; bytes.len(), 89);
-    assert_eq!(rt; disk.bytes(), bytes.as_slice());
+    assert_eq!(rt; disk.bytes(), OPENED_TWICE.as_slice());
+}
+
+/// What a reading says of so many bytes of the store of format 1.
+fn cut_at(count: usize) -> &'static str {
+    match count {
+        0..=7 => "damaged at 0",
+        8..=34 => "damaged at 8",
+        _ => "damaged at 34",
+    }
 }
 
 #[test]
 fn each_part_of_a_store_is_damaged_at_the_gate_that_lost_its_record(rt: HostRuntime) {
     let alloc = rt.alloc();
-    assert_eq!(rt;
-        said(alloc, &OPENED_IN_FORMAT_1)
-            .expect(&rt, "memory")
-            .as_str(),
-        "opened 1, entries 0"
-    );
+    is_said(&rt, alloc, &OPENED_IN_FORMAT_1, "opened 1, entries 0");
     for (count, _) in OPENED_IN_FORMAT_1.iter().enumerate() {
-        let place = match count {
-            0..=7 => 0,
-            8..=34 => 8,
-            _ => 34,
-        };
-        assert_eq!(rt;
-            said(alloc, &OPENED_IN_FORMAT_1[..count]).expect(&rt, "memory"),
-            format!(in alloc; "damaged at {place}").expect(&rt, "memory"),
-            "{count} bytes"
-        );
+        is_said(&rt, alloc, &OPENED_IN_FORMAT_1[..count], cut_at(count));
     }
 }
 
@@ -137,21 +138,16 @@ fn expected(place: usize) -> &'static str {
 
 #[test]
 fn each_byte_of_a_store_changed(rt: HostRuntime) {
-    let alloc = rt.alloc();
     for (place, byte) in OPENED_IN_FORMAT_1.iter().enumerate() {
         let mut bytes = OPENED_IN_FORMAT_1;
         bytes[place] = byte.wrapping_add(1);
-        assert_eq!(rt;
-            said(alloc, &bytes).expect(&rt, "memory").as_str(),
-            expected(place),
-            "at {place}"
-        );
+        is_said(&rt, rt.alloc(), &bytes, expected(place));
     }
 }
 
-fn push_number(out: &mut Vec<u8>, number: u8) -> Result<(), AllocError> {
-    out.extend_from_slice(&[0, 0, 0, 0, 0, 0, 0, number])?;
-    Ok(())
+fn push_number(rt: &impl Abort, out: &mut Vec<u8>, number: u8) {
+    out.extend_from_slice(&[0, 0, 0, 0, 0, 0, 0, number])
+        .expect(rt, "memory");
 }
 
 /// The value of a digit, where a letter is one too: a is 10, g is 16.
@@ -163,10 +159,22 @@ fn digit_of(byte: u8) -> u8 {
     }
 }
 
+/// Adds what a digit or a letter describes: a number, a byte, or a name or a text of that letter.
+fn push_described(rt: &impl Abort, out: &mut Vec<u8>, byte: u8, is_number: bool) {
+    if is_number {
+        push_number(rt, out, digit_of(byte));
+    } else if byte.is_ascii_digit() {
+        out.push(digit_of(byte)).expect(rt, "memory");
+    } else {
+        push_number(rt, out, 1);
+        out.push(byte).expect(rt, "memory");
+    }
+}
+
 /// The bytes of a record that a text describes: a digit is a byte, a digit behind a point is a
 /// number of eight bytes (there a letter is a digit too), a letter is a name or a text of that
 /// letter, and a dash is nothing.
-fn bytes_of(alloc: Global, text: &str) -> Result<Vec<u8>, AllocError> {
+fn bytes_of(rt: &impl Abort, alloc: Global, text: &str) -> Vec<u8> {
     let mut out = Vec::new(alloc);
     let mut is_number = false;
     for byte in text.as_bytes() {
@@ -174,32 +182,30 @@ fn bytes_of(alloc: Global, text: &str) -> Result<Vec<u8>, AllocError> {
             b'.' => is_number = true,
             b'-' => {}
             _ => {
-                if is_number {
-                    push_number(&mut out, digit_of(*byte))?;
-                } else if byte.is_ascii_digit() {
-                    out.push(digit_of(*byte))?;
-                } else {
-                    push_number(&mut out, 1)?;
-                    out.push(*byte)?;
-                }
+                push_described(rt, &mut out, *byte, is_number);
                 is_number = false;
             }
         }
     }
-    Ok(out)
+    out
+}
+
+/// Adds an open gate, a payload's length and the payload.
+fn push_record(rt: &impl Abort, out: &mut Vec<u8>, payload: &[u8]) {
+    out.push(1).expect(rt, "memory");
+    out.extend_from_slice(&(payload.len() as u64).to_be_bytes())
+        .expect(rt, "memory");
+    out.extend_from_slice(payload).expect(rt, "memory");
 }
 
 /// A store of records that stand apart in a text, with this gate behind them.
-fn store_of(alloc: Global, records: &str, gate: u8) -> Result<Vec<u8>, AllocError> {
-    let mut bytes = b"TGSTORE1".to_vec(alloc)?;
+fn store_of(rt: &impl Abort, alloc: Global, records: &str, gate: u8) -> Vec<u8> {
+    let mut bytes = b"TGSTORE1".to_vec(alloc).expect(rt, "memory");
     for record in records.split_whitespace() {
-        let payload = bytes_of(alloc, record)?;
-        bytes.push(1)?;
-        bytes.extend_from_slice(&(payload.len() as u64).to_be_bytes())?;
-        bytes.extend_from_slice(&payload)?;
+        push_record(rt, &mut bytes, bytes_of(rt, alloc, record).as_slice());
     }
-    bytes.push(gate)?;
-    Ok(bytes)
+    bytes.push(gate).expect(rt, "memory");
+    bytes
 }
 
 // Stores, each by its records and by what a reading says; and lines that say what they are.
@@ -291,32 +297,46 @@ const STORES: &str = "\
 1.1t.1k1.1.11.5.1s.91 2.1 3.1.1.01.0.0.2t1.50t2k0 => damaged at 122
 ";
 
-#[test]
-fn records_and_what_a_reading_says_of_them(rt: HostRuntime) {
-    let alloc = rt.alloc();
-    for line in STORES.lines() {
-        if let Some((records, expected)) = line.split_once(" => ") {
-            let bytes = store_of(alloc, records, 0).expect(&rt, "memory");
-            assert_eq!(rt;
-                said(alloc, &bytes).expect(&rt, "memory").as_str(),
-                expected,
-                "{line}"
-            );
-        }
+/// Sees what a reading says of the store of a line.
+fn is_so(rt: &impl Abort, alloc: Global, line: &str) {
+    if let Some((records, wanted)) = line.split_once(" => ") {
+        let bytes = store_of(rt, alloc, records, 0);
+        assert_eq!(rt;
+            said(rt, alloc, bytes.as_slice()).as_str(),
+            wanted,
+            "{line}"
+        );
     }
 }
 
-/// What a reading says of a store with a line of so many bytes.
-fn said_of_line(alloc: Global, length: u8) -> Result<String, AllocError> {
-    let mut bytes = store_of(alloc, "1.0.0", 1)?;
-    push_number(&mut bytes, length.wrapping_add(9))?;
-    bytes.push(6)?;
-    push_number(&mut bytes, length)?;
-    for _ in 0..length {
-        bytes.push(b'k')?;
+#[test]
+fn records_and_what_a_reading_says_of_them(rt: HostRuntime) {
+    for line in STORES.lines() {
+        is_so(&rt, rt.alloc(), line);
     }
-    bytes.push(0)?;
-    said(alloc, &bytes)
+}
+
+/// A store with a line of so many bytes.
+fn with_line(rt: &impl Abort, alloc: Global, length: u8) -> Vec<u8> {
+    let mut bytes = store_of(rt, alloc, "1.0.0", 1);
+    push_number(rt, &mut bytes, length.wrapping_add(9));
+    bytes.push(6).expect(rt, "memory");
+    push_number(rt, &mut bytes, length);
+    for _ in 0..length {
+        bytes.push(b'k').expect(rt, "memory");
+    }
+    bytes.push(0).expect(rt, "memory");
+    bytes
+}
+
+/// A store with a record whose length is eight bytes ff.
+fn with_long_record(rt: &impl Abort, alloc: Global) -> Vec<u8> {
+    let mut bytes = store_of(rt, alloc, "1.0.0", 1);
+    bytes.extend_from_slice(&[0xff; 8]).expect(rt, "memory");
+    bytes
+        .extend_from_slice(&[2, 0, 0, 0, 0, 0, 0, 0, 1, 0])
+        .expect(rt, "memory");
+    bytes
 }
 
 #[test]
@@ -324,32 +344,24 @@ fn the_first_damage_is_told(rt: HostRuntime) {
     let alloc = rt.alloc();
     // An open gate with nothing behind it, behind records that may come next and behind one that
     // may not.
-    let whole = store_of(alloc, "1.0.0 2.1", 1).expect(&rt, "memory");
-    assert_eq!(rt;
-        said(alloc, &whole).expect(&rt, "memory").as_str(),
-        "damaged at 52"
+    is_said(
+        &rt,
+        alloc,
+        &store_of(&rt, alloc, "1.0.0 2.1", 1),
+        "damaged at 52",
     );
-    let misplaced = store_of(alloc, "1.0.0 4", 1).expect(&rt, "memory");
-    assert_eq!(rt;
-        said(alloc, &misplaced).expect(&rt, "memory").as_str(),
-        "damaged at 34"
+    is_said(
+        &rt,
+        alloc,
+        &store_of(&rt, alloc, "1.0.0 4", 1),
+        "damaged at 34",
     );
-    // A line of 64 bytes, and one of 65.
-    assert_eq!(rt;
-        said_of_line(alloc, 64).expect(&rt, "memory").as_str(),
-        "opened 0, entries 0"
+    is_said(
+        &rt,
+        alloc,
+        &with_line(&rt, alloc, 64),
+        "opened 0, entries 0",
     );
-    assert_eq!(rt;
-        said_of_line(alloc, 65).expect(&rt, "memory").as_str(),
-        "damaged at 34"
-    );
-    // A length of eight bytes ff.
-    let mut long = store_of(alloc, "1.0.0", 1).expect(&rt, "memory");
-    long.extend_from_slice(&[0xff; 8]).expect(&rt, "memory");
-    long.extend_from_slice(&[2, 0, 0, 0, 0, 0, 0, 0, 1, 0])
-        .expect(&rt, "memory");
-    assert_eq!(rt;
-        said(alloc, &long).expect(&rt, "memory").as_str(),
-        "damaged at 34"
-    );
+    is_said(&rt, alloc, &with_line(&rt, alloc, 65), "damaged at 34");
+    is_said(&rt, alloc, &with_long_record(&rt, alloc), "damaged at 34");
 }

@@ -3,6 +3,7 @@
 ghost use Rattle.std.specs.Prelude.{◌≡◌, ◌<◌, [], IfOk, Ok};
 ghost use Rattle.svc_values.specs.Identifiers.{IsLtxid};
 ghost use Rattle.canon_bytes.specs.Entries.{IsMadeEntry};
+ghost use Rattle.disk_model.specs.Mem.{mem_state};
 ghost use Rattle.commit_log.specs.meaning.Journals.{journal_of};
 ghost use Rattle.commit_log.specs.Logs.{CanLog};
 
@@ -156,17 +157,26 @@ fn framed(rt: &impl Abort, alloc: Global, payload: &[u8]) -> Vec<u8> {
     bytes
 }
 
+/// Makes a store with one sequence on an empty disk, and opens it.
+fn opened(rt: &impl Abort, alloc: Global, disk: &mut MemDisk) -> (Log, Journal)
+    requires { (mem_state disk.old).now.seen ≡ [] }
+    ensures ready { CanLog result.0 (mem_state disk.new) }
+    ensures read { journal_of (mem_state disk.new).now.seen ≡ Ok result.1 }
+{
+    Log::create(alloc, disk, &one_sequence(rt, alloc)).expect(rt, "a store");
+    Log::open(alloc, disk, 0).expect(rt, "a store")
+}
+
 // The bytes that the call of the kind at this place adds, with the closed gate in front of which
 // they came.
 fn added_by(rt: &impl Abort, alloc: Global, place: usize) -> Vec<u8>
     requires { place < 4 }
 {
     let mut disk = MemDisk::new(alloc);
-    Log::create(alloc, &mut disk, &one_sequence(rt, alloc)).expect(rt, "a store");
-    let (mut log, journal) = Log::open(alloc, &mut disk, 0).expect(rt, "a store");
-    let before = disk.bytes().len();
+    let (mut log, journal) = opened(rt, alloc, &mut disk);
+    let gate = disk.bytes().len().saturating_sub(1);
     add(alloc, &mut log, &mut disk, &journal, KINDS[place]).expect(rt, "an answer");
-    let behind = disk.bytes().get(before - 1..).unwrap_or_default();
+    let behind = disk.bytes().get(gate..).unwrap_or_default();
     behind.to_vec(alloc).expect(rt, "memory")
 }
 
@@ -174,11 +184,9 @@ fn added_by(rt: &impl Abort, alloc: Global, place: usize) -> Vec<u8>
 fn each_call_adds_the_bytes_of_its_record(rt: HostRuntime) {
     let alloc = rt.alloc();
     for (place, payload) in PAYLOADS.into_iter().enumerate() {
-        assert_eq!(rt;
-            added_by(&rt, alloc, place),
-            framed(&rt, alloc, payload),
-            "{:?}",
-            KINDS[place]
+        assert!(rt;
+            added_by(&rt, alloc, place) == framed(&rt, alloc, payload),
+            "{place}"
         );
     }
 }
@@ -196,8 +204,7 @@ fn left_by(
     requires pick { pick < 4 }
 {
     let mut disk = MemDisk::new(alloc);
-    Log::create(alloc, &mut disk, &one_sequence(rt, alloc)).expect(rt, "a store");
-    let (mut log, journal) = Log::open(alloc, &mut disk, 0).expect(rt, "a store");
+    let (mut log, journal) = opened(rt, alloc, &mut disk);
     disk.stop_after(Some(stop));
     // It is stopped before its end, or else done: what is left is looked at.
     let _ = add(alloc, &mut log, &mut disk, &journal, KINDS[place]);
@@ -206,9 +213,28 @@ fn left_by(
     (counts(&left), log.is_live(), log.count())
 }
 
+/// Sees what the journal has after a call of the kind at this place that is stopped after so many
+/// writes and syncs, and a crash: so many of its kind.
+fn is_left(rt: &impl Abort, alloc: Global, place: usize, stop: u64, pick: u8, count: usize)
+    requires place { place < 4 }
+    requires pick { pick < 4 }
+{
+    let (found, live, records) = left_by(rt, alloc, place, stop, pick);
+    assert_eq!(rt;
+        found,
+        only(place, count),
+        "{place}, stop {stop}, pick {pick}"
+    );
+    assert_eq!(rt; live, stop == 4, "{place}, stop {stop}");
+    assert_eq!(rt;
+        records,
+        if stop == 4 { 4 } else { 3 },
+        "{place}, stop {stop}"
+    );
+}
+
 #[test]
 fn a_stop_in_each_device_call_of_each_kind(rt: HostRuntime) {
-    let alloc = rt.alloc();
     for (stop, left) in [
         (0, [0, 0, 0, 0]),
         (1, [0, 0, 0, 0]),
@@ -216,17 +242,9 @@ fn a_stop_in_each_device_call_of_each_kind(rt: HostRuntime) {
         (3, [1, 0, 1, 0]),
         (4, [1, 1, 1, 1]),
     ] {
-        for (place, kind) in KINDS.into_iter().enumerate() {
+        for place in 0..4 {
             for pick in 0..4 {
-                let (found, live, count) = left_by(&rt, alloc, place, stop, pick);
-                let expected = only(place, left[pick as usize]);
-                assert_eq!(rt; found, expected, "{kind:?}, stop {stop}, pick {pick}");
-                assert_eq!(rt; live, stop == 4, "{kind:?}, stop {stop}");
-                assert_eq!(rt;
-                    count,
-                    if stop == 4 { 4 } else { 3 },
-                    "{kind:?}, stop {stop}"
-                );
+                is_left(&rt, rt.alloc(), place, stop, pick, left[pick as usize]);
             }
         }
     }
@@ -259,22 +277,37 @@ const TRIED: [(Next, bool); 18] = [
     (Next::Alert("lag"), true),
 ];
 
-#[test]
-fn records_that_may_come_next_and_others(rt: HostRuntime) {
-    let alloc = rt.alloc();
-    let mut disk = MemDisk::new(alloc);
-    Log::create(alloc, &mut disk, &one_sequence(&rt, alloc)).expect(&rt, "a store");
-    let (mut log, _) = Log::open(alloc, &mut disk, 0).expect(&rt, "a store");
-    'tried: for (next, may) in TRIED {
-        let journal = Log::read(alloc, &mut disk).expect(&rt, "a journal");
-        assert_eq!(rt;
-            add(alloc, &mut log, &mut disk, &journal, next).expect(&rt, "an answer"),
-            may,
-            "{next:?}"
-        );
-    }
-    let journal = Log::read(alloc, &mut disk).expect(&rt, "a journal");
+/// Tries to add a record, and sees whether it may come next.
+fn try_next(
+    rt: &impl Abort,
+    alloc: Global,
+    log: &mut Log,
+    disk: &mut MemDisk,
+    next: Next,
+    may: bool,
+)
+    requires { CanLog log.old (mem_state disk.old) }
+    ensures { CanLog log.new (mem_state disk.new) }
+{
+    let journal = Log::read(alloc, disk).expect(rt, "a journal");
+    let added = add(alloc, log, disk, &journal, next).expect(rt, "an answer");
+    assert_eq!(rt; added, may, "{next:?}");
+}
+
+/// Sees what the journal has behind all that were tried.
+fn are_added(rt: &impl Abort, alloc: Global, disk: &mut MemDisk) {
+    let journal = Log::read(alloc, disk).expect(rt, "a journal");
     assert_eq!(rt; counts(&journal), [2, 2, 2, 2]);
     assert!(rt; journal.blocked.as_slice() == [ltxid(1, 1, 1), ltxid(7, 3, 0)].as_slice());
+}
+
+#[test]
+fn records_that_may_come_next_and_others(rt: HostRuntime) {
+    let mut disk = MemDisk::new(rt.alloc());
+    let (mut log, _) = opened(&rt, rt.alloc(), &mut disk);
+    'tried: for (next, may) in TRIED {
+        try_next(&rt, rt.alloc(), &mut log, &mut disk, next, may);
+    }
+    are_added(&rt, rt.alloc(), &mut disk);
     assert_eq!(rt; log.count(), 11);
 }
