@@ -1,14 +1,12 @@
 //! Transactions whose values are drawn from a source of an opening.
 ghost use Rattle.std.specs.Prelude.{◌≡◌, ◌+ℤ◌, IsTrue, int_le, pos};
 
-use crate::makers::{alone, name, next_of, one_row, schemas, sequences, value_of_s};
+use crate::makers::{draws_of_s, name, no_rows, sequences};
+use crate::script::{Does, Puts, Says, answer, statements};
 use mutable_values::{Drawn, Grants, Kept, SeqState, Source};
 use std::alloc::Global;
 use std::process::Abort;
-use svc_values::{
-    Answer, Draw, DrawKind, Draws, Names, Row, Settings, Statement, Value, is_of_kind, is_there,
-};
-use table_store::Tables;
+use svc_values::{Draw, DrawKind, Draws, Names, Settings, is_of_kind, is_there};
 use table_txn::{DrawFrom, DrawFromFault, Txn};
 
 /// A source whose reservations are stored at once, with the draws that are kept.
@@ -22,8 +20,8 @@ struct Reserving {
 }
 
 impl Reserving {
-    /// The value of a draw at tick 7, if that is what the draw comes to. A reservation that it asks
-    /// for is taken into use.
+    /// The value of a draw at tick 7, if that is what the draw comes to. A reservation that it
+    /// asks for is taken into use.
     fn value(&mut self, alloc: Global, kind: &DrawKind) -> Option<Draw>
         ensures { self.new.names ≡ self.old.names }
     {
@@ -92,25 +90,15 @@ fn source_of(rt: &impl Abort, alloc: Global, next: i64, upto: i64) -> Reserving
     }
 }
 
-/// An answer of one value.
-fn one_value(rt: &impl Abort, alloc: Global, value: i64) -> Answer {
-    let mut row = Row::new(alloc);
-    row.push(Value::Int(value)).expect(rt, "a value");
-    one_row(rt, alloc, row)
-}
-
 /// Whether a transaction that shows the next value of s is answered so.
 fn shows(rt: &impl Abort, alloc: Global, source: &mut Reserving, wanted: i64) -> bool {
-    let operand = next_of(rt, alloc, "s");
-    let statements = alone(rt, alloc, Statement::Show { operand });
-    let schemas = schemas(rt, alloc);
-    let tables = Tables::new(alloc, schemas, Vec::new(alloc)).expect(rt, "tables");
+    let statements = statements(rt, alloc, &[Does::Show(Puts::Next("s"))]);
+    let tables = no_rows(rt, alloc);
     let mut txn = Txn::new(alloc);
-    let settings = Settings::new(alloc);
     let ran = txn
-        .run(&tables, &settings, &statements, source)
+        .run(&tables, &Settings::new(alloc), &statements, source)
         .expect(rt, "answers");
-    ran.answers.get(0) == Some(&one_value(rt, alloc, wanted))
+    ran.answers.get(0) == Some(&answer(rt, alloc, Says::Value(wanted)))
 }
 
 #[test]
@@ -128,31 +116,26 @@ fn a_sequence_goes_on_in_reservations(rt: HostRuntime) {
     assert!(rt; reopened.end == Some(32));
 }
 
-/// The draws s 5 and s 7.
-fn two_draws(rt: &impl Abort, alloc: Global) -> Draws {
-    let mut draws = Draws::new(alloc);
-    for value in [5, 7] {
-        let draw = value_of_s(rt, alloc, value);
-        draws.push(draw).expect(rt, "a draw");
-    }
-    draws
+/// A source whose next new value is 9, with these draws where they are granted.
+fn granted(rt: &impl Abort, alloc: Global, seq: bool, draws: &Draws) -> Reserving {
+    let mut source = source_of(rt, alloc, 9, 16);
+    let grants = Grants {
+        seq,
+        clock: true,
+        id: true,
+    };
+    let kept = source.source.granted(alloc, &grants, draws);
+    source.kept = kept.expect(rt, "kept draws");
+    source
 }
 
 #[test]
 fn granted_values_come_first(rt: HostRuntime) {
+    let draws = draws_of_s(&rt, rt.alloc(), [5, 7]);
     for (seq, values) in [(true, [5, 7, 9]), (false, [9, 10, 11])] {
-        let alloc = rt.alloc();
-        let mut source = source_of(&rt, alloc, 9, 16);
-        let grants = Grants {
-            seq,
-            clock: true,
-            id: true,
-        };
-        let draws = two_draws(&rt, alloc);
-        let kept = source.source.granted(alloc, &grants, &draws);
-        source.kept = kept.expect(&rt, "kept draws");
+        let mut source = granted(&rt, rt.alloc(), seq, &draws);
         for value in values {
-            assert!(rt; shows(&rt, alloc, &mut source, value));
+            assert!(rt; shows(&rt, rt.alloc(), &mut source, value));
         }
     }
 }

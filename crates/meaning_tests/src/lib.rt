@@ -1,4 +1,5 @@
-//! Tests of what statements mean, of committed tables, of transactions over them, and of drawn values.
+//! Tests of what statements mean, of committed tables, of transactions over them, and of drawn
+//! values.
 #![tactic(auto)]
 
 #[cfg(test)]
@@ -8,6 +9,10 @@ mod makers;
 #[cfg(test)]
 mod plain;
 #[cfg(test)]
+mod script;
+#[cfg(test)]
 mod tables;
+#[cfg(test)]
+mod teller;
 #[cfg(test)]
 mod transactions;

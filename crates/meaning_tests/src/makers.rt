@@ -1,15 +1,20 @@
-//! Values that the tests begin with: the tables acc (id int, bal int) and t (id int, name text), and
-//! the sequence s.
+//! Values that the tests begin with: the tables acc (id int, bal int) and t (id int, name text),
+//! and the sequence s.
 
 use std::alloc::Global;
 use std::process::Abort;
 use svc_values::{
-    Answer, Change, Column, Columns, Draw, DrawKind, Kind, Limited, Name, Names, Operand, Operands,
-    Row, Rows, Schema, Schemas, Statement, Statements, Test, Text, Value,
+    Column, Columns, Draw, Draws, Kind, Name, Names, Row, Schema, Schemas, Text, Value, Write,
+    Writes,
 };
+use table_store::Tables;
 
 pub fn name(rt: &impl Abort, alloc: Global, text: &str) -> Name {
     Name::new(alloc, text).expect(rt, "a name")
+}
+
+pub fn text(rt: &impl Abort, alloc: Global, text: &str) -> Text {
+    Text::new(alloc, text).expect(rt, "a text")
 }
 
 fn column(rt: &impl Abort, alloc: Global, text: &str, kind: Kind) -> Column {
@@ -28,14 +33,22 @@ fn schema(rt: &impl Abort, alloc: Global, table: &str, other: Column) -> Schema 
     Schema::new(name(rt, alloc, table), columns).expect(rt, "a table")
 }
 
+/// The table acc.
+pub fn accounts(rt: &impl Abort, alloc: Global) -> Schema {
+    let balance = column(rt, alloc, "bal", Kind::Int);
+    schema(rt, alloc, "acc", balance)
+}
+
+/// The table t.
+fn texts(rt: &impl Abort, alloc: Global) -> Schema {
+    let text = column(rt, alloc, "name", Kind::Text);
+    schema(rt, alloc, "t", text)
+}
+
 pub fn schemas(rt: &impl Abort, alloc: Global) -> Schemas {
     let mut schemas = Schemas::new(alloc);
-    let balance = column(rt, alloc, "bal", Kind::Int);
-    let accounts = schema(rt, alloc, "acc", balance);
-    schemas.push(accounts).expect(rt, "a table");
-    let text = column(rt, alloc, "name", Kind::Text);
-    let texts = schema(rt, alloc, "t", text);
-    schemas.push(texts).expect(rt, "a table");
+    schemas.push(accounts(rt, alloc)).expect(rt, "a table");
+    schemas.push(texts(rt, alloc)).expect(rt, "a table");
     schemas
 }
 
@@ -59,104 +72,55 @@ pub fn account(rt: &impl Abort, alloc: Global, id: i64, balance: i64) -> Row {
     row
 }
 
-/// An answer of these accounts.
-pub fn shown(rt: &impl Abort, alloc: Global, accounts: &[(i64, i64)]) -> Answer {
-    let mut rows = Limited::new(alloc);
+/// Draws of these values of the sequence s.
+pub fn draws_of_s(rt: &impl Abort, alloc: Global, values: [i64; 2]) -> Draws {
+    let mut draws = Draws::new(alloc);
+    for value in values {
+        let draw = value_of_s(rt, alloc, value);
+        draws.push(draw).expect(rt, "a draw");
+    }
+    draws
+}
+
+/// The tables without a row.
+pub fn no_rows(rt: &impl Abort, alloc: Global) -> Tables {
+    Tables::new(alloc, schemas(rt, alloc), Vec::new(alloc)).expect(rt, "tables")
+}
+
+/// The row of an account, if it has a balance.
+fn row_of(rt: &impl Abort, alloc: Global, id: i64, balance: Option<i64>) -> Option<Row> {
+    match balance {
+        None => None,
+        Some(balance) => Some(account(rt, alloc, id, balance)),
+    }
+}
+
+/// A write of this account, or its deletion.
+pub fn write_of(rt: &impl Abort, alloc: Global, id: i64, balance: Option<i64>) -> Write {
+    Write {
+        table: name(rt, alloc, "acc"),
+        key: Value::Int(id),
+        row: row_of(rt, alloc, id, balance),
+    }
+}
+
+/// The writes of these accounts, one after the other.
+pub fn writes_of(rt: &impl Abort, alloc: Global, accounts: &[(i64, Option<i64>)]) -> Writes {
+    let mut writes = Writes::new(alloc);
     for (id, balance) in accounts {
-        let row = account(rt, alloc, *id, *balance);
-        rows.push(row).expect(rt, "a row");
+        let write = write_of(rt, alloc, *id, *balance);
+        writes.push(write).expect(rt, "a write");
     }
-    Answer::Rows(rows.into_shared(alloc).expect(rt, "memory"))
+    writes
 }
 
-pub fn int(number: i64) -> Operand {
-    Operand::Lit(Value::Int(number))
+/// Applies the writes, which fit.
+pub fn apply(rt: &impl Abort, tables: &mut Tables, writes: &Writes) {
+    assert!(rt; tables.all_fit(writes));
+    tables.apply(writes).expect(rt, "memory");
 }
 
-pub fn text(rt: &impl Abort, alloc: Global) -> Operand {
-    Operand::Lit(Value::Text(Text::new(alloc, "a").expect(rt, "a text")))
-}
-
-/// A setting that is not there.
-pub fn unset(rt: &impl Abort, alloc: Global) -> Operand {
-    Operand::Var(name(rt, alloc, "unset"))
-}
-
-pub fn next_of(rt: &impl Abort, alloc: Global, sequence: &str) -> Operand {
-    Operand::Draw(DrawKind::Seq(name(rt, alloc, sequence)))
-}
-
-pub fn insert(
-    rt: &impl Abort,
-    alloc: Global,
-    table: &str,
-    key: Operand,
-    other: Operand,
-) -> Statement {
-    let mut values = Operands::new(alloc);
-    values.push(key).expect(rt, "an operand");
-    values.push(other).expect(rt, "an operand");
-    let table = name(rt, alloc, table);
-    Statement::Insert { table, values }
-}
-
-/// A change of a column of acc.
-pub fn update(
-    rt: &impl Abort,
-    alloc: Global,
-    key: Operand,
-    column: &str,
-    change: Change,
-) -> Statement {
-    Statement::Update {
-        table: name(rt, alloc, "acc"),
-        key,
-        column: name(rt, alloc, column),
-        change,
-    }
-}
-
-pub fn delete(rt: &impl Abort, alloc: Global, key: i64) -> Statement {
-    let table = name(rt, alloc, "acc");
-    let key = int(key);
-    Statement::Delete { table, key }
-}
-
-pub fn get(rt: &impl Abort, alloc: Global, key: i64) -> Statement {
-    let table = name(rt, alloc, "acc");
-    let key = int(key);
-    Statement::Get { table, key }
-}
-
-/// The accounts of at least this balance.
-pub fn select(rt: &impl Abort, alloc: Global, operand: Operand) -> Statement {
-    Statement::Select {
-        table: name(rt, alloc, "acc"),
-        column: name(rt, alloc, "bal"),
-        test: Test::Ge,
-        operand,
-    }
-}
-
-pub fn count(rt: &impl Abort, alloc: Global) -> Statement {
-    let table = name(rt, alloc, "acc");
-    Statement::Count { table }
-}
-
-pub fn sum(rt: &impl Abort, alloc: Global, table: &str, column: &str) -> Statement {
-    let table = name(rt, alloc, table);
-    let column = name(rt, alloc, column);
-    Statement::Sum { table, column }
-}
-
-/// A call's statements, one.
-pub fn alone(rt: &impl Abort, alloc: Global, statement: Statement) -> Statements {
-    let list = Vec::from_array(alloc, [statement]).expect(rt, "memory");
-    Statements::of(alloc, list).expect(rt, "memory")
-}
-
-/// An answer of one row.
-pub fn one_row(rt: &impl Abort, alloc: Global, row: Row) -> Answer {
-    let list = Vec::from_array(alloc, [row]).expect(rt, "memory");
-    Answer::Rows(Rows::of(alloc, list).expect(rt, "memory"))
+/// The same with writes of these accounts.
+pub fn write(rt: &impl Abort, alloc: Global, tables: &mut Tables, accounts: &[(i64, Option<i64>)]) {
+    apply(rt, tables, &writes_of(rt, alloc, accounts));
 }

@@ -1,16 +1,17 @@
 //! Calls on plain tables.
 
-use crate::makers::{
-    account, alone, delete, insert, int, name, next_of, schemas, select, sequences, sum, text,
-    unset, update, value_of_s,
-};
+use crate::makers::{account, name, schemas, sequences, value_of_s};
+use crate::script::Does::{self, Add, Delete, Insert, Select, Set, Sum};
+use crate::script::Puts::{Int, Next, Text, Unset};
+use crate::script::Says::{self, Done, Number, Refused};
+use crate::script::{answer, statements};
 use std::alloc::Global;
 use std::process::Abort;
 use stmt_meaning::{PlainFault, PlainRun, drawn_value, in_order, plain_call};
-use svc_values::{
-    Answer, Call, Change, Draw, PlainRow, PlainTables, Settings, Shape, Statement, StatementFault,
-    Statements, Value,
+use svc_values::StatementFault::{
+    DuplicateKey, KeyColumn, KindDiffers, NoSequence, NoTable, NoVar, SumRange,
 };
+use svc_values::{Answer, Call, Draw, PlainRow, PlainTables, Settings, Shape, Statements, Value};
 
 fn row_of(rt: &impl Abort, alloc: Global, id: i64, balance: i64) -> PlainRow {
     PlainRow {
@@ -47,104 +48,104 @@ fn run(
 }
 
 /// The first answer of a call of this statement on accounts of these balances.
-fn answer(
-    rt: &impl Abort,
-    alloc: Global,
-    balances: &[i64],
-    statement: Statement,
-) -> Option<Answer> {
+fn answered(rt: &impl Abort, alloc: Global, balances: &[i64], does: Does) -> Option<Answer> {
     let tables = accounts(rt, alloc, balances);
-    let statements = alone(rt, alloc, statement);
+    let statements = statements(rt, alloc, &[does]);
     let run = run(rt, alloc, &tables, statements, &[]).expect(rt, "a run");
     run.answers.into_vec().pop()
 }
 
-/// Whether a statement is refused so on an account with the greatest balance.
-fn refuses(rt: &impl Abort, alloc: Global, statement: Statement, wanted: StatementFault) -> bool {
-    match answer(rt, alloc, &[9223372036854775807], statement) {
-        Some(Answer::Refused(fault)) => fault == wanted,
-        _ => false,
+/// Balances of accounts, a statement on them, and its answer.
+type Line = (&'static [i64], Does, Says);
+
+/// Sees that each statement is answered so.
+fn are_answered(rt: &impl Abort, alloc: Global, lines: &[Line]) {
+    for (place, (balances, does, says)) in lines.iter().enumerate() {
+        let wanted = answer(rt, alloc, *says);
+        assert!(rt;
+            answered(rt, alloc, balances, *does) == Some(wanted),
+            "line {place}"
+        );
     }
 }
 
+/// An account with the greatest balance.
+const RICH: &[i64] = &[9223372036854775807];
+
+const NAMES_FIRST: &[Line] = &[
+    (RICH, Insert("no", Unset, Int(1)), Refused(NoTable)),
+    (RICH, Set(Text, "id", Next("no")), Refused(KeyColumn)),
+    (RICH, Set(Text, "bal", Next("no")), Refused(NoSequence)),
+    (RICH, Insert("acc", Int(1), Text), Refused(KindDiffers)),
+    (RICH, Insert("acc", Int(1), Int(5)), Refused(DuplicateKey)),
+];
+
 #[test]
 fn names_come_before_operands_and_these_before_kinds(rt: HostRuntime) {
-    let alloc = rt.alloc();
-    let unset = unset(&rt, alloc);
-    let statement = insert(&rt, alloc, "no", unset, int(1));
-    assert!(rt; refuses(&rt, alloc, statement, StatementFault::NoTable));
-    let change = Change::To(next_of(&rt, alloc, "no"));
-    let statement = update(&rt, alloc, text(&rt, alloc), "id", change);
-    assert!(rt; refuses(&rt, alloc, statement, StatementFault::KeyColumn));
-    let change = Change::To(next_of(&rt, alloc, "no"));
-    let statement = update(&rt, alloc, text(&rt, alloc), "bal", change);
-    assert!(rt; refuses(&rt, alloc, statement, StatementFault::NoSequence));
-    let statement = insert(&rt, alloc, "acc", int(1), text(&rt, alloc));
-    assert!(rt; refuses(&rt, alloc, statement, StatementFault::KindDiffers));
-    let statement = insert(&rt, alloc, "acc", int(1), int(5));
-    assert!(rt; refuses(&rt, alloc, statement, StatementFault::DuplicateKey));
+    are_answered(&rt, rt.alloc(), NAMES_FIRST);
 }
+
+const LEFT_FIRST: &[Line] = &[
+    (RICH, Insert("acc", Unset, Next("no")), Refused(NoVar)),
+    (RICH, Insert("acc", Next("no"), Unset), Refused(NoSequence)),
+];
 
 #[test]
 fn operands_are_read_from_left_to_right(rt: HostRuntime) {
-    let alloc = rt.alloc();
-    let sequence = next_of(&rt, alloc, "no");
-    let statement = insert(&rt, alloc, "acc", unset(&rt, alloc), sequence);
-    assert!(rt; refuses(&rt, alloc, statement, StatementFault::NoVar));
-    let sequence = next_of(&rt, alloc, "no");
-    let statement = insert(&rt, alloc, "acc", sequence, unset(&rt, alloc));
-    assert!(rt; refuses(&rt, alloc, statement, StatementFault::NoSequence));
+    are_answered(&rt, rt.alloc(), LEFT_FIRST);
 }
+
+const SUMS: &[Line] = &[
+    (RICH, Sum("t", "name"), Refused(KindDiffers)),
+    (RICH, Add(Int(1), "bal", Int(1)), Refused(SumRange)),
+    (
+        &[9223372036854775807, 1, -2],
+        Sum("acc", "bal"),
+        Number(9223372036854775806),
+    ),
+];
 
 #[test]
 fn sums_stay_within_integers(rt: HostRuntime) {
-    let alloc = rt.alloc();
-    let statement = sum(&rt, alloc, "t", "name");
-    assert!(rt; refuses(&rt, alloc, statement, StatementFault::KindDiffers));
-    let statement = update(&rt, alloc, int(1), "bal", Change::Plus(int(1)));
-    assert!(rt; refuses(&rt, alloc, statement, StatementFault::SumRange));
-    let statement = sum(&rt, alloc, "acc", "bal");
-    let balances = [9223372036854775807, 1, -2];
-    let told = answer(&rt, alloc, &balances, statement);
-    assert!(rt; told == Some(Answer::Number(9223372036854775806)));
+    are_answered(&rt, rt.alloc(), SUMS);
 }
+
+const MISSING: &[Line] = &[
+    (&[100], Add(Int(9), "bal", Int(5)), Done(0)),
+    (&[100], Delete(9), Done(0)),
+    (&[100], Select(Text), Refused(KindDiffers)),
+];
 
 #[test]
 fn a_missing_row_is_nothing_to_change(rt: HostRuntime) {
-    let alloc = rt.alloc();
-    let statement = update(&rt, alloc, int(9), "bal", Change::Plus(int(5)));
-    assert!(rt; answer(&rt, alloc, &[100], statement) == Some(Answer::Done(0)));
-    let statement = delete(&rt, alloc, 9);
-    assert!(rt; answer(&rt, alloc, &[100], statement) == Some(Answer::Done(0)));
-    let statement = select(&rt, alloc, text(&rt, alloc));
-    let told = answer(&rt, alloc, &[100], statement);
-    assert!(rt; told == Some(Answer::Refused(StatementFault::KindDiffers)));
+    are_answered(&rt, rt.alloc(), MISSING);
 }
 
 /// A deletion, an insert under a new number, and a statement that is refused.
-fn refused_call(rt: &impl Abort, alloc: Global) -> Statements {
-    let sequence = next_of(rt, alloc, "s");
-    let statements = [
-        delete(rt, alloc, 1),
-        insert(rt, alloc, "acc", int(2), sequence),
-        sum(rt, alloc, "no", "bal"),
-    ];
-    let list = Vec::from_array(alloc, statements).expect(rt, "memory");
-    Statements::of(alloc, list).expect(rt, "memory")
+const A_REFUSED_CALL: &[Does] = &[
+    Delete(1),
+    Insert("acc", Int(2), Next("s")),
+    Sum("no", "bal"),
+];
+
+/// Sees that the refused call of two values that were drawn used the first alone, and wrote
+/// nothing.
+fn is_refused(rt: &impl Abort, alloc: Global, tables: &PlainTables) {
+    let draws = [value_of_s(rt, alloc, 17), value_of_s(rt, alloc, 18)];
+    let statements = statements(rt, alloc, A_REFUSED_CALL);
+    let ran = run(rt, alloc, tables, statements, &draws).expect(rt, "a run");
+    assert_eq!(rt; ran.used, 1);
+    assert!(rt; ran.answers.get(2) == Some(&Answer::Refused(NoTable)));
+    assert!(rt; ran.tables == *tables);
 }
 
 #[test]
 fn a_refused_call_keeps_its_draws_and_no_write(rt: HostRuntime) {
-    let alloc = rt.alloc();
-    let tables = accounts(&rt, alloc, &[100]);
-    let draws = [value_of_s(&rt, alloc, 17), value_of_s(&rt, alloc, 18)];
-    let statements = refused_call(&rt, alloc);
-    let ran = run(&rt, alloc, &tables, statements, &draws).expect(&rt, "a run");
-    assert_eq!(rt; ran.used, 1);
-    assert!(rt; ran.answers.get(2) == Some(&Answer::Refused(StatementFault::NoTable)));
-    assert!(rt; ran.tables == tables);
-    let statements = refused_call(&rt, alloc);
-    let ran = run(&rt, alloc, &tables, statements, &[Draw::Clock { tick: 1 }]);
+    let tables = accounts(&rt, rt.alloc(), &[100]);
+    is_refused(&rt, rt.alloc(), &tables);
+    let statements = statements(&rt, rt.alloc(), A_REFUSED_CALL);
+    let draws = [Draw::Clock { tick: 1 }];
+    let ran = run(&rt, rt.alloc(), &tables, statements, &draws);
     assert!(rt; matches!(ran, Err(PlainFault::DrawsDiffer)));
 }
 

@@ -1,103 +1,30 @@
 //! Committed tables: what writes leave, and how many rows a select answers.
 
+use crate::makers::{accounts, apply, name, write, write_of};
 use std::alloc::Global;
-use std::test::Fail;
-use svc_values::{
-    Column, Columns, Kind, Name, NoMemory, Row, Schema, Schemas, Test, Value, Write, Writes,
-};
-use table_store::{IndexOf, TableRows, Tables, are_indexes};
-
-/// The name of the only table.
-fn accounts(alloc: Global) -> Result<Name, Fail> {
-    Ok(Name::new(alloc, "acc")?)
-}
+use std::process::Abort;
+use svc_values::{Name, Row, Schemas, Test, Value, Writes};
+use table_store::{IndexOf, RowMap, TableRows, Tables, are_indexes};
 
 /// The table `acc` with an integer `id` and an integer `bal`.
-fn schemas(alloc: Global) -> Result<Schemas, Fail> {
-    let mut columns = Columns::new(alloc);
-    for text in ["id", "bal"] {
-        let name = Name::new(alloc, text)?;
-        columns.push(Column {
-            name,
-            kind: Kind::Int,
-        })?;
-    }
+fn schemas(rt: &impl Abort, alloc: Global) -> Schemas {
     let mut schemas = Schemas::new(alloc);
-    schemas.push(Schema::new(accounts(alloc)?, columns)?)?;
-    Ok(schemas)
+    schemas.push(accounts(rt, alloc)).expect(rt, "a table");
+    schemas
 }
 
 /// That table without a row.
-fn empty(alloc: Global) -> Result<Tables, Fail> {
-    Ok(Tables::new(alloc, schemas(alloc)?, Vec::new(alloc))?)
+fn empty(rt: &impl Abort, alloc: Global) -> Tables {
+    Tables::new(alloc, schemas(rt, alloc), Vec::new(alloc)).expect(rt, "tables")
 }
 
 /// The same, indexed by `bal`.
-fn indexed(alloc: Global) -> Result<Tables, Fail> {
-    let index = IndexOf {
-        table: accounts(alloc)?,
-        column: 1,
-    };
-    let schemas = schemas(alloc)?;
-    let indexes = [index];
-    if !are_indexes(schemas.as_slice(), &indexes) {
-        return Err(Fail::new("no such column"));
-    }
-    Ok(Tables::indexed(alloc, schemas, Vec::new(alloc), &indexes)?)
-}
-
-/// A write of this account, or its deletion.
-fn write_of(alloc: Global, id: i64, balance: Option<i64>) -> Result<Write, Fail> {
-    let row = match balance {
-        None => None,
-        Some(balance) => {
-            let mut row = Row::new(alloc);
-            row.push(Value::Int(id))?;
-            row.push(Value::Int(balance))?;
-            Some(row)
-        }
-    };
-    Ok(Write {
-        table: accounts(alloc)?,
-        key: Value::Int(id),
-        row,
-    })
-}
-
-/// Applies the writes if they fit, and says whether they do.
-fn apply(tables: &mut Tables, writes: &Writes) -> Result<bool, NoMemory> {
-    if !tables.all_fit(writes) {
-        return Ok(false);
-    }
-    tables.apply(writes)?;
-    Ok(true)
-}
-
-#[test]
-fn rows_stand_by_key_and_the_last_write_counts(rt: HostRuntime) -> Result<(), Fail> {
-    let alloc = rt.alloc();
-    let mut tables = empty(alloc)?;
-    let mut writes = Writes::new(alloc);
-    for (id, balance) in [
-        (2, Some(5)),
-        (1, Some(100)),
-        (3, Some(7)),
-        (1, Some(90)),
-        (3, None),
-    ] {
-        writes.push(write_of(alloc, id, balance)?)?;
-    }
-    assert!(rt; apply(&mut tables, &writes)?);
-    let table = accounts(alloc)?;
-    let balance = tables
-        .get(&table, &Value::Int(1))
-        .and_then(|row| row.get(1));
-    assert!(rt; balance == Some(&Value::Int(90)));
-    assert!(rt; tables.get(&table, &Value::Int(3)).is_none());
-    assert!(rt; tables.schema(&table).is_some());
-    let all = tables.into_rows()?;
-    assert!(rt; is_of(all.as_slice(), 1, 2));
-    Ok(())
+fn indexed(rt: &impl Abort, alloc: Global) -> Tables {
+    let table = name(rt, alloc, "acc");
+    let indexes = [IndexOf { table, column: 1 }];
+    let schemas = schemas(rt, alloc);
+    assert!(rt; are_indexes(schemas.as_slice(), &indexes));
+    Tables::indexed(alloc, schemas, Vec::new(alloc), &indexes).expect(rt, "tables")
 }
 
 /// Whether this is one table with two rows, of these accounts.
@@ -113,43 +40,98 @@ fn is_of(all: &[TableRows], first: i64, last: i64) -> bool {
     }
 }
 
-#[test]
-fn rows_are_given_up_whether_they_are_shared_or_not(rt: HostRuntime) -> Result<(), Fail> {
-    let alloc = rt.alloc();
-    let table = accounts(alloc)?;
-    let mut writes = Writes::new(alloc);
-    for id in [2, 1] {
-        writes.push(write_of(alloc, id, Some(7))?)?;
+fn gives_up_two(rt: &impl Abort, tables: Tables) {
+    let all = tables.into_rows().expect(rt, "the rows");
+    assert!(rt; is_of(all.as_slice(), 1, 2));
+}
+
+/// Whether the account has this balance.
+fn has(tables: &Tables, table: &Name, id: i64, balance: i64) -> bool {
+    match tables.get(table, &Value::Int(id)) {
+        Some(row) => row.get(1) == Some(&Value::Int(balance)),
+        None => false,
     }
-    let mut alone = empty(alloc)?;
-    assert!(rt; apply(&mut alone, &writes)?);
-    let all = alone.into_rows()?;
-    assert!(rt; is_of(all.as_slice(), 1, 2));
-    let mut shared = empty(alloc)?;
-    assert!(rt; apply(&mut shared, &writes)?);
-    let rows = shared.row_map(&table).expect(&rt, "rows").share()?;
-    let all = shared.into_rows()?;
-    assert!(rt; is_of(all.as_slice(), 1, 2));
-    assert_eq!(rt; rows.len(), 2);
-    assert!(rt; rows.get(&Value::Int(2)).is_some());
-    Ok(())
+}
+
+/// Accounts, the first and the third of which are written twice.
+const WRITTEN: &[(i64, Option<i64>)] = &[
+    (2, Some(5)),
+    (1, Some(100)),
+    (3, Some(7)),
+    (1, Some(90)),
+    (3, None),
+];
+
+#[test]
+fn rows_stand_by_key_and_the_last_write_counts(rt: HostRuntime) {
+    let alloc = rt.alloc();
+    let mut tables = empty(&rt, alloc);
+    write(&rt, alloc, &mut tables, WRITTEN);
+    let table = name(&rt, alloc, "acc");
+    assert!(rt; has(&tables, &table, 1, 90));
+    assert!(rt; tables.get(&table, &Value::Int(3)).is_none());
+    assert!(rt; tables.schema(&table).is_some());
+    gives_up_two(&rt, tables);
+}
+
+const TWO: &[(i64, Option<i64>)] = &[(2, Some(7)), (1, Some(7))];
+
+/// The table with two rows.
+fn filled(rt: &impl Abort, alloc: Global) -> Tables {
+    let mut tables = empty(rt, alloc);
+    write(rt, alloc, &mut tables, TWO);
+    tables
+}
+
+/// The rows of the table, shared.
+fn shared(rt: &impl Abort, tables: &Tables, table: &Name) -> RowMap {
+    let rows = tables.row_map(table).expect(rt, "rows");
+    rows.share().expect(rt, "memory")
 }
 
 #[test]
-fn a_select_answers_32_rows_and_no_more(rt: HostRuntime) -> Result<(), Fail> {
+fn rows_are_given_up_whether_they_are_shared_or_not(rt: HostRuntime) {
     let alloc = rt.alloc();
-    let mut tables = empty(alloc)?;
+    gives_up_two(&rt, filled(&rt, alloc));
+    let tables = filled(&rt, alloc);
+    let rows = shared(&rt, &tables, &name(&rt, alloc, "acc"));
+    gives_up_two(&rt, tables);
+    assert_eq!(rt; rows.len(), 2);
+    assert!(rt; rows.get(&Value::Int(2)).is_some());
+}
+
+/// The rows that a select by the key or by the balance finds, if it answers.
+fn selected(
+    rt: &impl Abort,
+    alloc: Global,
+    tables: &Tables,
+    column: usize,
+    test: Test,
+    value: i64,
+) -> Option<Vec<Row>> {
+    let table = name(rt, alloc, "acc");
+    let found = tables.select(&table, column, test, &Value::Int(value));
+    found.expect(rt, "memory")
+}
+
+/// The writes of 33 accounts.
+fn many(rt: &impl Abort, alloc: Global) -> Writes {
     let mut writes = Writes::new(alloc);
     for id in 0..33 {
-        writes.push(write_of(alloc, id, Some(1))?)?;
+        let write = write_of(rt, alloc, id, Some(1));
+        writes.push(write).expect(rt, "a write");
     }
-    assert!(rt; apply(&mut tables, &writes)?);
-    let table = accounts(alloc)?;
-    let one = Value::Int(1);
-    assert!(rt; tables.select(&table, 1, Test::Eq, &one)?.is_none());
-    let below = tables.select(&table, 0, Test::Lt, &Value::Int(32))?;
+    writes
+}
+
+#[test]
+fn a_select_answers_32_rows_and_no_more(rt: HostRuntime) {
+    let alloc = rt.alloc();
+    let mut tables = empty(&rt, alloc);
+    apply(&rt, &mut tables, &many(&rt, alloc));
+    assert!(rt; selected(&rt, alloc, &tables, 1, Test::Eq, 1).is_none());
+    let below = selected(&rt, alloc, &tables, 0, Test::Lt, 32);
     assert_eq!(rt; below.map(|rows| rows.len()), Some(32));
-    Ok(())
 }
 
 /// Whether these rows were found, in this order.
@@ -168,28 +150,30 @@ fn are_found(found: &Option<Vec<Row>>, ids: &[i64]) -> bool {
     true
 }
 
+/// Accounts, of which the first is written twice and the second is deleted.
+const CHANGED: &[(i64, Option<i64>)] = &[
+    (1, Some(9)),
+    (2, Some(4)),
+    (3, Some(3)),
+    (1, Some(4)),
+    (2, None),
+    (4, Some(8)),
+];
+
+/// Tests of the balance, and the accounts that they find.
+const FOUND: [(Test, i64, &[i64]); 3] = [
+    (Test::Lt, 5, &[1, 3]),
+    (Test::Ge, 4, &[1, 4]),
+    (Test::Eq, 9, &[]),
+];
+
 #[test]
-fn an_index_follows_the_writes_and_answers_in_order_of_key(rt: HostRuntime) -> Result<(), Fail> {
+fn an_index_follows_the_writes_and_answers_in_order_of_key(rt: HostRuntime) {
     let alloc = rt.alloc();
-    let mut tables = indexed(alloc)?;
-    let mut writes = Writes::new(alloc);
-    for (id, balance) in [
-        (1, Some(9)),
-        (2, Some(4)),
-        (3, Some(3)),
-        (1, Some(4)),
-        (2, None),
-        (4, Some(8)),
-    ] {
-        writes.push(write_of(alloc, id, balance)?)?;
+    let mut tables = indexed(&rt, alloc);
+    write(&rt, alloc, &mut tables, CHANGED);
+    for (test, value, ids) in FOUND {
+        let found = selected(&rt, alloc, &tables, 1, test, value);
+        assert!(rt; are_found(&found, ids), "{value}");
     }
-    assert!(rt; apply(&mut tables, &writes)?);
-    let table = accounts(alloc)?;
-    let below = tables.select(&table, 1, Test::Lt, &Value::Int(5))?;
-    assert!(rt; are_found(&below, &[1, 3]));
-    let from = tables.select(&table, 1, Test::Ge, &Value::Int(4))?;
-    assert!(rt; are_found(&from, &[1, 4]));
-    let gone = tables.select(&table, 1, Test::Eq, &Value::Int(9))?;
-    assert!(rt; are_found(&gone, &[]));
-    Ok(())
 }
