@@ -1,11 +1,12 @@
 //! Values of RFC 8259, and places of faults by RFC 6901.
 
 use json_form::{
-    DocCode, DocFault, Flag, Integer, Reader, TextWriter, Whole, array_at, fixed, head_from,
-    json_from, object_with, octets_in,
+    DocCode, DocFault, Flag, Integer, Members, Reader, TextWriter, Whole, array_at, fixed,
+    head_from, json_from, object_with, octets_in,
 };
 use serde_json::Value;
-use std::alloc::{AllocError, Global};
+use std::alloc::Global;
+use std::process::Abort;
 
 /// The number of the code and the place of a fault.
 fn told<T>(read: &Result<T, DocFault>) -> (u8, &str) {
@@ -16,59 +17,82 @@ fn told<T>(read: &Result<T, DocFault>) -> (u8, &str) {
     }
 }
 
+/// Sees that what was read has this code, or none, and this place.
+fn is_told<T: Drop>(rt: &impl Abort, read: Result<T, DocFault>, number: u8, place: &str) {
+    assert_eq!(rt; told(&read), (number, place));
+}
+
+/// Sees that what was read has this code, or none.
+fn has_code<T: Drop>(rt: &impl Abort, read: Result<T, DocFault>, number: u8) {
+    assert_eq!(rt; told(&read).0, number);
+}
+
+fn parsed(rt: &impl Abort, alloc: Global, bytes: &[u8]) -> Value {
+    json_from(alloc, bytes, 256).expect(rt, "JSON")
+}
+
+const BYTES: [(&[u8], u8); 6] = [
+    (b"\"\\ud800\"", 2),
+    (b"1e400", 2),
+    (&[34, 255, 34], 2),
+    (b"1", 0),
+    (b"", 2),
+    (&[32; 257], 1),
+];
+
 #[test]
 fn bytes_are_json_or_not(rt: HostRuntime) {
-    let alloc = rt.alloc();
-    let cases: [(&[u8], u8); 6] = [
-        (b"\"\\ud800\"", 2),
-        (b"1e400", 2),
-        (&[34, 255, 34], 2),
-        (b"1", 0),
-        (b"", 2),
-        (&[32; 257], 1),
-    ];
-    for (bytes, number) in cases {
-        assert_eq!(rt; told(&json_from(alloc, bytes, 256)).0, number);
+    for (bytes, number) in BYTES {
+        has_code(&rt, json_from(rt.alloc(), bytes, 256), number);
     }
-    let twice = json_from(alloc, b"{\"clients\":1,\"\\u0063lients\":2}", 256).expect(&rt, "JSON");
+    let twice = parsed(&rt, rt.alloc(), b"{\"clients\":1,\"\\u0063lients\":2}");
     assert_eq!(rt; twice.get("clients").and_then(Value::as_u64), Some(2));
+}
+
+/// As many opened arrays, and as many closed ones.
+fn nested(rt: &impl Abort, alloc: Global, depth: u8) -> Vec<u8> {
+    let mut bytes = Vec::new(alloc);
+    for bracket in [b'[', b']'] {
+        for _ in 0..depth {
+            bytes.push(bracket).expect(rt, "memory");
+        }
+    }
+    bytes
 }
 
 #[test]
 fn arrays_nest_127_deep(rt: HostRuntime) {
-    let alloc = rt.alloc();
     for (depth, number) in [(127, 0), (128, 2)] {
-        let mut bytes = Vec::new(alloc);
-        for n in 0..2 * depth {
-            bytes
-                .push(if n < depth { b'[' } else { b']' })
-                .expect(&rt, "memory");
-        }
-        assert_eq!(rt; told(&json_from(alloc, &bytes, 256)).0, number);
+        let bytes = nested(&rt, rt.alloc(), depth);
+        has_code(&rt, json_from(rt.alloc(), bytes.as_slice(), 256), number);
     }
 }
+
+/// Numbers, and what is said of each as one from 2 to 3 and as an integer.
+const NUMBERS: [(&[u8], u8, u8); 10] = [
+    (b"1.0", 3, 3),
+    (b"1e3", 3, 3),
+    (b"-0", 3, 3),
+    (b"18446744073709551616", 3, 3),
+    (b"18446744073709551615", 6, 6),
+    (b"-9223372036854775808", 6, 0),
+    (b"1", 6, 0),
+    (b"2", 0, 0),
+    (b"3", 0, 0),
+    (b"4", 6, 0),
+];
 
 #[test]
 fn whole_numbers_are_told_apart(rt: HostRuntime) {
     let alloc = rt.alloc();
     let few = Whole { low: 2, high: 3 };
-    let cases: [(&[u8], u8, u8); 10] = [
-        (b"1.0", 3, 3),
-        (b"1e3", 3, 3),
-        (b"-0", 3, 3),
-        (b"18446744073709551616", 3, 3),
-        (b"18446744073709551615", 6, 6),
-        (b"-9223372036854775808", 6, 0),
-        (b"1", 6, 0),
-        (b"2", 0, 0),
-        (b"3", 0, 0),
-        (b"4", 6, 0),
-    ];
-    for (bytes, as_few, as_integer) in cases {
-        let value = json_from(alloc, bytes, 256).expect(&rt, "JSON");
-        assert_eq!(rt; told(&few.read(alloc, value)).0, as_few);
-        let value = json_from(alloc, bytes, 256).expect(&rt, "JSON");
-        assert_eq!(rt; told(&Integer.read(alloc, value)).0, as_integer);
+    for (bytes, as_few, as_integer) in NUMBERS {
+        has_code(&rt, few.read(alloc, parsed(&rt, alloc, bytes)), as_few);
+        has_code(
+            &rt,
+            Integer.read(alloc, parsed(&rt, alloc, bytes)),
+            as_integer,
+        );
     }
 }
 
@@ -87,75 +111,84 @@ fn pointers_escape_names(rt: HostRuntime) {
             name,
             DocCode::Missing,
         ));
-        assert_eq!(rt; told(&read), (4, place));
+        is_told(&rt, read, 4, place);
     }
+}
+
+const OBJECT: &[u8] = b"{\"m~n\":true,\"a/b\":[5,6,70]}";
+
+/// Sees whether the member `m~n` is set, where it is still there.
+fn is_flag(rt: &impl Abort, alloc: Global, members: &mut Members, wanted: bool) {
+    let flag = members.optional(alloc, "m~n", &Flag, false);
+    assert!(rt; flag.expect(rt, "a flag") == wanted);
 }
 
 #[test]
 fn members_are_asked_for(rt: HostRuntime) {
     let alloc = rt.alloc();
-    let text = b"{\"m~n\":true,\"a/b\":[5,6,70]}";
-    let value = json_from(alloc, text, 256).expect(&rt, "JSON");
-    assert_eq!(rt; told(&object_with(alloc, value, &["m~n"])), (5, "/a~1b"));
-    let value = json_from(alloc, text, 256).expect(&rt, "JSON");
+    let value = parsed(&rt, alloc, OBJECT);
+    is_told(&rt, object_with(alloc, value, &["m~n"]), 5, "/a~1b");
+    let value = parsed(&rt, alloc, OBJECT);
     let mut members = object_with(alloc, value, &["m~n", "a/b", "c"]).expect(&rt, "an object");
-    assert_eq!(rt; told(&members.required(alloc, "c")), (4, "/c"));
-    let flag = members.optional(alloc, "m~n", &Flag, false);
-    assert!(rt; flag.expect(&rt, "a flag"));
-    let flag = members.optional(alloc, "m~n", &Flag, false);
-    assert!(rt; !flag.expect(&rt, "no second flag"));
+    is_told(&rt, members.required(alloc, "c"), 4, "/c");
+    is_flag(&rt, alloc, &mut members, true);
+    is_flag(&rt, alloc, &mut members, false);
     let list = members.required(alloc, "a/b").expect(&rt, "a list");
     let few = Whole::new(0, 9);
-    assert_eq!(rt;
-        told(&array_at(alloc, "a/b", list, 0, 9, &few)),
-        (6, "/a~1b/2")
-    );
+    is_told(&rt, array_at(alloc, "a/b", list, 0, 9, &few), 6, "/a~1b/2");
+}
+
+const ITEMS: &[u8] = b"[\"int\",\"0aFF\",7]";
+
+/// Sees that the first item is one of two words, and none of one.
+fn is_word(rt: &impl Abort, alloc: Global, value: &Value) {
+    let words = [("text", 1u8), ("int", 2)];
+    assert_eq!(rt; head_from(alloc, value, &words).expect(rt, "a word"), 2);
+    is_told(rt, head_from(alloc, value, &[("text", 1u8)]), 5, "");
 }
 
 #[test]
 fn items_stand_at_positions(rt: HostRuntime) {
     let alloc = rt.alloc();
-    let text = b"[\"int\",\"0aFF\",7]";
-    let value = json_from(alloc, text, 256).expect(&rt, "JSON");
-    assert_eq!(rt; told(&fixed(alloc, value, 2)), (3, ""));
-    let value = json_from(alloc, text, 256).expect(&rt, "JSON");
-    let words = [("text", 1u8), ("int", 2)];
-    assert_eq!(rt; head_from(alloc, &value, &words).expect(&rt, "a word"), 2);
-    assert_eq!(rt; told(&head_from(alloc, &value, &[("text", 1u8)])), (5, ""));
-    let mut parts = fixed(alloc, value, 3).expect(&rt, "three items");
-    assert_eq!(rt; told(&parts.read(alloc, 1, &Flag)), (3, "/1"));
-    assert_eq!(rt; told(&parts.read(alloc, 2, &Whole::new(0, 6))), (6, "/2"));
+    is_told(&rt, fixed(alloc, parsed(&rt, alloc, ITEMS), 2), 3, "");
+    is_word(&rt, alloc, &parsed(&rt, alloc, ITEMS));
+    let mut parts = fixed(alloc, parsed(&rt, alloc, ITEMS), 3).expect(&rt, "three items");
+    is_told(&rt, parts.read(alloc, 1, &Flag), 3, "/1");
+    is_told(&rt, parts.read(alloc, 2, &Whole::new(0, 6)), 6, "/2");
 }
 
 #[test]
 fn octets_are_pairs_of_digits(rt: HostRuntime) {
-    let alloc = rt.alloc();
     for (text, number) in [("int", 9), ("0aF", 9), ("0aFF", 0), ("", 0)] {
-        assert_eq!(rt; told(&octets_in(alloc, text)).0, number);
+        has_code(&rt, octets_in(rt.alloc(), text), number);
     }
-    let octets = octets_in(alloc, "0aFF").expect(&rt, "octets");
+    let octets = octets_in(rt.alloc(), "0aFF").expect(&rt, "octets");
     assert_eq!(rt; octets.as_slice(), [10, 255].as_slice());
 }
 
-/// An object of an array and of octets.
-fn image_written(alloc: Global, out: &mut TextWriter) -> Result<(), AllocError> {
-    out.begin_object()?;
-    out.name("IDs")?;
-    out.begin_array()?;
-    out.integer(-943)?;
-    out.null()?;
-    out.flag(false)?;
-    out.end_array()?;
-    out.name("Id")?;
-    out.octets(alloc, &[0, 171])?;
-    out.end_object()
+/// Writes an array.
+fn write_array(rt: &impl Abort, out: &mut TextWriter) {
+    out.begin_array().expect(rt, "memory");
+    out.integer(-943).expect(rt, "memory");
+    out.null().expect(rt, "memory");
+    out.flag(false).expect(rt, "memory");
+    out.end_array().expect(rt, "memory");
+}
+
+/// Writes an object of an array and of octets.
+fn write_object(rt: &impl Abort, alloc: Global, out: &mut TextWriter) {
+    out.begin_object().expect(rt, "memory");
+    out.name("IDs").expect(rt, "memory");
+    write_array(rt, out);
+    out.name("Id").expect(rt, "memory");
+    out.octets(alloc, &[0, 171]).expect(rt, "memory");
+    out.end_object().expect(rt, "memory");
 }
 
 #[test]
 fn a_text_is_written_piece_by_piece(rt: HostRuntime) {
-    let alloc = rt.alloc();
-    let mut out = TextWriter::new(alloc);
-    image_written(alloc, &mut out).expect(&rt, "memory");
+    let mut out = TextWriter::new(rt.alloc());
+    write_object(&rt, rt.alloc(), &mut out);
     let bytes = out.into_bytes();
     let expected = b"{\"IDs\":[-943,null,false],\"Id\":\"00ab\"}";
     assert_eq!(rt; bytes.as_slice(), expected.as_slice());
