@@ -9,4 +9,6 @@ mod judging;
 #[cfg(test)]
 mod piecewise;
 #[cfg(test)]
+mod runs;
+#[cfg(test)]
 mod telling;
