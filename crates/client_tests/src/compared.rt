@@ -3,7 +3,8 @@ use crate::answers::Drawn::{self, Next};
 use crate::answers::Says::{
     self, Balance, Committed, Done, DoneConflict, DoneInReplay, Duplicate, Named, Number,
 };
-use crate::conversation::goes;
+use crate::conversation::Rule::{Dynamic, Static};
+use crate::conversation::{Conversation, all_go};
 use crate::lines::Acts::{
     Again, AgainWith, Begin, Call as Sends, Close, Drops, End, Fails, GivesBack, Shows, ShowsDrawn,
 };
@@ -11,10 +12,9 @@ use crate::lines::Came::{Drew, Outcome, Reply};
 use crate::lines::Comes::{Frame, Gone};
 use crate::lines::{ASKED, ASKED_ON_THE_THIRD, Line, OPENED, Parts};
 use crate::script::Does::{
-    Commit, Count, Get, InsertCommit, InsertDrawn, SelectA, ShowDrawn, UpdateCommit,
+    self, Commit, Count, Get, InsertCommit, InsertDrawn, SelectA, ShowDrawn, UpdateCommit,
 };
 use driver_core::Failed::Mismatch;
-use request_bounds::{DynamicRule, StaticRule};
 
 /// SHA-256 of the canonical bytes of one answer with the row 1, 100.
 const ROW_OF_100: [u8; 32] = [
@@ -96,10 +96,11 @@ const READ_HAS_CHANGED: Parts = &[
     ],
 ];
 
+const A_CHANGED_READ: &[Conversation] = &[(Dynamic, &[Get, UpdateCommit], READ_HAS_CHANGED)];
+
 #[test]
 fn a_read_that_has_changed_is_told(rt: HostRuntime) {
-    let script = [Get, UpdateCommit];
-    assert!(rt; goes(&rt, rt.alloc(), DynamicRule, &script, READ_HAS_CHANGED));
+    all_go(&rt, rt.alloc(), A_CHANGED_READ);
 }
 
 const REFUSED_THEN_DONE: Parts = &[
@@ -131,10 +132,11 @@ const REFUSED_THEN_DONE: Parts = &[
     ],
 ];
 
+const A_REFUSED_CALL: &[Conversation] = &[(Dynamic, &[InsertCommit, Count], REFUSED_THEN_DONE)];
+
 #[test]
 fn a_refused_call_that_is_done_is_told(rt: HostRuntime) {
-    let script = [InsertCommit, Count];
-    assert!(rt; goes(&rt, rt.alloc(), DynamicRule, &script, REFUSED_THEN_DONE));
+    all_go(&rt, rt.alloc(), A_REFUSED_CALL);
 }
 
 const BEHIND_A_CONFLICT: Parts = &[
@@ -163,10 +165,11 @@ const BEHIND_A_CONFLICT: Parts = &[
     ],
 ];
 
+const A_CONFLICT: &[Conversation] = &[(Static, &[Get, UpdateCommit, Get], BEHIND_A_CONFLICT)];
+
 #[test]
 fn calls_before_a_conflict_are_not_repeated(rt: HostRuntime) {
-    let script = [Get, UpdateCommit, Get];
-    assert!(rt; goes(&rt, rt.alloc(), StaticRule, &script, BEHIND_A_CONFLICT));
+    all_go(&rt, rt.alloc(), A_CONFLICT);
 }
 
 /// A value was drawn for a row that was read, and the commit behind both is lost by event 9.
@@ -231,11 +234,16 @@ const DRAWN_VALUES_ARE_NEW: Parts = &[
     ],
 ];
 
+const A_DRAWN_ROW: &[Does] = &[InsertDrawn, SelectA, Commit];
+
+const DRAWN_VALUES: &[Conversation] = &[
+    (Dynamic, A_DRAWN_ROW, DRAWN_VALUES_ARE_KEPT),
+    (Dynamic, A_DRAWN_ROW, DRAWN_VALUES_ARE_NEW),
+];
+
 #[test]
 fn values_that_were_drawn_go_with_a_repeated_call(rt: HostRuntime) {
-    let script = [InsertDrawn, SelectA, Commit];
-    assert!(rt; goes(&rt, rt.alloc(), DynamicRule, &script, DRAWN_VALUES_ARE_KEPT));
-    assert!(rt; goes(&rt, rt.alloc(), DynamicRule, &script, DRAWN_VALUES_ARE_NEW));
+    all_go(&rt, rt.alloc(), DRAWN_VALUES);
 }
 
 const ID_OF_1: Drawn = Drawn::Identifier(1);
@@ -297,9 +305,12 @@ const IDENTIFIER_IS_NEW: Parts = &[
     ],
 ];
 
+const IDENTIFIERS: &[Conversation] = &[
+    (Dynamic, &[ShowDrawn, Count], IDENTIFIER_IS_KEPT),
+    (Dynamic, &[ShowDrawn, Count], IDENTIFIER_IS_NEW),
+];
+
 #[test]
 fn an_identifier_that_was_drawn_is_compared(rt: HostRuntime) {
-    let script = [ShowDrawn, Count];
-    assert!(rt; goes(&rt, rt.alloc(), DynamicRule, &script, IDENTIFIER_IS_KEPT));
-    assert!(rt; goes(&rt, rt.alloc(), DynamicRule, &script, IDENTIFIER_IS_NEW));
+    all_go(&rt, rt.alloc(), IDENTIFIERS);
 }

@@ -7,8 +7,9 @@ ghost use Rattle.driver_core.specs.Driving.{ArePast, HasLtxids};
 use crate::acts::are_done;
 use crate::lines::{Line, Parts, input};
 use crate::script::{Does, call};
+use auto_bounds::AutoRule;
 use driver_core::{Act, Driver, Input, stays_past};
-use request_bounds::{BoundRule, Clocked};
+use request_bounds::{BoundRule, Clocked, DynamicRule, OffRule, StaticRule};
 use std::alloc::Global;
 use std::process::Abort;
 use svc_values::{Call, Settings};
@@ -100,7 +101,7 @@ pub fn goes_within<R: BoundRule + Copy>(
 }
 
 /// The same within `LIMITS`, where two calls are recorded.
-pub fn goes<R: BoundRule + Copy>(
+fn goes<R: BoundRule + Copy>(
     rt: &impl Abort,
     alloc: Global,
     rule: R,
@@ -111,4 +112,39 @@ pub fn goes<R: BoundRule + Copy>(
     requires few { length script.now ≤ 1024 }
 {
     goes_within(rt, alloc, rule, LIMITS, 2, script, parts)
+}
+
+/// A rule that says where a replay begins and what ends it.
+#[derive(Clone, Copy)]
+pub enum Rule {
+    Off,
+    Static,
+    Dynamic,
+    Auto,
+}
+
+/// The conversation of a request: its rule, its calls, and the lines.
+pub type Conversation<'a> = (Rule, &'a [Does], Parts<'a>);
+
+/// Whether a driver does all that the lines say, where there are calls, and not too many.
+fn goes_by(rt: &impl Abort, alloc: Global, rule: Rule, script: &[Does], parts: Parts) -> bool {
+    if script.is_empty() || script.len() > 1024 {
+        return false;
+    }
+    match rule {
+        Rule::Off => goes(rt, alloc, OffRule, script, parts),
+        Rule::Static => goes(rt, alloc, StaticRule, script, parts),
+        Rule::Dynamic => goes(rt, alloc, DynamicRule, script, parts),
+        Rule::Auto => goes(rt, alloc, AutoRule, script, parts),
+    }
+}
+
+/// Sees that a driver does all that the lines of each conversation say.
+pub fn all_go(rt: &impl Abort, alloc: Global, conversations: &[Conversation]) {
+    for (at, (rule, script, parts)) in conversations.iter().enumerate() {
+        assert!(rt;
+            goes_by(rt, alloc, *rule, script, parts),
+            "conversation {at}"
+        );
+    }
 }

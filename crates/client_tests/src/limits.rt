@@ -1,13 +1,14 @@
 //! Limits: on replays, tries, ticks, and the time in the queue.
 use crate::answers::Says::{Committed, Done, Number};
-use crate::conversation::{LIMITS, goes, goes_within};
+use crate::conversation::Rule::Dynamic;
+use crate::conversation::{Conversation, LIMITS, all_go, goes_within};
 use crate::lines::Acts::{
     Asks, Begin, Call as Sends, Close, Connect, Drops, End, Fails, GivesBack, Shows,
 };
 use crate::lines::Came::{Hello, Outcome, Reply};
 use crate::lines::Comes::{Frame, Gone, Lent, NotOpened, Opened, Start, Waiting};
 use crate::lines::{ASKED, Line, OPENED, Parts};
-use crate::script::Does::{Commit, Count, Insert};
+use crate::script::Does::{self, Commit, Count, Insert};
 use driver_core::Failed::{PoolWait, ReplayTimeout, Replays, Retries};
 use request_bounds::{Clocked, DynamicRule};
 
@@ -113,20 +114,20 @@ const AT_THE_LAST_TICK: Parts = &[
     &[(5, Frame(Outcome(false, false)), &[Begin, Sends(0)])],
 ];
 
+const AN_INSERT: &[Does] = &[Insert(1), Commit];
+
+const REPLAYS_AND_TRIES: &[Conversation] = &[
+    (Dynamic, AN_INSERT, FOUR_REPLAYS),
+    (Dynamic, AN_INSERT, ONE_REPLAY_MORE),
+    (Dynamic, AN_INSERT, NO_TRY_IS_LEFT),
+    (Dynamic, AN_INSERT, TRIES_IN_TWO_ROWS),
+    (Dynamic, AN_INSERT, TOO_LATE),
+    (Dynamic, AN_INSERT, AT_THE_LAST_TICK),
+];
+
 #[test]
 fn limits_of_replays_and_tries(rt: HostRuntime) {
-    let script = [Insert(1), Commit];
-    let tables = [
-        FOUR_REPLAYS,
-        ONE_REPLAY_MORE,
-        NO_TRY_IS_LEFT,
-        TRIES_IN_TWO_ROWS,
-        TOO_LATE,
-        AT_THE_LAST_TICK,
-    ];
-    for parts in tables {
-        assert!(rt; goes(&rt, rt.alloc(), DynamicRule, &script, parts));
-    }
+    all_go(&rt, rt.alloc(), REPLAYS_AND_TRIES);
 }
 
 const WAITS_TOO_LONG: Parts = &[&[
@@ -149,21 +150,14 @@ const WAITS_AND_IS_LENT: Parts = &[&[
     ),
 ]];
 
+const A_WAIT: &[Conversation] = &[(Dynamic, &[Count], WAITS_TOO_LONG)];
+
+const EIGHT_TICKS: Clocked = Clocked { wait: 8, ..LIMITS };
+
 #[test]
 fn limits_of_waiting(rt: HostRuntime) {
     let alloc = rt.alloc();
-    let script = [Count];
-    assert!(rt; goes(&rt, alloc, DynamicRule, &script, WAITS_TOO_LONG));
-    let limits = Clocked { wait: 8, ..LIMITS };
-    assert!(rt;
-        goes_within(
-            &rt,
-            alloc,
-            DynamicRule,
-            limits,
-            2,
-            &script,
-            WAITS_AND_IS_LENT
-        )
-    );
+    all_go(&rt, alloc, A_WAIT);
+    let parts = WAITS_AND_IS_LENT;
+    assert!(rt; goes_within(&rt, alloc, DynamicRule, EIGHT_TICKS, 2, &[Count], parts));
 }

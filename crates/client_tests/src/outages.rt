@@ -1,15 +1,15 @@
 //! An insert and a commit: without an outage, and with cuts, crashes and blocks, each at its place.
 use crate::answers::Says::{Committed, Done, Named};
-use crate::conversation::goes;
+use crate::conversation::Rule::{Dynamic, Static};
+use crate::conversation::{Conversation, all_go};
 use crate::lines::Acts::{
     Again, Asks, Begin, Call as Sends, Close, Connect, Drops, End, Fails, GivesBack, Shows,
 };
 use crate::lines::Came::{Blocked, Forgotten, Hello, Outcome, Reply};
 use crate::lines::Comes::{Frame, Gone, Last, Opened};
 use crate::lines::{ASKED, ASKED_AFTER_A_CRASH, FIRST_IS_DONE, Line, OPENED, Parts};
-use crate::script::Does::{Commit, Insert, InsertCommit, Read};
+use crate::script::Does::{self, Commit, Insert, InsertCommit, Read};
 use driver_core::Failed::{Incomplete, Unknown};
-use request_bounds::{DynamicRule, StaticRule};
 use svc_values::Ltxid;
 
 /// The identifier of the first session before its first commit.
@@ -58,15 +58,20 @@ const TWO_TRANSACTIONS: Parts = &[
     ],
 ];
 
+const TWO_INSERTS: &[Does] = &[Insert(1), Commit, Insert(2), Commit];
+
+const UNDISTURBED: &[Conversation] = &[
+    (Dynamic, &[Insert(1), Read, Commit], WITHOUT_AN_OUTAGE),
+    (Dynamic, TWO_INSERTS, TWO_TRANSACTIONS),
+    (Static, TWO_INSERTS, TWO_TRANSACTIONS),
+];
+
 #[test]
 fn requests_without_an_outage(rt: HostRuntime) {
-    let alloc = rt.alloc();
-    let script = [Insert(1), Read, Commit];
-    assert!(rt; goes(&rt, alloc, DynamicRule, &script, WITHOUT_AN_OUTAGE));
-    let script = [Insert(1), Commit, Insert(2), Commit];
-    assert!(rt; goes(&rt, alloc, DynamicRule, &script, TWO_TRANSACTIONS));
-    assert!(rt; goes(&rt, alloc, StaticRule, &script, TWO_TRANSACTIONS));
+    all_go(&rt, rt.alloc(), UNDISTURBED);
 }
+
+const AN_INSERT: &[Does] = &[Insert(1), Commit];
 
 /// Nothing was shown, so the first call goes out again as if it never had.
 const RUNS_FROM_THE_START: &[Line] = &[
@@ -146,21 +151,19 @@ const BLOCKED_FROM_OUTSIDE: Parts = &[
     REPEATS_THE_INSERT,
 ];
 
+const CUTS_AND_BLOCKS: &[Conversation] = &[
+    (Dynamic, AN_INSERT, BEFORE_A_CALL_WAS_SERVED),
+    (Dynamic, AN_INSERT, INSIDE_A_REPLY),
+    (Dynamic, AN_INSERT, BEHIND_A_REPLY),
+    (Dynamic, AN_INSERT, AFTER_A_COMMIT),
+    (Dynamic, AN_INSERT, COMMIT_OF_AN_ORPHAN_STANDS),
+    (Dynamic, AN_INSERT, COMMIT_OF_AN_ORPHAN_IS_BLOCKED),
+    (Dynamic, AN_INSERT, BLOCKED_FROM_OUTSIDE),
+];
+
 #[test]
 fn cuts_and_blocks_around_an_insert_and_a_commit(rt: HostRuntime) {
-    let script = [Insert(1), Commit];
-    let tables = [
-        BEFORE_A_CALL_WAS_SERVED,
-        INSIDE_A_REPLY,
-        BEHIND_A_REPLY,
-        AFTER_A_COMMIT,
-        COMMIT_OF_AN_ORPHAN_STANDS,
-        COMMIT_OF_AN_ORPHAN_IS_BLOCKED,
-        BLOCKED_FROM_OUTSIDE,
-    ];
-    for parts in tables {
-        assert!(rt; goes(&rt, rt.alloc(), DynamicRule, &script, parts));
-    }
+    all_go(&rt, rt.alloc(), CUTS_AND_BLOCKS);
 }
 
 /// The commit was sent, and a crash came while it was served.
@@ -227,18 +230,16 @@ const OUTCOME_IS_FORGOTTEN: Parts = &[
     ],
 ];
 
+const CRASHES: &[Conversation] = &[
+    (Dynamic, AN_INSERT, COMMIT_IS_STORED),
+    (Dynamic, AN_INSERT, COMMIT_IS_NOT_STORED),
+    (Dynamic, AN_INSERT, OPENING_IS_STOPPED),
+    (Dynamic, AN_INSERT, OUTCOME_IS_FORGOTTEN),
+];
+
 #[test]
 fn crashes_in_a_commit(rt: HostRuntime) {
-    let script = [Insert(1), Commit];
-    let tables = [
-        COMMIT_IS_STORED,
-        COMMIT_IS_NOT_STORED,
-        OPENING_IS_STOPPED,
-        OUTCOME_IS_FORGOTTEN,
-    ];
-    for parts in tables {
-        assert!(rt; goes(&rt, rt.alloc(), DynamicRule, &script, parts));
-    }
+    all_go(&rt, rt.alloc(), CRASHES);
 }
 
 const COMMITTED_BUT_NOT_COMPLETED: Parts = &[
@@ -252,8 +253,9 @@ const COMMITTED_BUT_NOT_COMPLETED: Parts = &[
     )],
 ];
 
+const ALL_AT_ONCE: &[Conversation] = &[(Dynamic, &[InsertCommit], COMMITTED_BUT_NOT_COMPLETED)];
+
 #[test]
 fn an_insert_with_its_commit(rt: HostRuntime) {
-    let parts = COMMITTED_BUT_NOT_COMPLETED;
-    assert!(rt; goes(&rt, rt.alloc(), DynamicRule, &[InsertCommit], parts));
+    all_go(&rt, rt.alloc(), ALL_AT_ONCE);
 }

@@ -1,6 +1,7 @@
 //! Losses at the second session, and frames that no server sends.
 use crate::answers::Says::{Committed, Done};
-use crate::conversation::goes;
+use crate::conversation::Rule::Dynamic;
+use crate::conversation::{Conversation, all_go};
 use crate::lines::Acts::{
     Asks, Begin, Call as Sends, Close, Connect, Drops, End, Fails, GivesBack, Shows,
 };
@@ -9,7 +10,6 @@ use crate::lines::Comes::{Frame, Gone, Last, Lent, Opened, Start};
 use crate::lines::{ASKED, OPENED, Parts};
 use crate::script::Does::Commit;
 use driver_core::Failed::BadPeer;
-use request_bounds::DynamicRule;
 
 /// The connection that asks is lost as well: the first identifier is asked again.
 const LOST_WHILE_IT_ASKS: Parts = &[
@@ -64,16 +64,15 @@ const LOST_BEFORE_ITS_BEGIN: Parts = &[&[
     ),
 ]];
 
+const TWO_LOSSES: &[Conversation] = &[
+    (Dynamic, &[Commit], LOST_WHILE_IT_ASKS),
+    (Dynamic, &[Commit], LOST_BEHIND_AN_OUTCOME),
+    (Dynamic, &[Commit], LOST_BEFORE_ITS_BEGIN),
+];
+
 #[test]
 fn a_second_loss(rt: HostRuntime) {
-    let script = [Commit];
-    for parts in [
-        LOST_WHILE_IT_ASKS,
-        LOST_BEHIND_AN_OUTCOME,
-        LOST_BEFORE_ITS_BEGIN,
-    ] {
-        assert!(rt; goes(&rt, rt.alloc(), DynamicRule, &script, parts));
-    }
+    all_go(&rt, rt.alloc(), TWO_LOSSES);
 }
 
 const OUTCOME_THAT_WAS_NOT_ASKED: Parts = &[&[
@@ -103,14 +102,13 @@ const SERVER_IS_AHEAD: Parts = &[
     &[(0, Frame(Apart), &[Close, Fails(BadPeer { tag: 20 }), Drops])],
 ];
 
+const BAD_PEERS: &[Conversation] = &[
+    (Dynamic, &[Commit], OUTCOME_THAT_WAS_NOT_ASKED),
+    (Dynamic, &[Commit], REPLY_IN_PLACE_OF_HELLO),
+    (Dynamic, &[Commit], SERVER_IS_AHEAD),
+];
+
 #[test]
 fn frames_that_no_server_sends(rt: HostRuntime) {
-    let script = [Commit];
-    for parts in [
-        OUTCOME_THAT_WAS_NOT_ASKED,
-        REPLY_IN_PLACE_OF_HELLO,
-        SERVER_IS_AHEAD,
-    ] {
-        assert!(rt; goes(&rt, rt.alloc(), DynamicRule, &script, parts));
-    }
+    all_go(&rt, rt.alloc(), BAD_PEERS);
 }

@@ -1,6 +1,7 @@
 //! Reasons against a replay, and settings that are kept or lost.
 use crate::answers::Says::{Committed, Done, Setting};
-use crate::conversation::goes;
+use crate::conversation::Rule::{self, Auto, Dynamic, Static};
+use crate::conversation::{Conversation, all_go};
 use crate::lines::Acts::{
     Again, Asks, Begin, BeginSet, Call as Sends, Close, Connect, Drops, End, Fails, GivesBack,
     Shows,
@@ -8,11 +9,9 @@ use crate::lines::Acts::{
 use crate::lines::Came::{Hello, Outcome, Reply};
 use crate::lines::Comes::{Frame, Gone, Last, Opened};
 use crate::lines::{ASKED, Line, OPENED, Parts};
-use crate::script::Does::{Alter, Commit, Count, Disable, Insert, Set, ShowSet};
-use auto_bounds::AutoRule;
+use crate::script::Does::{self, Alter, Commit, Count, Disable, Insert, Set, ShowSet};
 use driver_core::Failed::Disabled;
 use request_bounds::Why::{AfterCommit, Asked, Off, Restricted, Settings, StateLost};
-use request_bounds::{DynamicRule, OffRule, StaticRule};
 
 /// The first call was shown, and the second is lost by event 7.
 const SECOND_IS_LOST: &[Line] = &[
@@ -119,31 +118,18 @@ const COMPLETED_ALL_THE_SAME: Parts = &[
     )],
 ];
 
+const NOT_REPEATED: &[Conversation] = &[
+    (Dynamic, &[Alter, Count], ALTER_WAS_SHOWN),
+    (Dynamic, &[Alter, Count], ALTER_IS_LOST),
+    (Static, &[Set, Count], SET_WHERE_STATIC),
+    (Static, &[Disable, Count], NOT_TO_BE_REPLAYED),
+    (Rule::Off, &[Insert(1), Count], NO_REPLAY_AT_ALL),
+    (Rule::Off, &[Insert(1), Commit], COMPLETED_ALL_THE_SAME),
+];
+
 #[test]
 fn a_call_that_is_not_repeated(rt: HostRuntime) {
-    let alloc = rt.alloc();
-    assert!(rt; goes(&rt, alloc, DynamicRule, &[Alter, Count], ALTER_WAS_SHOWN));
-    assert!(rt; goes(&rt, alloc, DynamicRule, &[Alter, Count], ALTER_IS_LOST));
-    assert!(rt; goes(&rt, alloc, StaticRule, &[Set, Count], SET_WHERE_STATIC));
-    assert!(rt;
-        goes(
-            &rt,
-            alloc,
-            StaticRule,
-            &[Disable, Count],
-            NOT_TO_BE_REPLAYED
-        )
-    );
-    assert!(rt; goes(&rt, alloc, OffRule, &[Insert(1), Count], NO_REPLAY_AT_ALL));
-    assert!(rt;
-        goes(
-            &rt,
-            alloc,
-            OffRule,
-            &[Insert(1), Commit],
-            COMPLETED_ALL_THE_SAME
-        )
-    );
+    all_go(&rt, rt.alloc(), NOT_REPEATED);
 }
 
 /// A commit was shown, and the call behind it is lost by event 9.
@@ -199,13 +185,17 @@ const SECOND_TRANSACTION: Parts = &[
     ],
 ];
 
+const TWO_INSERTS: &[Does] = &[Insert(1), Commit, Insert(2), Commit];
+
+const TWO_TRANSACTIONS: &[Conversation] = &[
+    (Dynamic, TWO_INSERTS, BEHIND_A_COMMIT),
+    (Static, TWO_INSERTS, SECOND_TRANSACTION),
+    (Auto, TWO_INSERTS, SECOND_TRANSACTION),
+];
+
 #[test]
 fn a_second_transaction(rt: HostRuntime) {
-    let alloc = rt.alloc();
-    let script = [Insert(1), Commit, Insert(2), Commit];
-    assert!(rt; goes(&rt, alloc, DynamicRule, &script, BEHIND_A_COMMIT));
-    assert!(rt; goes(&rt, alloc, StaticRule, &script, SECOND_TRANSACTION));
-    assert!(rt; goes(&rt, alloc, AutoRule, &script, SECOND_TRANSACTION));
+    all_go(&rt, rt.alloc(), TWO_TRANSACTIONS);
 }
 
 /// The commit is lost behind a `set`, and is shown by its outcome.
@@ -275,13 +265,15 @@ const SET_BY_AN_OUTCOME: Parts = &[
     )],
 ];
 
+const BEHIND_AN_OUTCOME: &[Conversation] = &[
+    (Dynamic, &[Set, Commit, ShowSet], SETTINGS_ARE_LOST),
+    (Auto, &[Set, Commit, ShowSet], SETTINGS_ARE_KEPT),
+    (Dynamic, &[Set, ShowSet], SET_BY_AN_OUTCOME),
+];
+
 #[test]
 fn settings_behind_an_outcome(rt: HostRuntime) {
-    let alloc = rt.alloc();
-    let script = [Set, Commit, ShowSet];
-    assert!(rt; goes(&rt, alloc, DynamicRule, &script, SETTINGS_ARE_LOST));
-    assert!(rt; goes(&rt, alloc, AutoRule, &script, SETTINGS_ARE_KEPT));
-    assert!(rt; goes(&rt, alloc, DynamicRule, &[Set, ShowSet], SET_BY_AN_OUTCOME));
+    all_go(&rt, rt.alloc(), BEHIND_AN_OUTCOME);
 }
 
 /// A `set` that no purge came behind is repeated, and is not among the settings of a Begin.
@@ -292,11 +284,14 @@ const SET_IS_REPEATED: Parts = &[
     &[(0, Frame(Outcome(false, false)), &[Begin, Again(0)])],
 ];
 
+const REPEATED: &[Conversation] = &[
+    (Auto, &[Set, Commit], SET_IS_REPEATED),
+    (Dynamic, &[Set, Commit], SET_IS_REPEATED),
+];
+
 #[test]
 fn a_set_that_is_repeated(rt: HostRuntime) {
-    let script = [Set, Commit];
-    assert!(rt; goes(&rt, rt.alloc(), AutoRule, &script, SET_IS_REPEATED));
-    assert!(rt; goes(&rt, rt.alloc(), DynamicRule, &script, SET_IS_REPEATED));
+    all_go(&rt, rt.alloc(), REPEATED);
 }
 
 /// The reply was the last one on its connection, so the `alter` was not submitted.
@@ -320,8 +315,9 @@ const NOT_SUBMITTED_BEFORE: Parts = &[
     ],
 ];
 
+const NOT_SUBMITTED: &[Conversation] = &[(Static, &[Commit, Alter], NOT_SUBMITTED_BEFORE)];
+
 #[test]
 fn a_call_that_was_not_submitted_is_no_reason(rt: HostRuntime) {
-    let script = [Commit, Alter];
-    assert!(rt; goes(&rt, rt.alloc(), StaticRule, &script, NOT_SUBMITTED_BEFORE));
+    all_go(&rt, rt.alloc(), NOT_SUBMITTED);
 }

@@ -2,7 +2,8 @@
 //! whose commit is stored in a crash.
 use crate::answers::Drawn;
 use crate::answers::Says::{Committed, DoneTwice, Item, Sale};
-use crate::conversation::goes;
+use crate::conversation::Rule::Static;
+use crate::conversation::{Conversation, all_go};
 use crate::lines::Acts::{
     Again, Asks, Begin, Call as Sends, Connect, End, GivesBack, Shows, ShowsDrawn,
 };
@@ -10,7 +11,6 @@ use crate::lines::Came::{Drew, Hello, Outcome, Reply};
 use crate::lines::Comes::{Frame, Gone, Opened, Start};
 use crate::lines::{ASKED_AFTER_A_CRASH, OPENED, Parts};
 use crate::script::Does::{Commit, GetItem, Sales, Sell};
-use request_bounds::StaticRule;
 
 const SALE_IS_CUT: Parts = &[
     OPENED,
@@ -79,11 +79,20 @@ const COMMIT_IS_IN_A_CRASH: Parts = &[&[
     ),
 ]];
 
+const CUSTOMERS: &[Conversation] = &[
+    (
+        Static,
+        &[GetItem(1), Sell(1), Commit, Sales(1)],
+        SALE_IS_CUT,
+    ),
+    (
+        Static,
+        &[GetItem(2), Sell(2), Commit, Sales(2)],
+        COMMIT_IS_IN_A_CRASH,
+    ),
+];
+
 #[test]
 fn customers_of_a_shop(rt: HostRuntime) {
-    let alloc = rt.alloc();
-    let first = [GetItem(1), Sell(1), Commit, Sales(1)];
-    assert!(rt; goes(&rt, alloc, StaticRule, &first, SALE_IS_CUT));
-    let second = [GetItem(2), Sell(2), Commit, Sales(2)];
-    assert!(rt; goes(&rt, alloc, StaticRule, &second, COMMIT_IS_IN_A_CRASH));
+    all_go(&rt, rt.alloc(), CUSTOMERS);
 }
