@@ -1,19 +1,31 @@
-use crate::makers::{answers, call, counts, draws, row, settings};
+use crate::makers::{answers, call, counts, draws, name, row, settings};
+use std::alloc::Global;
+use std::process::Abort;
 use svc_values::{
-    Ahead, Answer, Call, CallFault, Down, Entry, Ltxid, Piece, Pieces, TryCopy, Up, Write, Writes,
-    ends_committed, ends_conflict, ends_transaction,
+    Ahead, Answer, Call, CallFault, Down, Entry, Ltxid, Piece, Pieces, TryCopy, Up, Value, Write,
+    Writes, ends_committed, ends_conflict, ends_transaction,
 };
+
+/// A call of as many counts, and a commit or none.
+fn work(rt: &impl Abort, alloc: Global, number: u8, commit: bool) -> Result<Call, CallFault> {
+    Call::work(counts(rt, alloc, number), commit)
+}
+
+/// Sees whether such a call has a commit, and whether it is that alone.
+fn has(rt: &impl Abort, alloc: Global, number: u8, commit: bool, alone: bool) {
+    let call = work(rt, alloc, number, commit).expect(rt, "a call");
+    assert_eq!(rt; call.has_commit(), commit);
+    assert_eq!(rt; call.is_lone_commit(), alone);
+}
 
 #[test]
 fn work_calls_have_one_to_eight_parts(rt: HostRuntime) {
-    let nothing = Call::work(counts(&rt, rt.alloc(), 0), false);
+    let nothing = work(&rt, rt.alloc(), 0, false);
     assert!(rt; matches!(nothing, Err(CallFault::Empty)));
-    let overfull = Call::work(counts(&rt, rt.alloc(), 8), true);
+    let overfull = work(&rt, rt.alloc(), 8, true);
     assert!(rt; matches!(overfull, Err(CallFault::TooMany)));
-    let full = Call::work(counts(&rt, rt.alloc(), 8), false).expect(&rt, "a call");
-    assert!(rt; !full.has_commit() && !full.is_lone_commit());
-    let alone = Call::work(counts(&rt, rt.alloc(), 0), true).expect(&rt, "a call");
-    assert!(rt; alone.has_commit() && alone.is_lone_commit());
+    has(&rt, rt.alloc(), 8, false, false);
+    has(&rt, rt.alloc(), 0, true, true);
 }
 
 #[test]
@@ -33,50 +45,70 @@ const LTXID: Ltxid = Ltxid {
     number: 3,
 };
 
+/// Sees that a copy is the same.
+fn is_copied<T: TryCopy + PartialEq + Drop>(rt: &impl Abort, alloc: Global, value: T) {
+    let copy = value.copy(alloc).expect(rt, "a copy");
+    assert!(rt; copy == value);
+}
+
+fn up(rt: &impl Abort, alloc: Global) -> Up {
+    Up::Call {
+        replay: true,
+        kept: draws(rt, alloc),
+        call: call(rt, alloc),
+    }
+}
+
+fn down(rt: &impl Abort, alloc: Global) -> Down {
+    Down::Reply {
+        answers: answers(rt, alloc),
+        draws: draws(rt, alloc),
+        ltxid: LTXID,
+    }
+}
+
 #[test]
 fn frames_are_copied(rt: HostRuntime) {
-    let up = Up::Call {
-        replay: true,
-        kept: draws(&rt, rt.alloc()),
-        call: call(&rt, rt.alloc()),
+    is_copied(&rt, rt.alloc(), up(&rt, rt.alloc()));
+    is_copied(&rt, rt.alloc(), down(&rt, rt.alloc()));
+    is_copied(&rt, rt.alloc(), Ahead::Forgotten);
+}
+
+/// The piece of one call.
+fn pieces(rt: &impl Abort, alloc: Global) -> Pieces {
+    let mut pieces = Pieces::new(alloc);
+    let piece = Piece {
+        call: call(rt, alloc),
+        answers: answers(rt, alloc),
+        draws: draws(rt, alloc),
     };
-    assert!(rt; up.copy(rt.alloc()).expect(&rt, "a copy") == up);
-    let down = Down::Reply {
-        answers: answers(&rt, rt.alloc()),
-        draws: draws(&rt, rt.alloc()),
+    pieces.push(piece).expect(rt, "a piece");
+    pieces
+}
+
+/// The write of one row.
+fn writes(rt: &impl Abort, alloc: Global) -> Writes {
+    let mut writes = Writes::new(alloc);
+    let write = Write {
+        table: name(rt, alloc, "t"),
+        key: Value::Int(7),
+        row: Some(row(rt, alloc, 7)),
+    };
+    writes.push(write).expect(rt, "a write");
+    writes
+}
+
+fn entry(rt: &impl Abort, alloc: Global) -> Entry {
+    Entry {
         ltxid: LTXID,
-    };
-    assert!(rt; down.copy(rt.alloc()).expect(&rt, "a copy") == down);
-    assert!(rt; Ahead::Forgotten.copy(rt.alloc()).expect(&rt, "a copy") == Ahead::Forgotten);
+        completed: false,
+        settings: settings(rt, alloc, &[("a", 1)]),
+        pieces: pieces(rt, alloc),
+        writes: writes(rt, alloc),
+    }
 }
 
 #[test]
 fn an_entry_is_copied(rt: HostRuntime) {
-    let mut pieces = Pieces::new(rt.alloc());
-    let (call, answers, draws) = (
-        call(&rt, rt.alloc()),
-        answers(&rt, rt.alloc()),
-        draws(&rt, rt.alloc()),
-    );
-    let piece = Piece {
-        call,
-        answers,
-        draws,
-    };
-    pieces.push(piece).expect(&rt, "a piece");
-    let mut writes = Writes::new(rt.alloc());
-    let write = Write {
-        table: crate::makers::name(&rt, rt.alloc(), "t"),
-        key: svc_values::Value::Int(7),
-        row: Some(row(&rt, rt.alloc(), 7)),
-    };
-    writes.push(write).expect(&rt, "a write");
-    let entry = Entry {
-        ltxid: LTXID,
-        completed: false,
-        settings: settings(&rt, rt.alloc(), &[("a", 1)]),
-        pieces,
-        writes,
-    };
-    assert!(rt; entry.copy(rt.alloc()).expect(&rt, "a copy") == entry);
+    is_copied(&rt, rt.alloc(), entry(&rt, rt.alloc()));
 }

@@ -30,15 +30,21 @@ fn a_name_is_copied_where_it_lies(rt: HostRuntime) {
     assert!(rt; copied.copy(rt.alloc()).is_ok_and(|copy| copy == copied));
 }
 
+const LONGEST: &str = "0123456789abcdef0123456789abcdef0123456789abcdef0123456789abcdef";
+
+const LONGER: &str = "0123456789abcdef0123456789abcdef0123456789abcdef0123456789abcdef.";
+
 #[test]
 fn texts_have_at_most_64_bytes(rt: HostRuntime) {
+    assert!(rt; Text::new(rt.alloc(), LONGEST).is_ok());
+    assert!(rt; matches!(Text::new(rt.alloc(), LONGER), Err(TextFault::TooLong)));
+}
+
+#[test]
+fn octets_are_at_most_64(rt: HostRuntime) {
     let bytes = [b'x'; 65];
     assert!(rt; Octets::new(rt.alloc(), &bytes[..64]).is_ok());
     assert!(rt; matches!(Octets::new(rt.alloc(), &bytes), Err(TextFault::TooLong)));
-    let text = "0123456789abcdef0123456789abcdef0123456789abcdef0123456789abcdef";
-    assert!(rt; Text::new(rt.alloc(), text).is_ok());
-    let longer = "0123456789abcdef0123456789abcdef0123456789abcdef0123456789abcdef.";
-    assert!(rt; matches!(Text::new(rt.alloc(), longer), Err(TextFault::TooLong)));
 }
 
 #[test]
