@@ -3,8 +3,8 @@
 # shellcheck disable=SC2154 # top and program are the launcher's
 
 # How long the first use takes: minutes, and the processors for which that is. It was measured from nothing, on four processors
-# of 2.5 GHz that had other work beside for the last third of it.
-measured_minutes=46
+# of 2.5 GHz that had nothing else to do.
+measured_minutes=47
 measured_processors=4
 out=$top/crates/continuity/out
 
