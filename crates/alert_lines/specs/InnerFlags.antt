@@ -8,8 +8,8 @@ abbrev pub is_first : List ℕ → List (List ℕ) → Bool
 is_first text [] = false
 is_first text (alert ∷ alerts) = bytes_eq text alert
 
--- The flags after one line more, told whether the first one is reached by this line from the one before it. A flag
--- stays where the line need not stand.
+-- The flags after one line more, told whether the first one is reached by this line from the one
+-- before it. A flag stays where the line need not stand.
 abbrev pub flags_after : Line → Bool → List Bool → List (List ℕ) → List Bool
 flags_after line came [] alerts = []
 flags_after line came (flag ∷ flags) alerts =

@@ -33,8 +33,8 @@ pub(crate) trait BesideReader<T>: Reader<T> {
         ensures shorter { IfSome result (λ _. length tokens.new < length tokens.old) };
 }
 
-/// The items of an array that are left once the first `from` known ones were read of it, beside the other
-/// known ones. At the first that is another one those before it are copied.
+/// The items of an array that are left once the first `from` known ones were read of it, beside the
+/// other known ones. At the first that is another one those before it are copied.
 pub(crate) fn items_beside<T: TryCopy + Drop, R: BesideReader<T>>(
     alloc: Global,
     tokens: &mut json::Reader<'_>,

@@ -92,8 +92,9 @@ fn held_once(alloc: Global, known: &Rows, rows: Rows) -> Rows
     rows
 }
 
-/// Rows that clients were shown, by their numbers, and by that of the first row. What was stored and what was served tell the
-/// same rows again. Which rows are known decides no answer, but for the memory that is held.
+/// Rows that clients were shown, by their numbers, and by that of the first row. What was stored
+/// and what was served tell the same rows again. Which rows are known decides no answer, but for
+/// the memory that is held.
 #[derive(Drop)]
 pub struct KnownRows {
     rows: KeyMap<u64, Rows>,

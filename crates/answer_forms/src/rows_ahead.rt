@@ -84,8 +84,8 @@ impl BesideReader<Row> for RowReader {
     }
 }
 
-/// The rows of an answer, at most 32, that the tokens begin with. Known ones are held once, and take no
-/// memory while they are read.
+/// The rows of an answer, at most 32, that the tokens begin with. Known ones are held once, and
+/// take no memory while they are read.
 pub(crate) fn rows_ahead(
     alloc: Global,
     known: &KnownRows,

@@ -5,8 +5,8 @@ ghost use Rattle.auto_bounds.specs.InnerLawful.{auto_lawful};
 use request_bounds::{After, BoundRule, DynamicRule, StaticRule, Why};
 use svc_values::{Answer, Call};
 
-/// Settings are kept through a replay, so a `set` ends nothing, and recording begins anew after each
-/// transaction. Only an `alter` and a `disable` end the protection.
+/// Settings are kept through a replay, so a `set` ends nothing, and recording begins anew after
+/// each transaction. Only an `alter` and a `disable` end the protection.
 #[derive(Clone, Copy)]
 pub struct AutoRule;
 

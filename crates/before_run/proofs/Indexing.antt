@@ -1,4 +1,5 @@
--- The indexes of a document's tables are of tables that the journal before event 1 declares, by their columns.
+-- The indexes of a document's tables are of tables that the journal before event 1 declares, by
+-- their columns.
 use Rattle.std.proofs.Common.{◌≡◌, ◌∙◌, refl, sym, ap, ℕ, Bool, true, false, List, [], ◌∷◌, map, cond, eqb-true, arith, Option, Some, None}
 use Rattle.std.specs.Prelude.{IsTrue, ◌||◌, ◌==◌, not, length, flat_map, nat_lt}
 use Rattle.std.specs.List.{list_all, list_any, position_or_len}

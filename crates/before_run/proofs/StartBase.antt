@@ -1,4 +1,5 @@
--- The tables and sequences of a document are a base: the tests of a document are those of a base, in other words.
+-- The tables and sequences of a document are a base: the tests of a document are those of a base,
+-- in other words.
 use Rattle.std.proofs.Common.{◌≡◌, ℕ, List, [], ◌∷◌, map, true, refl, ap, ◌∙◌}
 use Rattle.std.specs.Prelude.{Bool, ◌&&◌, ◌||◌, not, length, nat_le, IsTrue}
 use Rattle.std.specs.List.{list_all, list_any}

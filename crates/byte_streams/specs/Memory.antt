@@ -21,7 +21,8 @@ write_faults sink = sink.faults
 abbrev pub after : ℕ → ℕ
 after calls = min (calls + 1) (2 ^ 64 - 1)
 
--- How a source in memory reads: how often it was called, which calls fail, and the most bytes for a call.
+-- How a source in memory reads: how often it was called, which calls fail, and the most bytes for a
+-- call.
 pub record Reading : Type 0 where
   pub calls : ℕ
   pub fail : List ℕ
@@ -40,7 +41,8 @@ FailsNextRead reading = Contains reading.fail (after reading.calls)
 abbrev pub next_read : Reading → List ℕ → ℕ → ℕ
 next_read reading left room = min (min room reading.most) (length left)
 
--- How a sink in memory writes: how often it was called, which calls fail, which take nothing, and the most bytes for a call.
+-- How a sink in memory writes: how often it was called, which calls fail, which take nothing, and
+-- the most bytes for a call.
 pub record Writing : Type 0 where
   pub calls : ℕ
   pub fail : List ℕ
@@ -59,7 +61,8 @@ FailsNextWrite writing = Contains writing.fail (after writing.calls)
 abbrev pub TakesNothingNext : Writing → Type 0
 TakesNothingNext writing = Contains writing.nothing (after writing.calls)
 
--- nothing where this call is to take nothing, and else as many bytes of the piece as a call may take
+-- nothing where this call is to take nothing, and else as many bytes of the piece as a call may
+-- take
 pub record IsNextWrite (writing : Writing) (piece : List ℕ) (count : ℕ) : Type 0 where
   pub nothing : TakesNothingNext writing → count ≡ 0
   pub front : (TakesNothingNext writing → ⊥) → count ≡ min (length piece) writing.most

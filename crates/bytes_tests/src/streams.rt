@@ -1,4 +1,5 @@
-//! The adapters, over bytes in memory and over a writer that holds what it took until it is flushed.
+//! The adapters, over bytes in memory and over a writer that holds what it took until it is
+//! flushed.
 
 use byte_streams::{Input, Output, Sink, Source};
 use std::io::{self, Write};

@@ -1,5 +1,5 @@
-//! How names, values, operands, items and calls are read from JSON values and from tokens, in documents and in
-//! reports.
+//! How names, values, operands, items and calls are read from JSON values and from tokens, in
+//! documents and in reports.
 #![tactic(auto)]
 
 mod call;

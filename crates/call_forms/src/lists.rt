@@ -6,8 +6,8 @@ ghost use Rattle.json_form.specs.Streams.{Begins};
 use json_form::{Reader, array_ahead};
 use std::alloc::Global;
 
-/// The items of an array of `low` to `high`, in order, each read as soon as its tokens are passed. There are
-/// none where the reader gives none of one, and where there are too few or too many.
+/// The items of an array of `low` to `high`, in order, each read as soon as its tokens are passed.
+/// There are none where the reader gives none of one, and where there are too few or too many.
 pub fn counted_ahead<T: Drop, R: Reader<T>>(
     alloc: Global,
     tokens: &mut json::Reader<'_>,
@@ -28,8 +28,9 @@ pub fn counted_ahead<T: Drop, R: Reader<T>>(
     Some(found)
 }
 
-/// The items of an array of any number, in order, each read as soon as its tokens are passed, so that no more
-/// than one of them is held as a JSON value. There are none where the reader gives none of one.
+/// The items of an array of any number, in order, each read as soon as its tokens are passed, so
+/// that no more than one of them is held as a JSON value. There are none where the reader gives
+/// none of one.
 pub fn list_ahead<T: Drop, R: Reader<T>>(
     alloc: Global,
     tokens: &mut json::Reader<'_>,

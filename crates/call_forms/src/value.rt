@@ -127,8 +127,8 @@ fn bytes_member(alloc: Global, value: Json, digits: Digits) -> Result<Value, Doc
     within(alloc, "hex", bytes_from(alloc, hex, digits))
 }
 
-/// The value that a token is by itself: a text or a number. There is none of a text past its limit, of a
-/// number that is not an integer of 64 bits or is `-0`, and of each other token.
+/// The value that a token is by itself: a text or a number. There is none of a text past its limit,
+/// of a number that is not an integer of 64 bits or is `-0`, and of each other token.
 pub fn plain_value(alloc: Global, token: Token<'_>) -> Option<Value>
     ensures { IfSome result (λ x. IsPlain (token_of token.entry) x) }
 {
@@ -165,7 +165,8 @@ impl Reader<Value> for ValueReader {
         bytes_member(alloc, value, self.digits)
     }
 
-    /// The value that the tokens begin with, with no JSON value between where it is a text or a number.
+    /// The value that the tokens begin with, with no JSON value between where it is a text or a
+    /// number.
     fn ahead(&self, alloc: Global, tokens: &mut json::Reader<'_>, depth: usize) -> Option<Value> {
         match tokens.next()? {
             Token::BeginObject => {
@@ -264,7 +265,8 @@ impl Reader<Operand> for OperandReader {
         }
     }
 
-    /// The operand that the tokens begin with, with no JSON value between where it is a text or a number.
+    /// The operand that the tokens begin with, with no JSON value between where it is a text or a
+    /// number.
     fn ahead(&self, alloc: Global, tokens: &mut json::Reader<'_>, depth: usize) -> Option<Operand> {
         match tokens.next()? {
             Token::BeginObject => {

@@ -23,7 +23,8 @@ pub record OnWay : Type 0 where
   pub writes : List Write
   pub readings : List Reading
 
--- the settings before a transaction's first call, where a call has changed them, and else those of now
+-- the settings before a transaction's first call, where a call has changed them, and else those of
+-- now
 abbrev pub started_with : Option NamedValues → NamedValues → NamedValues
 started_with None now = now
 started_with (Some earlier) now = earlier
@@ -54,7 +55,8 @@ if_none_left left answers = if left == 0 then Some answers else None
 abbrev pub answered_alone : List Draw → Answer → Option (List Answer)
 answered_alone draws answer = if is_nil draws then Some (answer ∷ []) else None
 
--- The transaction has what the call wrote and read, and its settings. The pieces are as before. Where each place that was read had what it had, it is so still.
+-- The transaction has what the call wrote and read, and its settings. The pieces are as before.
+-- Where each place that was read had what it had, it is so still.
 pub record HasGone (tables : Stored) (old : OnWay) (meant : Meant) (new : OnWay) : Type 0 where
   pub settings : new.settings ≡ meant.settings
   pub at_start : new.at_start ≡ old.at_start

@@ -1,4 +1,5 @@
--- A service that is asked for no outcome blocks nothing, so what meets a block met one of the time before it was made.
+-- A service that is asked for no outcome blocks nothing, so what meets a block met one of the time
+-- before it was made.
 use Rattle.std.proofs.Common.{◌≡◌, refl, sym, ap, ap₂, ◌∙◌, append-nil, Bool, true, false, ℕ, ◌&&◌, List, [], ◌∷◌, ◌++◌, inl, inr}
 use Rattle.std.specs.List.{list_all}
 use Rattle.std.proofs.lemmas.Bool.{and_parts, and_from}
@@ -186,7 +187,8 @@ moves_meet server _ _ Falls quiet = tt
 moves_meet server _ _ (Opens below off may) quiet = tt
 moves_meet server _ _ (StopsOpening below core off may same) quiet = tt
 
--- A session that is told of a block was blocked before the service was made, where no outcome was asked for since.
+-- A session that is told of a block was blocked before the service was made, where no outcome was
+-- asked for since.
 pub met_before : RunsLast → (base : Base) (history : List Happened) (server : Server) (session : SessionId) (now : ℕ) (frame : Up) → Runs base (history ++ Served session now frame (Says down.Blocked) ∷ []) server
     → list_all is_quiet history ≡ true → asks_none frame ≡ true → MeetsBlock base.blocked session
 met_before last base history server session now frame runs quiet plain =

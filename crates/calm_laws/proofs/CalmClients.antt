@@ -1,4 +1,5 @@
--- Each request that is over failed with PoolWait alone, and each in course lost no session: this is kept where a request takes a calm input.
+-- Each request that is over failed with PoolWait alone, and each in course lost no session: this is
+-- kept where a request takes a calm input.
 use Rattle.std.proofs.Common.{◌≡◌, refl, sym, ap, ◌∙◌, Bool, true, ℕ, suc, zero, ◌&&◌, List, [], ◌∷◌, ◌++◌, map, Option, Some, None}
 use Rattle.std.specs.Prelude.{option_and_then}
 use Rattle.std.specs.List.{list_all, last_or}

@@ -1,4 +1,5 @@
--- Behind each calm event the service is up in its incarnation, no connection was lost, no request lost a session, and nothing was blocked.
+-- Behind each calm event the service is up in its incarnation, no connection was lost, no request
+-- lost a session, and nothing was blocked.
 use Rattle.std.proofs.Common.{◌≡◌, refl, sym, ap, subst, ◌∙◌, Bool, true, false, ℕ, ◌+◌, ◌&&◌, ◌||◌, List, [], ◌∷◌, ◌++◌, map, Option, Some, None, ◌⊎◌, inl, inr, if◌then◌else◌, ap₂, arith}
 use Rattle.std.specs.Prelude.{◌==◌, ◌≤◌, nat_le}
 use Rattle.std.specs.List.{list_all, list_any}

@@ -1,5 +1,5 @@
--- Each connection is open or closed by a Close, and asks for no outcome: this is kept where a connection is opened, sent on, served on, or a
--- reply of it is taken.
+-- Each connection is open or closed by a Close, and asks for no outcome: this is kept where a
+-- connection is opened, sent on, served on, or a reply of it is taken.
 use Rattle.std.proofs.Common.{◌≡◌, refl, sym, ap, subst, ◌∙◌, Bool, true, false, ℕ, suc, zero, ◌&&◌, ◌||◌, List, [], ◌∷◌, ◌++◌, fold, Option, Some, None, if◌then◌else◌}
 use Rattle.std.specs.Prelude.{slice_set}
 use Rattle.std.specs.List.{list_all, list_any}
@@ -52,7 +52,8 @@ each_calm change links (number ∷ numbers) before keeps = each_calm change (cha
 calm_from : (link : Link) → is_kept_link link ≡ true → is_quiet_link link ≡ true → is_calm_link link ≡ true
 calm_from link kept quiet = and_from (is_kept_link link) (is_quiet_link link) kept quiet
 
--- Frames that ask for no outcome are sent: where there is a Close among them it is closed, and else it is as open as before.
+-- Frames that ask for no outcome are sent: where there is a Close among them it is closed, and else
+-- it is as open as before.
 pub sends_calm : (event : ℕ) (frames : List Sent) (link : Link) → list_all sends_quietly frames ≡ true → is_calm_link link ≡ true → is_calm_link (sends event frames link) ≡ true
 sends_calm event frames link quiet calm = by (list_any (λ sent. is_close sent.frame) frames) refl
   where

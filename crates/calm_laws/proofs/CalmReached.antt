@@ -84,7 +84,8 @@ resting_calm : (all : List Given) → list_all is_calm_client (map (λ (client :
 resting_calm [] = refl
 resting_calm (client ∷ all) = resting_calm all
 
--- where the service has the incarnation behind the last one before the run, and was asked for no outcome
+-- where the service has the incarnation behind the last one before the run, and was asked for no
+-- outcome
 pub record CalmState (document : Document) (seen : Seen) (t : Traced) : Type 0 where
   pub machine : IsCalm ((journal_before document).incarnation + 1) t.machine
   pub history : list_all is_quiet seen.history ≡ true

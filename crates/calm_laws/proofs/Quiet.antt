@@ -1,4 +1,5 @@
--- A calm event adds no question for an outcome to the service's history, if no frame that may be served asks for one.
+-- A calm event adds no question for an outcome to the service's history, if no frame that may be
+-- served asks for one.
 use Rattle.std.proofs.Common.{◌≡◌, refl, sym, ap, ◌∙◌, Bool, true, false, ℕ, List, [], ◌∷◌, Option, Some, None}
 use Rattle.std.specs.List.{list_all}
 use Rattle.std.proofs.lemmas.Bool.{and_parts, and_from}

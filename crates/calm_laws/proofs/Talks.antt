@@ -1,4 +1,5 @@
--- What a client says, and how its request may end, while no connection of it is lost and no try fails.
+-- What a client says, and how its request may end, while no connection of it is lost and no try
+-- fails.
 use Rattle.std.proofs.Common.{◌≡◌, refl, ◌∙◌, Bool, true, false, ℕ, ◌&&◌, List, [], ◌∷◌, Option, Some, None, if◌then◌else◌}
 use Rattle.std.specs.Prelude.{nat_le, ◌-◌}
 use Rattle.std.specs.List.{list_all}

@@ -1,5 +1,5 @@
--- Frames to the client: a payload is a tag and the fields, and a frame is the number of its bytes and the payload.
--- Here is what contracts and proofs say of it besides.
+-- Frames to the client: a payload is a tag and the fields, and a frame is the number of its bytes
+-- and the payload. Here is what contracts and proofs say of it besides.
 use Rattle.std.specs.Prelude.{ℕ, suc, ◌==◌, ◌||◌, IsTrue, List, [], ◌∷◌, length, Result, Ok, Err, if◌then◌else◌}
 use Rattle.svc_values.specs.Identifiers.{IsLtxid}
 use Rattle.svc_values.specs.declared.frame.Ahead.{Ahead}

@@ -1,5 +1,5 @@
--- Identifiers of transactions, and what the journal keeps of a transaction: pieces, writes, entries.
--- Here is what contracts and proofs say of it besides.
+-- Identifiers of transactions, and what the journal keeps of a transaction: pieces, writes,
+-- entries. Here is what contracts and proofs say of it besides.
 use Rattle.std.specs.Prelude.{ℕ, List, ◌++◌}
 use Rattle.std.specs.List.{AllByRecursion}
 use Rattle.svc_values.specs.Calls.{IsMade}

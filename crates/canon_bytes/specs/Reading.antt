@@ -1,5 +1,5 @@
--- Reading from left to right up to the first fault. A fault counts the bytes from the byte at fault to the end.
--- Here is what contracts and proofs say of it besides.
+-- Reading from left to right up to the first fault. A fault counts the bytes from the byte at fault
+-- to the end. Here is what contracts and proofs say of it besides.
 use Rattle.std.specs.Prelude.{◌≡◌, Result, Ok, Err}
 use Rattle.canon_bytes.specs.declared.fault.Fault.{Fault}
 use Rattle.canon_bytes.specs.declared.fault.ReadFault.{ReadFault}

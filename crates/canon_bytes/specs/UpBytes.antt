@@ -1,5 +1,5 @@
--- Frames to the server: a payload is a tag and the fields, and a frame is the number of its bytes and the payload.
--- Here is what contracts and proofs say of it besides.
+-- Frames to the server: a payload is a tag and the fields, and a frame is the number of its bytes
+-- and the payload. Here is what contracts and proofs say of it besides.
 use Rattle.std.specs.Prelude.{ℕ, suc, ◌==◌, List, [], ◌∷◌, length, Result, Ok, Err, if◌then◌else◌}
 use Rattle.svc_values.specs.Calls.{IsMade}
 use Rattle.svc_values.specs.Identifiers.{IsLtxid}

@@ -21,9 +21,9 @@ pub enum CanonFault {
     #[error("no text at {at}")]
     BadText { at: usize },
     /// A part past a limit or rule of its type: a name that is none; names of settings that do not
-    /// rise; a number of bytes or items past its limit, which is judged before they are read; a part
-    /// of an identifier above 2^63; or a work call that `Call::work` does not make, once all of it is
-    /// read. `at` is the part's first byte.
+    /// rise; a number of bytes or items past its limit, which is judged before they are read; a
+    /// part of an identifier above 2^63; or a work call that `Call::work` does not make, once all
+    /// of it is read. `at` is the part's first byte.
     #[error("a part past its rules at {at}")]
     BadPart { at: usize },
 }

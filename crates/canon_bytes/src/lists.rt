@@ -34,9 +34,9 @@ fn put_made_items<T: PutMade>(items: &[T], out: &mut Vec<u8>) -> Result<(), NoMe
     Ok(())
 }
 
-/// For how many of so many items there is room before they are read: for all of them where each takes
-/// eight bytes or more, as values and rows do. A count that the bytes cannot hold asks for no more
-/// room than the bytes could fill.
+/// For how many of so many items there is room before they are read: for all of them where each
+/// takes eight bytes or more, as values and rows do. A count that the bytes cannot hold asks for no
+/// more room than the bytes could fill.
 fn room_for(count: u64, bytes: &[u8]) -> usize
     ensures counted { result ≤ count }
     ensures held { 8 * result ≤ length bytes.now }

@@ -1,4 +1,5 @@
--- What the judge knows of a request and what its client knows agree: the calls, the reasons and the ticks.
+-- What the judge knows of a request and what its client knows agree: the calls, the reasons and the
+-- ticks.
 use Rattle.std.proofs.Common.{◌≡◌, ℕ, zero, suc, ◌+◌, Bool, true, false, not, ◌||◌, List, [], ◌∷◌, ◌++◌, length, map, take, drop, reverse, Option, Some, None, if◌then◌else◌, refl, sym, ap, subst, ◌∙◌, arith}
 use Rattle.std.specs.Prelude.{slice_get, option_map, IsSome}
 use Rattle.std.specs.List.{list_any}
@@ -85,8 +86,9 @@ some_or (Some y) x = refl
 -- AGREEING ----------------------------------------------------------------------------------------
 
 module _ (service : ServiceOf) (rules : Rules) (told : List Answer → List ℕ) (ruled : rules ≡ rules_of (kind_of service.failover service.consistency)) (calls : List Call) (copied : List ShownCall) where
-  -- The facts, with the newest first, and the course are those of a client that was shown these calls, of which these are recorded since the
-  -- last purge, and that knows this reason and this tick of the first submitted call.
+  -- The facts, with the newest first, and the course are those of a client that was shown these
+  -- calls, of which these are recorded since the last purge, and that knows this reason and this
+  -- tick of the first submitted call.
   pub record Agrees (shown : List Shown) (since : List Recorded) (why : Option Why) (first : Option ℕ) (facts : List Fact) (course : Course) : Type 0 where
     pub unshown : course.unshown ≡ drop (length shown) calls
     pub index : course.index ≡ length shown

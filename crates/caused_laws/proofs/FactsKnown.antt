@@ -1,4 +1,5 @@
--- Facts of a request one after the other, and the reasons that they give by the rules of the service.
+-- Facts of a request one after the other, and the reasons that they give by the rules of the
+-- service.
 use Rattle.std.proofs.Common.{◌≡◌, ℕ, ◌+◌, Bool, true, false, List, [], ◌∷◌, ◌++◌, length, reverse, Option, Some, None, if◌then◌else◌, refl, sym, ap, subst, ◌∙◌, nat_le}
 use Rattle.std.specs.Prelude.{option_map, filter_map}
 use Rattle.std.specs.Option.{option_or}

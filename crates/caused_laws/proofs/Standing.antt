@@ -39,8 +39,8 @@ use Rattle.caused_laws.proofs.FactsKnown.{is_off, terms_by}
 
 -- THE JUDGE ---------------------------------------------------------------------------------------
 
--- A request up to here: its steps and what happened in them, the newest first; how far it has come; the tick of its first step, if there was
--- one.
+-- A request up to here: its steps and what happened in them, the newest first; how far it has come;
+-- the tick of its first step, if there was one.
 pub record SoFar : Type 0 where
   pub steps : List Step
   pub facts : List Fact

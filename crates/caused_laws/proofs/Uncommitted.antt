@@ -1,4 +1,5 @@
--- Steps that take an outcome which says uncommitted: a reason against a replay, too many replays, too late, or a replay.
+-- Steps that take an outcome which says uncommitted: a reason against a replay, too many replays,
+-- too late, or a replay.
 use Rattle.std.proofs.Common.{◌≡◌, ℕ, ◌+◌, ◌==◌, ◌<◌, ◌≤◌, ◌&&◌, Bool, true, false, List, [], ◌∷◌, ◌++◌, length, map, Option, Some, None, if◌then◌else◌, refl, sym, ap, ◌∙◌, arith, nat_le}
 use Rattle.std.specs.Prelude.{count_by, is_none, nat_lt, option_map, slice_get, unwrap_or}
 use Rattle.std.specs.Option.{option_or}
@@ -100,7 +101,8 @@ module _ (service : ServiceOf) (rules : Rules) (told : List Answer → List ℕ)
           omega arith
 
       -- THE LINES
-      -- of the reason, how many outcomes said uncommitted, the tick of the first submission, and the event of the loss
+      -- of the reason, how many outcomes said uncommitted, the tick of the first submission, and
+      -- the event of the loss
       abbrev lines : Option Reason → ℕ → Option ℕ → ℕ → Option Failure
       lines why count first event =
           option_or (disabled_if true why event)

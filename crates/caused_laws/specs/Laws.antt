@@ -19,8 +19,9 @@ shown_steps all = map (λ one. one.step) all
 abbrev pub submission_of : Terms → Request → List ToldStep → Submission
 submission_of terms request all = record { request = request; copy = report_of terms request (dones_of terms request (inputs_of all)) }
 
--- The judge comes to the end of a request with its last step, and finds it right. (A client tells how many tries in a row failed, the judge
--- how many may: these are one number where it is at least 1, as in each document.)
+-- The judge comes to the end of a request with its last step, and finds it right. (A client tells
+-- how many tries in a row failed, the judge how many may: these are one number where it is at least
+-- 1, as in each document.)
 abbrev pub JudgesConversation : Type 0
 JudgesConversation =
     (service : ServiceOf) (terms : Terms) (request : Request) (all : List ToldStep) (more : List Submission) (right : Bool)
@@ -44,7 +45,8 @@ JudgesClient =
     → AreTermsOf service terms → 1 ≤ service.retries → AreHeard terms submissions conversations
     → IsTrue (is_client_caused service submissions (flat_map shown_steps conversations))
 
--- Of these clients, the first of which has this number, each has conversations for all that it submitted, and its steps are theirs.
+-- Of these clients, the first of which has this number, each has conversations for all that it
+-- submitted, and its steps are theirs.
 abbrev pub ClientsAreHeard : Terms → ℕ → List Step → List (List Submission) → Type 0
 ClientsAreHeard terms client all [] = Unit {0}
 ClientsAreHeard terms client all (submissions ∷ more) =

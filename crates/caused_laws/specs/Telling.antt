@@ -29,7 +29,8 @@ pub record ToldStep : Type 0 where
   pub step : Step
   pub inputs : List Timed
 
--- A request up to a step: its steps that were shown before, the newest first, and all inputs that came before.
+-- A request up to a step: its steps that were shown before, the newest first, and all inputs that
+-- came before.
 pub record Before : Type 0 where
   pub steps : List Step
   pub inputs : List Timed
@@ -56,12 +57,13 @@ begun_with (one ∷ before) tick input = (input, tick) ∷ []
 
 -- FRAMES ------------------------------------------------------------------------------------------
 
--- So many frames were sent: those of the act, and Close where a connection that is given back is closed.
+-- So many frames were sent: those of the act, and Close where a connection that is given back is
+-- closed.
 abbrev pub SentBy : Act → ℕ → Type 0
 SentBy act sent = (sent ≡ length act.send) ⊎ ((act.hold ≡ GiveBack) × (sent ≡ length act.send + 1))
 
--- The connection of the identifier that is asked: the request held it before this step, and it was ended by the event that the request
--- knows of.
+-- The connection of the identifier that is asked: the request held it before this step, and it was
+-- ended by the event that the request knows of.
 pub record WasLost (heard : Account) (steps : List Step) (lost : Option Link) : Type 0 where
   pub link : Link
   pub is_link : lost ≡ Some link
@@ -82,8 +84,9 @@ loss_behind false event tick = []
 abbrev pub act_at : Terms → Request → List Timed → Timed → Act
 act_at terms request inputs one = (talk_step terms (talk_of terms request inputs) one.0 one.1).1
 
--- A step that takes a frame: the reply to an item that answers the last frame that was sent. The frame is one that a client expects there:
--- of no identifier that it asks for is it told that the server or the client is ahead.
+-- A step that takes a frame: the reply to an item that answers the last frame that was sent. The
+-- frame is one that a client expects there: of no identifier that it asks for is it told that the
+-- server or the client is ahead.
 pub record IsTaking (terms : Terms) (request : Request) (before : Before) (one : ToldStep) (sent : ℕ) : Type 0 where
   pub served : Served
   pub is_served : one.step.taken ≡ Some served
@@ -104,8 +107,8 @@ pub record Has (one : ToldStep) (inputs : List Timed) : Type 0 where
   pub inputs_are : one.inputs ≡ inputs
   pub takes_none : one.step.taken ≡ None
 
--- What a step tells, by its note. A request waits for a frame where one may come, and is too early where a try is wanted. A client that is
--- finished makes no step.
+-- What a step tells, by its note. A request waits for a frame where one may come, and is too early
+-- where a try is wanted. A client that is finished makes no step.
 abbrev pub TellsBy : Terms → Request → Before → ToldStep → GoNote → Type 0
 TellsBy terms request before one go.Idle = ⊥
 TellsBy terms request before one go.Wait = Has one (begun_with before.inputs one.step.tick Waiting)
@@ -137,8 +140,9 @@ nothing_before = record { steps = []; inputs = [] }
 abbrev pub inputs_of : List ToldStep → List Timed
 inputs_of all = flat_map (λ one. one.inputs) all
 
--- These are all steps of a request as they are shown: each input may come at its turn, and behind the last one the conversation is over.
--- (Before that it is not, since nothing may come behind its end.)
+-- These are all steps of a request as they are shown: each input may come at its turn, and behind
+-- the last one the conversation is over. (Before that it is not, since nothing may come behind its
+-- end.)
 pub record IsConversation (terms : Terms) (request : Request) (all : List ToldStep) : Type 0 where
   pub may : MayCome terms (first_talk request) false (inputs_of all)
   pub tell : AllTell terms request nothing_before all

@@ -1,5 +1,6 @@
--- More of what a client says at the inputs of whole runs, as in `Rows`: outcomes that are shown, losses
--- while an outcome is asked for, settings that are kept, and an identifier that is forgotten.
+-- More of what a client says at the inputs of whole runs, as in `Rows`: outcomes that are shown,
+-- losses while an outcome is asked for, settings that are kept, and an identifier that is
+-- forgotten.
 use Rattle.std.proofs.Common.{◌≡◌, true, false, List, [], ◌∷◌, map, Some, None, refl}
 use Rattle.svc_values.specs.declared.value.Value.TheVariants as value
 use Rattle.svc_values.specs.declared.statement.Statement.{Statement}

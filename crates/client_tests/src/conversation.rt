@@ -1,4 +1,5 @@
-//! Conversations as tables: a driver is given what comes, line by line, and does what the line says.
+//! Conversations as tables: a driver is given what comes, line by line, and does what the line
+//! says.
 ghost use Rattle.std.specs.Prelude.{◌≡◌, ◌≤◌, length};
 ghost use Rattle.std.specs.List.{AllByRecursion};
 ghost use Rattle.svc_values.specs.Calls.{IsMade};

@@ -1,4 +1,5 @@
-//! Tests of a client and of its pool: what no clause says, and conversations with a driver as tables.
+//! Tests of a client and of its pool: what no clause says, and conversations with a driver as
+//! tables.
 #![tactic(auto)]
 
 #[cfg(test)]

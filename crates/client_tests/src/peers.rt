@@ -28,8 +28,8 @@ const LOST_WHILE_IT_ASKS: Parts = &[
     ],
 ];
 
-/// The outcome was taken, so the identifier is that of the session that gave it, and a replay counts
-/// as started although nothing could be sent.
+/// The outcome was taken, so the identifier is that of the session that gave it, and a replay
+/// counts as started although nothing could be sent.
 const LOST_BEHIND_AN_OUTCOME: Parts = &[
     OPENED,
     &[(0, Gone(4), &[])],

@@ -1,5 +1,5 @@
-//! Two customers of a shop, each behind a driver of its own: one whose sale is lost in a cut, and one
-//! whose commit is stored in a crash.
+//! Two customers of a shop, each behind a driver of its own: one whose sale is lost in a cut, and
+//! one whose commit is stored in a crash.
 use crate::answers::Drawn;
 use crate::answers::Says::{Committed, DoneTwice, Item, Sale};
 use crate::conversation::Rule::Static;

@@ -1,4 +1,5 @@
--- Words that are not four are no command but the one that a single word names, and what a numeral is.
+-- Words that are not four are no command but the one that a single word names, and what a numeral
+-- is.
 use Rattle.std.proofs.Common.{◌≡◌, ◌∙◌, ℕ, ◌<◌, ◌^◌, ◌&&◌, Bool, true, false, nat_lt, List, [], ◌∷◌, length, Option, Some, None, Result, Ok, Err, String, refl, sym, ap, arith, rules, if◌then◌else◌}
 use Rattle.std.specs.declared.alloc.Global.{Global}
 use Rattle.std.specs.Char.{is_ascii_digit}

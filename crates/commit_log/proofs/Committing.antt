@@ -93,7 +93,8 @@ pub greater : (journal : Journal) (has_horizon : Bool) (horizon : ℕ) → (has_
 greater journal true horizon unset up = not_below journal.horizon horizon up
 greater journal false horizon unset up = let zero : journal.horizon ≡ 0 = unset refl in omega (arith, zero)
 
--- a book that has forgotten what is below a greater horizon, or below the first one, is one for the journal with it
+-- a book that has forgotten what is below a greater horizon, or below the first one, is one for the
+-- journal with it
 pub notes_horizon : (old new : Contents) (journal : Journal) (has_horizon : Bool) (horizon : ℕ) → IsBookFor old journal → (has_horizon ≡ false → journal.horizon ≡ 0) → rises journal has_horizon horizon ≡ true
     → sessions_in new ≡ after_forgetting (sessions_in old) horizon → IsBookFor new (with_record journal (kept.Horizon horizon))
 notes_horizon old new journal has_horizon horizon book_for unset up says = record {

@@ -1,4 +1,5 @@
--- Records judged one after the other: what each was, and what the journal was after the first of them.
+-- Records judged one after the other: what each was, and what the journal was after the first of
+-- them.
 use Rattle.std.proofs.Common.{◌≡◌, ℕ, ◌+◌, ◌^◌, ◌≤◌, ◌&&◌, ◌||◌, Bool, true, false, List, [], ◌∷◌, ◌++◌, length, map, Option, Some, None, refl, sym, ◌∙◌, ap, subst, arith, fold}
 use Rattle.std.specs.Prelude.{nat_le, nat_lt, Result, Ok, Err, option_and_then, if◌then◌else◌}
 use Rattle.std.proofs.lemmas.Bool.Decides.{nat_tests}

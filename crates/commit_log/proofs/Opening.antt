@@ -1,4 +1,5 @@
--- How an opening goes on from part to part: the records are read, the horizon is stored where it rises, and then the incarnation.
+-- How an opening goes on from part to part: the records are read, the horizon is stored where it
+-- rises, and then the incarnation.
 use Rattle.std.proofs.Common.{◌≡◌, ℕ, ◌+◌, ◌*◌, ◌^◌, ◌<◌, ◌≤◌, ◌&&◌, ◌||◌, List, [], ◌∷◌, ◌++◌, length, Option, refl, sym, ◌∙◌, ap, subst, arith}
 use Rattle.std.specs.Prelude.{Bool, true, false, not, max, nat_le, nat_lt, IsTrue, Result, Ok, if◌then◌else◌}
 use Rattle.std.proofs.lemmas.Bool.{le-leb, lt-ltb, ltb-false}

@@ -8,7 +8,8 @@ use Rattle.commit_log.specs.meaning.Rules.{with_record}
 use Rattle.commit_log.specs.Logs.{HasReadOn, Trails}
 use Rattle.commit_log.specs.Recorded.{recorded_of}
 
--- The log ends behind the first records of an image, and of the journal that these come to this is told.
+-- The log ends behind the first records of an image, and of the journal that these come to this is
+-- told.
 pub record HasTold (told : Recorded) (log : Log) (image : List ℕ) : Type 0 where
   pub is_opened : Bool
   pub has_horizon : Bool

@@ -12,7 +12,8 @@ use Rattle.commit_log.specs.meaning.Journals.{journal_of, so_far_of}
 use Rattle.commit_log.specs.Growth.{HasAdded, IsGrown}
 use Rattle.commit_log.specs.Logs.{GoesOnFrom, Trails}
 
--- the record may come next in the journal of the disk, in which the store was opened or not and has a horizon or not
+-- the record may come next in the journal of the disk, in which the store was opened or not and has
+-- a horizon or not
 abbrev pub MayAddTo : (is_opened has_horizon : Bool) → DiskState → Record → Type 0
 MayAddTo is_opened has_horizon disk new = (journal : Journal) → journal_of disk.now.seen ≡ Ok journal → IsTrue (may_come journal is_opened has_horizon new)
 
@@ -25,10 +26,12 @@ pub record AddsTo (is_opened has_horizon : Bool) (answer : Result (Unit {0}) Red
   pub added : OnOk answer (HasAdded old.now.seen (added_record ∷ []) new.now.seen)
   -- for want of memory there is none more
   pub refused : IsErrOf answer fault.NoMemory → HasAdded old.now.seen [] new.now.seen
-  -- A crash at any moment of the call leaves the old records, or these with this one last. That the same is so of the time
-  -- since it began, and of what a read gives when it has ended, is a law of `disk_model`.
+  -- A crash at any moment of the call leaves the old records, or these with this one last. That the
+  -- same is so of the time since it began, and of what a read gives when it has ended, is a law of
+  -- `disk_model`.
   pub any_moment : Meanwhile old new (IsGrown old.now.seen (added_record ∷ []))
-  -- after Ok and NoMemory the log goes on with its disk, where nothing is pending; after Stopped the store is to be opened again
+  -- after Ok and NoMemory the log goes on with its disk, where nothing is pending; after Stopped
+  -- the store is to be opened again
   pub goes_on : GoesOnFrom is_opened has_horizon added_record answer log new
   -- after Stopped it still knows where the old records end, in whatever a crash then leaves
   pub trails : IsErrOf answer fault.Stopped → (journal : Journal) → so_far_of old.now.seen ≡ Ok (Begun journal is_opened has_horizon) → (image : List ℕ) → MayLeave new.now image

@@ -1,5 +1,5 @@
--- The bytes of a base: a list of tables, each its name, its columns and its rows, and a list of sequences.
--- Here is what contracts and proofs say of it besides.
+-- The bytes of a base: a list of tables, each its name, its columns and its rows, and a list of
+-- sequences. Here is what contracts and proofs say of it besides.
 use Rattle.std.proofs.Common.{◌≡◌, refl, append_assoc}
 use Rattle.std.specs.Prelude.{ℕ, List, ◌++◌, Ok}
 use Rattle.canon_bytes.specs.meaning.Numbers.{spell_i64, spell_bool}

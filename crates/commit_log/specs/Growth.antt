@@ -18,8 +18,8 @@ abbrev pub with_payloads : List Record → Result (List (List ℕ)) ℕ → Resu
 with_payloads records (Err place) = Err place
 with_payloads records (Ok payloads) = Ok (payloads ++ map spell_record records)
 
--- The image has the records of the old one and behind them these, each of which is read back from its bytes, and so has
--- its journal.
+-- The image has the records of the old one and behind them these, each of which is read back from
+-- its bytes, and so has its journal.
 pub record HasAdded (old : List ℕ) (added : List Record) (image : List ℕ) : Type 0 where
   pub records : records_of image ≡ with_payloads added (records_of old)
   pub read : map (λ one. whole_record (spell_record one)) added ≡ map (λ one. Some one) added
@@ -45,7 +45,8 @@ abbrev pub opening_of : ℕ → Result SoFar ℕ → List Record
 opening_of horizon (Ok (Begun journal is_opened has_horizon)) = horizon_of horizon journal has_horizon ++ kept.Opened (journal.incarnation + 1) ∷ []
 opening_of horizon _ = []
 
--- the journal after an opening: the incarnation is the one after the last, and the horizon the greater one
+-- the journal after an opening: the incarnation is the one after the last, and the horizon the
+-- greater one
 abbrev pub with_opening : ℕ → Result Journal ℕ → Result Journal ℕ
 with_opening horizon (Err place) = Err place
 with_opening horizon (Ok journal) = Ok (record journal { incarnation = journal.incarnation + 1; horizon = max journal.horizon horizon })

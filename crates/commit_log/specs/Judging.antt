@@ -21,8 +21,8 @@ pub record IsBookFor (book : Contents) (journal : Journal) : Type 0 where
   pub sessions : sessions_in book ≡ sessions_of journal
   pub blocks : BlocksStand (map committed_of journal.entries) journal.blocked
 
--- its book is one for its journal, its shape is that of the base, it knows where each sequence's values end, and the horizon is 0
--- where none was stored
+-- its book is one for its journal, its shape is that of the base, it knows where each sequence's
+-- values end, and the horizon is 0 where none was stored
 pub record Keeps (judge : Judge) : Type 0 where
   pub book_for : IsBookFor judge.book judge.journal
   pub shape : judge.shape ≡ shape_of judge.journal.base

@@ -25,14 +25,16 @@ use Rattle.commit_log.specs.meaning.Journals.{whole_record, journal_of}
 abbrev pub ltxids_of : List Entry → SessionId → List Ltxid
 ltxids_of entries session = map (λ c. c.ltxid) (commits_of (map committed_of entries) session.incarnation session.session)
 
--- Entries and blocks of a store of these declarations, in which the last opening had this incarnation.
+-- Entries and blocks of a store of these declarations, in which the last opening had this
+-- incarnation.
 pub record AreCommits (schemas : List Schema) (incarnation : ℕ) (entries : List Entry) (blocked : List Ltxid) : Type 0 where
   -- no entry is of a later incarnation, and its writes fit the tables
   pub earlier : All (λ entry. entry.ltxid.incarnation ≤ incarnation) entries
   pub fitting : All (λ entry. IsTrue (writes_fit schemas entry.writes)) entries
   -- the entries of a session have the numbers 0, 1, 2 and so on, in order
   pub counted : (session : SessionId) → ltxids_of entries session ≡ map (ltxid_of session) (range_with_len 0 (length (ltxids_of entries session)))
-  -- each blocked identifier is its session's next one, so no entry has it, and it is blocked once; it may be of any incarnation
+  -- each blocked identifier is its session's next one, so no entry has it, and it is blocked once;
+  -- it may be of any incarnation
   pub standing : BlocksStand (map committed_of entries) blocked
   pub free : All (λ entry. is_blocked blocked entry.ltxid ≡ false) entries
   pub once : (x : Ltxid) → length (filter (λ block. same_ltxid block x) blocked) ≤ 1
@@ -41,7 +43,8 @@ pub record AreCommits (schemas : List Schema) (incarnation : ℕ) (entries : Lis
 abbrev pub ends_of : List Reservation → BaseSequence → List ℤ
 ends_of reserved sequence = map (λ reservation. reservation.upto) (filter (λ reservation. bytes_eq reservation.name sequence.name) reserved)
 
--- where so many reservations and one more end: 15 above its start ends the first, and each next one 16 higher
+-- where so many reservations and one more end: 15 above its start ends the first, and each next one
+-- 16 higher
 abbrev pub end_after : BaseSequence → ℕ → ℤ
 end_after sequence before = sequence.start +ℤ pos (16 * before + 15)
 
@@ -61,7 +64,8 @@ pub record KeepsJournal (image : List ℕ) (journal : Journal) : Type 0 where
   pub horizon : journal.horizon ≤ journal.incarnation + 1
   pub commits : AreCommits (schemas_of journal.base) journal.incarnation journal.entries journal.blocked
   pub reservations : AreReservations journal.base.sequences journal.reserved
-  -- A reservation takes more bytes than it adds values, so a sequence ends less above its start than the image has bytes.
+  -- A reservation takes more bytes than it adds values, so a sequence ends less above its start
+  -- than the image has bytes.
   pub within : All (λ sequence. IsTrue (int_lt (end_of journal.reserved sequence) (sequence.start +ℤ pos (length image)))) journal.base.sequences
 
 -- whatever image has a journal

@@ -31,8 +31,8 @@ AddsOn =
     (old : List ℕ) (records : List Record) (between : List ℕ) (more : List Record) (image : List ℕ)
     → HasAdded old records between → HasAdded between more image → HasAdded old (records ++ more) image
 
--- An image whose records lie between those of two stores, of which the second has these records more, has grown by some
--- of them.
+-- An image whose records lie between those of two stores, of which the second has these records
+-- more, has grown by some of them.
 abbrev pub FrontsAreGrown : Type 0
 FrontsAreGrown =
     (old image whole : List ℕ) (added : List Record) (journal : Journal) (first : List ℕ) (mine some more : List (List ℕ))

@@ -20,8 +20,8 @@ is_live log = is_live_store log.redo
 abbrev pub count_of : Log → ℕ
 count_of log = count_of_store log.redo
 
--- The log and the disk belong together: the store may be added to, its records are counted, and its journal has begun, in which
--- the store was opened or not, and has a horizon or not.
+-- The log and the disk belong together: the store may be added to, its records are counted, and its
+-- journal has begun, in which the store was opened or not, and has a horizon or not.
 pub record HasBegun (is_opened has_horizon : Bool) (log : Log) (disk : DiskState) : Type 0 where
   pub append : CanAppend log.redo disk
   pub journal : Journal
@@ -61,7 +61,8 @@ pub record HasReadOn (is_opened has_horizon : Bool) (journal : Journal) (one : R
 abbrev pub CanLog : Log → DiskState → Type 0
 CanLog = HasBegun true true
 
--- After an answer to the adding of a record the log goes on with its disk. But after Stopped it is not live; and no damage is told.
+-- After an answer to the adding of a record the log goes on with its disk. But after Stopped it is
+-- not live; and no damage is told.
 abbrev pub GoesOnFrom : (is_opened has_horizon : Bool) → Record → Result (Unit {0}) RedoFault → Log → DiskState → Type 0
 GoesOnFrom is_opened has_horizon added (Ok done) log disk = HasBegun (is_opened || is_opening added) (has_horizon || is_horizon added) log disk
 GoesOnFrom is_opened has_horizon added (Err NoMemory) log disk = HasBegun is_opened has_horizon log disk

@@ -53,8 +53,8 @@ fn keys_rise(rows: &[Row]) -> bool
     rows.is_sorted_by(|row, next| has_lower_key(row, next))
 }
 
-// Whether no two rows have one key: linear in rows in order of key, for which it takes no memory, and n log n for n rows
-// in another order.
+// Whether no two rows have one key: linear in rows in order of key, for which it takes no memory,
+// and n log n for n rows in another order.
 fn keys_differ(alloc: Global, rows: &[Row]) -> Result<bool, NoMemory>
     ensures { IfOk result (λ differ. differ ≡ keys_differ_def rows.now) }
 {

@@ -73,8 +73,8 @@ pub fn note(sequences: &[BaseSequence], ends: &mut [i64], reservation: &Reservat
 }
 
 impl Journal {
-    /// Where the values of the sequence end that were set aside: with its last reservation, or just before its start. Linear
-    /// in the reservations of the journal.
+    /// Where the values of the sequence end that were set aside: with its last reservation, or just
+    /// before its start. Linear in the reservations of the journal.
     pub fn end_of(&self, sequence: &BaseSequence) -> i64
         requires { IsTrue (is_sequence sequence.now) }
         ensures { result ≡ end_of self.now.reserved sequence.now }

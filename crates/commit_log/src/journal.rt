@@ -12,7 +12,8 @@ pub type Entries = Listed<Entry>;
 /// Identifiers that can commit no more, in the order in which they were blocked.
 pub type Ltxids = Listed<Ltxid>;
 
-/// A reservation: a part of a sequence that was set aside for an opening, the values up to and with `upto`.
+/// A reservation: a part of a sequence that was set aside for an opening, the values up to and with
+/// `upto`.
 #[derive(PartialEq, Eq, Drop)]
 pub struct Reservation {
     pub name: Name,
@@ -25,8 +26,9 @@ pub type Blocks = Listed<Reservation>;
 /// Lines of text, in the order in which they were stored.
 pub type Lines = Listed<Text>;
 
-/// What the records of a store say. `incarnation` is that of the last opening, and 0 where there was none. What became of
-/// the sessions of incarnations below `horizon` is forgotten; it is 0 where no record stores one.
+/// What the records of a store say. `incarnation` is that of the last opening, and 0 where there
+/// was none. What became of the sessions of incarnations below `horizon` is forgotten; it is 0
+/// where no record stores one.
 #[derive(PartialEq, Eq, Drop)]
 pub struct Journal {
     pub base: Base,

@@ -56,8 +56,9 @@ impl From<ListFault> for Misfit {
     }
 }
 
-// A journal under way. Beside it stands what judges the next record at once: the state of each session, the declarations
-// of the base, and for each of its sequences where the values end that were set aside.
+// A journal under way. Beside it stands what judges the next record at once: the state of each
+// session, the declarations of the base, and for each of its sequences where the values end that
+// were set aside.
 #[derive(Drop)]
 pub struct Judge {
     journal: Journal,
@@ -100,8 +101,8 @@ impl Judge {
         })
     }
 
-    // Judges one more record, and adds it. Beside the record's bytes it looks at its session, at the declarations and at
-    // the ends of the sequences alone.
+    // Judges one more record, and adds it. Beside the record's bytes it looks at its session, at
+    // the declarations and at the ends of the sequences alone.
     pub fn take(&mut self, alloc: Global, payload: &[u8]) -> Result<(), Misfit>
         requires { Keeps self.old }
         ensures taken { OnOk result (after_payload (so_far_in self.old) payload.now ≡ Some (so_far_in self.new)) }
@@ -190,7 +191,8 @@ impl Judge {
         Ok(())
     }
 
-    // Whether the reservation may be set aside next: linear in the sequences of the base, of which there are at most 32.
+    // Whether the reservation may be set aside next: linear in the sequences of the base, of which
+    // there are at most 32.
     #[tactic(auto, unfolding(crate::specs::meaning::Rules::may_reserve))]
     pub fn can_reserve(&self, reservation: &Reservation) -> bool
         requires { Keeps self.now }

@@ -17,9 +17,9 @@ pub fn has_its_journal()
     ensures { HasItsJournal }
 {}
 
-/// What a journal that was read keeps: whatever bytes were read, a service may go on from it. And each
-/// front of its records that has the base is the journal of an earlier time, with the same base and no
-/// higher incarnation.
+/// What a journal that was read keeps: whatever bytes were read, a service may go on from it. And
+/// each front of its records that has the base is the journal of an earlier time, with the same
+/// base and no higher incarnation.
 pub fn keeps_journal()
     ensures keeps { EachKeeps }
     ensures fronts { FrontsAreJournals }

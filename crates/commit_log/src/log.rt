@@ -64,24 +64,26 @@ impl Log {
     ghost use Rattle.commit_log.specs.Logs.{is_live, count_of, CanAdd, HasBegun, HasReadOn, IsBehind, IsBehindBase, Trails, CanLog};
     ghost use Rattle.commit_log.specs.InnerOpening.{HasRaised};
 
-    /// Whether a record may be added. After `Stopped` it may not, and the store is to be opened again.
+    /// Whether a record may be added. After `Stopped` it may not: the store is to be opened again.
     pub fn is_live(&self) -> bool
         ensures { result ≡ is_live self.now }
     {
         self.redo.is_live()
     }
 
-    /// How many records the store has. After `Stopped` that is the number before the call that was stopped.
+    /// How many records the store has. After `Stopped` that is the number before the call that was
+    /// stopped.
     pub fn count(&self) -> u64
         ensures { result ≡ count_of self.now }
     {
         self.redo.count()
     }
 
-    /// Makes a store with this base on an empty disk, in six device calls, and gives the log to go on with behind it.
+    /// Makes a store with this base on an empty disk, in six device calls, and gives the log to go
+    /// on with behind it.
     ///
-    /// The bytes of the base are made before the first of them. Nothing is claimed of a crash before it has answered
-    /// `Ok`. After `Stopped` the disk may hold any part of the store.
+    /// The bytes of the base are made before the first of them. Nothing is claimed of a crash
+    /// before it has answered `Ok`. After `Stopped` the disk may hold any part of the store.
     pub fn create<D: Disk>(alloc: Global, disk: &mut D, base: &Base) -> Result<Log, LogFault>
         requires empty { (D.state disk.old).now.seen ≡ [] }
         requires base { IsBase base.now }
@@ -94,7 +96,7 @@ impl Log {
         // For want of memory the disk is as it was, or holds a store without a record.
         ensures refused { IsErrOf result LogFault.NoMemory → (D.state disk.new ≡ D.state disk.old) ⊎ (records_of (D.state disk.new).now.seen ≡ Ok []) }
 
-        // It succeeds only with no stop or one of at least six; with either a quiet disk has no fault.
+        // It succeeds only with no stop or one of at least six; then a quiet disk has no fault.
         ensures stop { Lowers 6 result (D.state disk.old).stop (D.state disk.new).stop }
         ensures cause { Caused (IsErrOf result LogFault.Stopped) (D.state disk.old) (D.state disk.new) }
         ensures whole { (place : ℕ) → IsErrOf result (LogFault.Damaged place) → ⊥ }
@@ -110,8 +112,8 @@ impl Log {
 
     /// Reads the journal, and changes nothing.
     ///
-    /// Time and memory grow with the records, for each commit with the logarithm of the number of sessions, and for a
-    /// base of n rows with n log n.
+    /// Time and memory grow with the records, for each commit with the logarithm of the number of
+    /// sessions, and for a base of n rows with n log n.
     pub fn read<D: Disk>(alloc: Global, disk: &mut D) -> Result<Journal, LogFault>
         ensures journal { IfOk result (λ journal. journal_of (D.state disk.old).now.seen ≡ Ok journal) }
 
@@ -123,7 +125,8 @@ impl Log {
         Ok(judge.into_journal())
     }
 
-    /// Reads the journal and whether the store was opened before, at the cost of one `read`, and changes nothing.
+    /// Reads the journal and whether the store was opened before, at the cost of one `read`, and
+    /// changes nothing.
     pub fn look<D: Disk>(alloc: Global, disk: &mut D) -> Result<(Journal, bool), LogFault>
         ensures journal { IfOk result (λ found. journal_of (D.state disk.old).now.seen ≡ Ok found.0) }
         ensures opened { IfOk result (λ found. found.1 ≡ is_opened (so_far_of (D.state disk.old).now.seen)) }
@@ -137,7 +140,8 @@ impl Log {
         Ok((judge.into_journal(), is_opened))
     }
 
-    /// Reads the journal, and gives the log to go on with behind it, at the cost of one `read`. It changes nothing.
+    /// Reads the journal, and gives the log to go on with behind it, at the cost of one `read`. It
+    /// changes nothing.
     pub fn find<D: Disk>(alloc: Global, disk: &mut D) -> Result<Found, LogFault>
         ensures found { IfOk result (λ found. so_far_of (D.state disk.old).now.seen ≡ Ok (Begun found.journal found.is_opened found.has_horizon)) }
         ensures ready { IsSettled (D.state disk.old) → IfOk result (λ found. CanAdd found.log (D.state disk.new)) }
@@ -157,10 +161,11 @@ impl Log {
         })
     }
 
-    /// Reads the record behind those where the log ends, also behind a stop, and ends behind it then.
+    /// Reads the record behind those where the log ends, also behind a stop, and ends behind it
+    /// then.
     ///
-    /// With none more it is live, and goes on with the disk; before that nothing may be added. Time and memory grow with
-    /// the record alone.
+    /// With none more it is live, and goes on with the disk; before that nothing may be added. Time
+    /// and memory grow with the record alone.
     pub fn next<D: Disk>(&mut self, disk: &mut D) -> Result<Option<Record>, LogFault>
         requires { IsBehind self.old (D.state disk.old).now.seen }
         ensures next { (is_opened has_horizon : Bool) (journal : Held) → Trails is_opened has_horizon journal self.old (D.state disk.old).now.seen
@@ -185,8 +190,8 @@ impl Log {
         }
     }
 
-    // The log that ends behind the base of a store. The bytes of the base are read and thrown away, and none of its rows is
-    // made.
+    // The log that ends behind the base of a store. The bytes of the base are read and thrown away,
+    // and none of its rows is made.
     pub(crate) fn behind_base<D: Disk>(alloc: Global, disk: &mut D) -> Result<Log, LogFault>
         requires { (journal : Held) × (journal_of (D.state disk.old).now.seen ≡ Ok journal) }
         ensures behind { IfOk result (λ log. IsBehindBase log (D.state disk.old).now.seen) }
@@ -201,11 +206,12 @@ impl Log {
         })
     }
 
-    /// Opens the store: reads the journal, stores the horizon where it rises, and adds an opening with the next incarnation,
-    /// each in four device calls.
+    /// Opens the store: reads the journal, stores the horizon where it rises, and adds an opening
+    /// with the next incarnation, each in four device calls.
     ///
-    /// A store that has no horizon gets this one, whichever it is. The sessions of incarnations below the horizon are
-    /// forgotten for good. The journal is the one with the horizon and this opening. It costs what `read` does.
+    /// A store that has no horizon gets this one, whichever it is. The sessions of incarnations
+    /// below the horizon are forgotten for good. The journal is the one with the horizon and this
+    /// opening. It costs what `read` does.
     pub fn open<D: Disk>(
         alloc: Global,
         disk: &mut D,
@@ -214,26 +220,28 @@ impl Log {
         requires settled { IsSettled (D.state disk.old) }
         requires room { (journal : Held) → journal_of (D.state disk.old).now.seen ≡ Ok journal → (journal.incarnation < 2 ^ 63) × (horizon ≤ journal.incarnation + 1) }
 
-        // The records that the opening adds are there, and the journal and the log are those of the disk.
+        // The records that the opening adds are there, and the journal and the log are those of the
+        // disk.
         ensures added { IfOk result (λ _. HasAdded (D.state disk.old).now.seen (opening_of horizon (so_far_of (D.state disk.old).now.seen)) (D.state disk.new).now.seen) }
         ensures opened { IfOk result (λ opened. with_opening horizon (journal_of (D.state disk.old).now.seen) ≡ Ok opened.1) }
         ensures journal { IfOk result (λ opened. journal_of (D.state disk.new).now.seen ≡ Ok opened.1) }
         ensures ready { IfOk result (λ opened. CanLog opened.0 (D.state disk.new)) }
 
-        // A damaged store is not written, and the place is the first at which the bytes are no journal.
+        // A damaged store is not written, and the place is the first at which the bytes are no
+        // journal.
         ensures damaged { (place : ℕ) → IsErrOf result (LogFault.Damaged place) → journal_of (D.state disk.old).now.seen ≡ Err place }
         ensures unwritten { (place : ℕ) → journal_of (D.state disk.old).now.seen ≡ Err place → SameBytes (D.state disk.old) (D.state disk.new) }
 
         // For want of memory there is at most the horizon more, and nothing is pending.
         ensures refused { IsErrOf result LogFault.NoMemory → IsGrown (D.state disk.old).now.seen (first_of_opening horizon (so_far_of (D.state disk.old).now.seen)) (D.state disk.new).now.seen × IsSettled (D.state disk.new) }
 
-        // A crash at any moment of the call leaves the old records, or these with the horizon, if it is stored, or with
-        // all that the opening adds. That the same is so of the time since it began, and of what a read gives when it has
-        // ended, is `disk_model::laws::leaves`.
+        // A crash at any moment of the call leaves the old records, or these with the horizon, if
+        // it is stored, or with all that the opening adds. That the same is so of the time since it
+        // began, and of what a read gives when it has ended, is `disk_model::laws::leaves`.
         ensures any_moment { let old = (D.state disk.old).now.seen in Meanwhile (D.state disk.old) (D.state disk.new) (IsGrown old (opening_of horizon (so_far_of old))) }
 
-        // It succeeds only with no stop or one of at least four, or eight where the horizon is stored; with either a quiet
-        // disk has no fault.
+        // It succeeds only with no stop or one of at least four, or eight where the horizon is
+        // stored; with either a quiet disk has no fault.
         ensures stop { Lowers (4 * length (first_of_opening horizon (so_far_of (D.state disk.old).now.seen)) + 4) result (D.state disk.old).stop (D.state disk.new).stop }
         ensures cause { Caused (IsErrOf result LogFault.Stopped) (D.state disk.old) (D.state disk.new) }
     {
@@ -275,8 +283,8 @@ impl Log {
 
     /// Adds a committed transaction, in four device calls.
     ///
-    /// It takes the memory for the record before the first of them, in proportion to the entry alone. The caller sees to it
-    /// that the commit may come next in the journal of the disk.
+    /// It takes the memory for the record before the first of them, in proportion to the entry
+    /// alone. The caller sees to it that the commit may come next in the journal of the disk.
     pub fn commit<D: Disk>(&mut self, disk: &mut D, entry: &Entry) -> Result<(), LogFault>
         requires ready { CanLog self.old (D.state disk.old) }
         requires made { IsMadeEntry entry.now }
@@ -288,8 +296,8 @@ impl Log {
 
     /// Adds the block of an identifier, which can commit no more, in four device calls.
     ///
-    /// It takes the memory for the record before the first of them, 25 bytes. The caller sees to it that the identifier may
-    /// be blocked next in the journal of the disk.
+    /// It takes the memory for the record before the first of them, 25 bytes. The caller sees to it
+    /// that the identifier may be blocked next in the journal of the disk.
     pub fn block<D: Disk>(&mut self, disk: &mut D, x: &Ltxid) -> Result<(), LogFault>
         requires ready { CanLog self.old (D.state disk.old) }
         requires made { IsLtxid x.now }
@@ -299,10 +307,11 @@ impl Log {
         self.add(disk, Adding::Blocked(x))
     }
 
-    /// Adds a reservation of a sequence, whose values up to and with `upto` are set aside, in four device calls.
+    /// Adds a reservation of a sequence, whose values up to and with `upto` are set aside, in four
+    /// device calls.
     ///
-    /// It takes the memory for the record before the first of them, in proportion to the name alone. The caller sees to it
-    /// that the reservation may come next in the journal of the disk.
+    /// It takes the memory for the record before the first of them, in proportion to the name
+    /// alone. The caller sees to it that the reservation may come next in the journal of the disk.
     pub fn reserve<D: Disk>(&mut self, disk: &mut D, name: &Name, upto: i64) -> Result<(), LogFault>
         requires ready { CanLog self.old (D.state disk.old) }
         requires may { MayAdd (D.state disk.old) (kept.Reserved (record { name = name.now; upto = upto })) }
@@ -313,7 +322,8 @@ impl Log {
 
     /// Adds a line of text, in four device calls.
     ///
-    /// It takes the memory for the record before the first of them, in proportion to the line alone.
+    /// It takes the memory for the record before the first of them, in proportion to the line
+    /// alone.
     pub fn alert<D: Disk>(&mut self, disk: &mut D, line: &Text) -> Result<(), LogFault>
         requires ready { CanLog self.old (D.state disk.old) }
         requires may { MayAdd (D.state disk.old) (kept.Alert line.now) }
@@ -322,11 +332,11 @@ impl Log {
         self.add(disk, Adding::Alert(line))
     }
 
-    /// Adds a horizon, in four device calls: the sessions of incarnations below it are forgotten for good. The store need not
-    /// have been opened before.
+    /// Adds a horizon, in four device calls: the sessions of incarnations below it are forgotten
+    /// for good. The store need not have been opened before.
     ///
-    /// It takes the memory for the record before the first of them, 17 bytes. The caller sees to it that the horizon may come
-    /// next in the journal of the disk.
+    /// It takes the memory for the record before the first of them, 17 bytes. The caller sees to it
+    /// that the horizon may come next in the journal of the disk.
     pub fn forget<D: Disk>(&mut self, disk: &mut D, horizon: u64) -> Result<(), LogFault>
         requires { CanAdd self.old (D.state disk.old) }
         ensures { (is_opened has_horizon : Bool) → HasBegun is_opened has_horizon self.old (D.state disk.old) → MayAddTo is_opened has_horizon (D.state disk.old) (kept.Horizon horizon)
@@ -335,10 +345,11 @@ impl Log {
         self.extend(disk, Adding::Horizon(horizon))
     }
 
-    /// Adds an opening with this incarnation, in four device calls. The store need not have been opened before.
+    /// Adds an opening with this incarnation, in four device calls. The store need not have been
+    /// opened before.
     ///
-    /// It takes the memory for the record before the first of them, 17 bytes. The caller sees to it that the opening may come
-    /// next in the journal of the disk.
+    /// It takes the memory for the record before the first of them, 17 bytes. The caller sees to it
+    /// that the opening may come next in the journal of the disk.
     pub fn begin<D: Disk>(&mut self, disk: &mut D, incarnation: u64) -> Result<(), LogFault>
         requires { CanAdd self.old (D.state disk.old) }
         ensures { (is_opened has_horizon : Bool) → HasBegun is_opened has_horizon self.old (D.state disk.old) → MayAddTo is_opened has_horizon (D.state disk.old) (kept.Opened incarnation)
@@ -357,8 +368,8 @@ impl Log {
         self.extend(disk, adding)
     }
 
-    // Adds a record. What it says is said of one that may come next in the journal of the disk, in which the store was
-    // opened or not, and has a horizon or not.
+    // Adds a record. What it says is said of one that may come next in the journal of the disk, in
+    // which the store was opened or not, and has a horizon or not.
     fn extend<D: Disk>(&mut self, disk: &mut D, adding: Adding) -> Result<(), LogFault>
         requires ready { CanAppend self.old.redo (D.state disk.old) }
         requires made { IsMadeRecord (record_in adding) }

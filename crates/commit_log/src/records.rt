@@ -12,8 +12,9 @@ use canon_bytes::{Fault, Put, PutMade, ReadFault, Take};
 use std::alloc::Global;
 use svc_values::{Entry, Ltxid, Name, NoMemory, Text};
 
-/// A record of a journal: the base, an opening with its incarnation, a committed transaction, an identifier that can
-/// commit no more, a reservation of a sequence, a line of text, or the incarnation below which sessions are forgotten.
+/// A record of a journal: the base, an opening with its incarnation, a committed transaction, an
+/// identifier that can commit no more, a reservation of a sequence, a line of text, or the
+/// incarnation below which sessions are forgotten.
 #[derive(PartialEq, Eq, Drop)]
 pub enum Record {
     Base(Base),
@@ -113,7 +114,8 @@ pub fn record_of(alloc: Global, payload: &[u8]) -> Result<Option<Record>, NoMemo
     }
 }
 
-// Writes the spelling of a reservation at the end. After want of memory a part of it may stand there.
+// Writes the spelling of a reservation at the end. After want of memory a part of it may stand
+// there.
 #[tactic(auto, unfolding(crate::specs::RecordBytes::spell_reservation))]
 fn put_reservation(name: &Name, upto: i64, out: &mut Vec<u8>) -> Result<(), NoMemory>
     ensures written { OnOk result (out.new.items ≡ out.old.items ++ spell_reservation (record { name = name.now; upto = upto })) }

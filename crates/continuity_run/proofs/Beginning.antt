@@ -1,4 +1,5 @@
--- A document that was read can be run over the store that it begins with, and over two that begin alike.
+-- A document that was read can be run over the store that it begins with, and over two that begin
+-- alike.
 use Rattle.std.proofs.Common.{◌≡◌, ◌∙◌, refl, sym, ap, subst, ℕ, ◌≤◌, ◌^◌, true, false, List, Ok, if◌then◌else◌, arith}
 use Rattle.std.specs.Prelude.{Bool, ◌&&◌}
 use Rattle.disk_model.specs.Disk.{DiskState, IsSettled, new_disk}

@@ -23,7 +23,8 @@ use Rattle.service_core.specs.Within.{Within}
 use Rattle.standby_ship.specs.Seeing.{SeesPair, bytes_in as bytes_in_pair}
 use Rattle.standby_ship.specs.Twins.{Twin}
 
--- The journal has what the service began with, and behind it what a run of the plain server has gained.
+-- The journal has what the service began with, and behind it what a run of the plain server has
+-- gained.
 pub record HasGained (start : Base) (history : List Happened) (journal : Journal) : Type 0 where
   pub server : Server
   pub runs : Runs start history server

@@ -170,7 +170,8 @@ module _ {S : Type 0} (sees : S → Seen → Type 0) (document : Document) (ran 
     image = off.image;
   }
 
--- The report that is read off the store of a run says what the headline says, where what is seen of the service says what its store holds.
+-- The report that is read off the store of a run says what the headline says, where what is seen of
+-- the service says what its store holds.
 pub headline_of : {S : Type 0} (sees : S → Seen → Type 0) (bytes : S → List ℕ) → ((service : S) (seen : Seen) (journal : Journal) → sees service seen → journal_of (bytes service) ≡ Ok journal → EndsIn seen journal)
     → (first : List ℕ) (document : Document) (before : Before) (report : Report) → IsReportOf sees bytes first before document.print_image document report → Counts (journal_before document) before → journal_of first ≡ Ok (journal_before document)
     → RunsHold → all_requests_right document ≡ true → 1 ≤ document.service.retries → Headline document report

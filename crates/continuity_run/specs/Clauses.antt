@@ -26,7 +26,8 @@ pub record IsAnsweredInPart (one : Telling)
   pub answer : IsAnswer one bytes text
   pub wrote : AppendsFront held_before held_after text
 
--- what was read is a document and a report of it, of which each clause holds, and the sink took a front of `yes` and a line feed
+-- what was read is a document and a report of it, of which each clause holds, and the sink took a
+-- front of `yes` and a line feed
 pub record IsCheckedInPart (left_before left_after held_before held_after : Option (List ℕ)) : Type 0 where
   pub bytes : List ℕ
   pub read : IsRead check_limit pair_at left_before left_after bytes
@@ -51,7 +52,8 @@ pub record HasFault {A : Type 0} (most : ℕ) (reads : List ℕ → Result A Fau
   pub read : IsRead most reads left_before left_after bytes
   pub refused : reads bytes ≡ Err fault
 
--- what a command read is no document, and for `check` no document with a report of it; a load reads nothing
+-- what a command read is no document, and for `check` no document with a report of it; a load reads
+-- nothing
 abbrev pub IsRefused : Command → Option (List ℕ) → Option (List ℕ) → Fault → Type 0
 IsRefused command.Run left_before left_after fault = HasFault limit document_at left_before left_after fault
 IsRefused command.Cover left_before left_after fault = HasFault limit document_at left_before left_after fault
@@ -95,7 +97,8 @@ IsReply (status.No one path) = ⊥
 IsReply (status.Undecided path) = ⊥
 IsReply _ = Unit {0}
 
--- nothing but the sink may be at fault: neither the words, nor the source, nor a document or its report
+-- nothing but the sink may be at fault: neither the words, nor the source, nor a document or its
+-- report
 abbrev pub EndsAtSink : Status → Type 0
 EndsAtSink status.Done = Unit {0}
 EndsAtSink status.NoMemory = Unit {0}

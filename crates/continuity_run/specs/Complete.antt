@@ -37,7 +37,8 @@ abbrev pub IsUndecided : Status → Type 0
 IsUndecided (status.Undecided path) = Unit {0}
 IsUndecided _ = ⊥
 
--- The command ended with its answer, or for want of memory. A report that was judged may be denied or undecided.
+-- The command ended with its answer, or for want of memory. A report that was judged may be denied
+-- or undecided.
 abbrev pub HasAnswered : Command → Status → Type 0
 HasAnswered command.Check end = (end ≡ status.Done) ⊎ ((end ≡ status.NoMemory) ⊎ (IsNo end ⊎ IsUndecided end))
 HasAnswered _ end = (end ≡ status.Done) ⊎ (end ≡ status.NoMemory)

@@ -15,7 +15,8 @@ use Rattle.continuity_run.specs.declared.store.Before.{Before}
 use Rattle.continuity_run.specs.meaning.Headline.{image_if}
 use Rattle.world_run.specs.declared.world.Ran.{Ran}
 
--- So many calls more may be made on the service, and none of them is stopped: nothing but a stop makes its disk fail, and none is set.
+-- So many calls more may be made on the service, and none of them is stopped: nothing but a stop
+-- makes its disk fail, and none is set.
 pub record MayBeRead (sees : Seen → Type 0) (calls : ℕ) : Type 0 where
   pub seen : Seen
   pub seen_so : sees seen
@@ -28,8 +29,9 @@ pub record MayBeRead (sees : Seen → Type 0) (calls : ℕ) : Type 0 where
 abbrev pub printed_by : List PlainRow → Schema → ReportTable
 printed_by tables schema = record { name = schema.name; rows = map (λ one. one.row) (rows_at tables (place.Table schema.name)) }
 
--- The store of a run that is over has these bytes. The report has what their journal has more than stood there before event 1, the horizon,
--- and the tables after the last entry; what the events did, what was served, and what clients were shown are those of the run.
+-- The store of a run that is over has these bytes. The report has what their journal has more than
+-- stood there before event 1, the horizon, and the tables after the last entry; what the events
+-- did, what was served, and what clients were shown are those of the run.
 pub record IsReadOff {S : Type 0} (bytes : List ℕ) (before : Before) (print_image : Bool) (ran : Ran S) (report : Report) : Type 0 where
   pub journal : Journal
   pub reads : journal_of bytes ≡ Ok journal

@@ -30,8 +30,9 @@ pub record IsUntroubled (disk : DiskState) : Type 0 where
   pub unstopped : disk.stop ≡ None
   pub quiet : disk.quiet ≡ true
 
--- The store of an image, and else a new one of the base. Nothing is pending on its disk, of which no call fails; what a read gives is the
--- journal that stands before event 1, and is what was found of it.
+-- The store of an image, and else a new one of the base. Nothing is pending on its disk, of which
+-- no call fails; what a read gives is the journal that stands before event 1, and is what was found
+-- of it.
 pub record IsStoreOf (base : Base) (image : Option (List ℕ)) (store : Store) : Type 0 where
   pub settled : IsSettled (mem_state store.disk)
   pub untroubled : IsUntroubled (mem_state store.disk)

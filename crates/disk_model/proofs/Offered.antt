@@ -1,7 +1,7 @@
 -- Lemmas on this crate's words that the crates above cite.
 
--- how what a crash may have left goes on: over a call that leaves the bytes alone, one run after another, and to what is
--- said in the words of the layer above
+-- how what a crash may have left goes on: over a call that leaves the bytes alone, one run after
+-- another, and to what is said in the words of the layer above
 pub use Rattle.disk_model.proofs.Moments.{stays, then, weaker}
 -- what a crash leaves that comes in a run, or behind it
 pub use Rattle.disk_model.proofs.Moments.{since, crash_now}

@@ -17,7 +17,8 @@ pub record DiskState : Type 0 where
   -- the pick of its last crash
   pub pick : Option ℕ
 
--- a disk that was just made with these bytes: all of them durable, with no fault, no stop and no crash
+-- a disk that was just made with these bytes: all of them durable, with no fault, no stop and no
+-- crash
 abbrev pub new_disk : List ℕ → DiskState
 new_disk bytes = record {
   past = [];
@@ -40,8 +41,8 @@ moment s = length s.past
 abbrev pub LeftSince : DiskState → ℕ → List ℕ → Type 0
 LeftSince s t image = AnyMayLeave (drop t (history s)) image
 
--- From old to new, time has only gone on: each moment of old is a moment of new. What a crash at a moment after old may
--- leave, up to new, has the property P.
+-- From old to new, time has only gone on: each moment of old is a moment of new. What a crash at a
+-- moment after old may leave, up to new, has the property P.
 pub record Meanwhile (old new : DiskState) (P : List ℕ → Type 0) : Type 0 where
   pub added : List DiskMoment
   pub grows : history new ≡ history old ++ added
@@ -75,7 +76,8 @@ LoweredByLess n (Some before) (Some after) = (after ≤ before) × (before < aft
 LoweredByLess n None (Some after) = ⊥
 LoweredByLess n (Some before) None = ⊥
 
--- what a call of n writes and syncs says of the stop: where it succeeds it lowers it by n, and else by less
+-- what a call of n writes and syncs says of the stop: where it succeeds it lowers it by n, and else
+-- by less
 abbrev pub Lowers : {T E : Type 0} → ℕ → Result T E → Option ℕ → Option ℕ → Type 0
 Lowers n (Ok value) before after = Lowered n before after
 Lowers n (Err error) before after = LoweredByLess n before after

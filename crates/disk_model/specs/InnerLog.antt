@@ -4,7 +4,8 @@ use Rattle.std.proofs.Props.{props}
 use Rattle.disk_model.specs.declared.kept.KeptWrite.{KeptWrite}
 use Rattle.disk_model.specs.Log.{bytes_before, first_bytes}
 
--- a write within the bytes after it, which kept what it covered: less than its length only where it ended past the end
+-- a write within the bytes after it, which kept what it covered: less than its length only where it
+-- ended past the end
 pub record Covers (w : KeptWrite) (after : List ℕ) : Type 0 where
   pub within : w.at + w.len ≤ length after
   pub covered : length w.covered.items ≤ w.len

@@ -1,4 +1,5 @@
--- The moments that a disk in memory stands for, by what it keeps of its writes. A log has its first write first.
+-- The moments that a disk in memory stands for, by what it keeps of its writes. A log has its first
+-- write first.
 use Rattle.std.specs.Prelude.{ℕ, ◌+◌, Bool, true, false, if◌then◌else◌, List, [], ◌∷◌, ◌++◌, take, drop}
 use Rattle.disk_model.specs.declared.kept.KeptWrite.{KeptWrite}
 use Rattle.disk_model.specs.Moment.{DiskMoment}
@@ -12,7 +13,8 @@ abbrev pub first_bytes : List KeptWrite → List ℕ → List ℕ
 first_bytes [] bytes = bytes
 first_bytes (w ∷ log) bytes = bytes_before w (first_bytes log bytes)
 
--- what was synced last once a write was made, where `synced` was before it and `after` stood behind it
+-- what was synced last once a write was made, where `synced` was before it and `after` stood behind
+-- it
 abbrev pub synced_after : KeptWrite → List ℕ → List ℕ → List ℕ
 synced_after w synced after = if w.synced then after else synced
 

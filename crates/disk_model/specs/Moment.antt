@@ -16,7 +16,8 @@ InRanges [] offset = ⊥
 InRanges (range ∷ ranges) offset = ((range.0 ≤ offset) × (offset < range.0 + range.1)) ⊎ InRanges ranges offset
 
 -- A crash leaves an image whose size lies between that at the last sync and that now.
--- Its bytes are those at that sync outside the ranges written since. In these, and past the old end, it has any bytes.
+-- Its bytes are those at that sync outside the ranges written since. In these, and past the old
+-- end, it has any bytes.
 pub record MayLeave (m : DiskMoment) (image : List ℕ) : Type 0 where
   pub no_shorter : length m.synced ≤ length image
   pub no_longer : length image ≤ length m.seen
@@ -35,8 +36,8 @@ with_bytes at bytes old = take at old ++ bytes ++ drop (at + length bytes) old
 abbrev pub next_moment : ℕ → ℕ → List ℕ → DiskMoment → DiskMoment
 next_moment at n seen m = record { seen = seen; synced = m.synced; written = (at, n) ∷ m.written }
 
--- A write of n bytes at this offset that was done in part, or lost in part, left `new` of `old`: any bytes in the range
--- and past the old end, and the same elsewhere.
+-- A write of n bytes at this offset that was done in part, or lost in part, left `new` of `old`:
+-- any bytes in the range and past the old end, and the same elsewhere.
 pub record Torn (at n : ℕ) (old new : List ℕ) : Type 0 where
   pub no_shorter : length old ≤ length new
   pub no_longer : length new ≤ max (length old) (at + n)

@@ -18,8 +18,8 @@ pub enum DiskFault {
 
 /// A disk: bytes that are read at once, and become durable by a sync.
 pub trait Disk {
-    /// What the disk holds, what a crash may leave of it now and may have left at each moment before, how often it
-    /// failed, and the stop that is set.
+    /// What the disk holds, what a crash may leave of it now and may have left at each moment
+    /// before, how often it failed, and the stop that is set.
     ghost state: { Self → DiskState };
 
     /// How many bytes the disk has.
@@ -43,7 +43,8 @@ pub trait Disk {
         ensures written { OnOk result ((state self.new).now
             ≡ next_moment at (length bytes.now) (with_bytes at bytes.now (state self.old).now.seen) (state self.old).now) }
 
-        // For want of memory nothing changes; a write that failed may have changed any bytes of its range.
+        // For want of memory nothing changes; a write that failed may have changed any bytes of its
+        // range.
         ensures refused { IsErrOf result DiskFault.NoMemory → state self.new ≡ state self.old }
         ensures torn { OnErr result (Torn at (length bytes.now) (state self.old).now.seen (state self.new).now.seen) }
 
@@ -52,7 +53,8 @@ pub trait Disk {
             → MayLeave (next_moment at (length bytes.now) (state self.new).now.seen (state self.old).now) image }
         ensures time { Meanwhile (state self.old) (state self.new) (MayLeave (state self.new).now) }
 
-        // Where it succeeds it lowers a set stop by one, and else it leaves it. At the stop 0 it fails.
+        // Where it succeeds it lowers a set stop by one, and else it leaves it. At the stop 0 it
+        // fails.
         ensures stop { Lowers 1 result (state self.old).stop (state self.new).stop }
         ensures stopped { (state self.old).stop ≡ Some 0 → IsErrOf result DiskFault.Failed }
         ensures cause { Caused (IsErrOf result DiskFault.Failed) (state self.old) (state self.new) };
@@ -67,7 +69,8 @@ pub trait Disk {
         ensures crash { OnErr result ((image : List ℕ) → MayLeave (state self.new).now image → MayLeave (state self.old).now image) }
         ensures time { Meanwhile (state self.old) (state self.new) (MayLeave (state self.new).now) }
 
-        // Where it succeeds it lowers a set stop by one, and else it leaves it. At the stop 0 it fails.
+        // Where it succeeds it lowers a set stop by one, and else it leaves it. At the stop 0 it
+        // fails.
         ensures stop { Lowers 1 result (state self.old).stop (state self.new).stop }
         ensures stopped { (state self.old).stop ≡ Some 0 → IsErrOf result DiskFault.Failed }
         ensures cause { Caused (IsErrOf result DiskFault.Failed) (state self.old) (state self.new) };

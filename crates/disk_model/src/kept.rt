@@ -1,4 +1,5 @@
-//! The writes that a disk in memory keeps, each with the bytes that it covered, so that it can be undone.
+//! The writes that a disk in memory keeps, each with the bytes that it covered, so that it can be
+//! undone.
 ghost use Rattle.std.specs.Prelude.{◌≡◌, ◌+◌, ◌-◌, ◌%◌, ◌^◌, ◌≤◌, ◌<◌, ℕ, length, OnOk, OnErr, slice_index};
 ghost use Rattle.disk_model.specs.Moment.{with_bytes};
 ghost use Rattle.disk_model.specs.Log.{bytes_before};

@@ -1,8 +1,10 @@
-//! A disk that may fail, stop and crash: the trait [`Disk`] with all that its users may rely on, the trait
-//! [`StopDisk`] for a disk that can be stopped and crashed on purpose, and [`MemDisk`], one in memory.
+//! A disk that may fail, stop and crash: the trait [`Disk`] with all that its users may rely on,
+//! the trait [`StopDisk`] for a disk that can be stopped and crashed on purpose, and [`MemDisk`],
+//! one in memory.
 //!
-//! A disk is honest about one thing: after a sync that succeeds a crash leaves what a read gives. Until then each
-//! range that was written, and the part past the old end, may hold any bytes after a crash.
+//! A disk is honest about one thing: after a sync that succeeds a crash leaves what a read gives.
+//! Until then each range that was written, and the part past the old end, may hold any bytes after
+//! a crash.
 #![tactic(auto)]
 
 mod crash;

@@ -1,4 +1,5 @@
-//! A disk in memory. It keeps what each write covered, so that each moment since it was made can be read off it.
+//! A disk in memory. It keeps what each write covered, so that each moment since it was made can be
+//! read off it.
 ghost use Rattle.std.specs.Prelude.{◌≡◌, ◌+◌, ◌-◌, ◌^◌, ◌<◌, ◌≤◌, ◌⊎◌, ◌↔◌, List, [], ℕ, Some, None, length, take, drop, min, OnOk, OnErr, IfOk, IsErrOf, IsTrue, IsFalse, Contains};
 ghost use Rattle.disk_model.specs.Moment.{MayLeave, Torn, with_bytes, next_moment};
 ghost use Rattle.disk_model.specs.Disk.{Lowered, Lowers, IsSettled, SameBytes, Meanwhile, Caused, OnlyReads, new_disk, with_fault};
@@ -15,8 +16,9 @@ const MAX_SIZE: usize = 1 << 62;
 
 /// A disk in memory, which fails and crashes as it is told to.
 ///
-/// A call that fails changes nothing. Beside its bytes it keeps each write since it was made or last crashed, with
-/// what the write covered, so its memory grows with the bytes written; a crash gives that memory back.
+/// A call that fails changes nothing. Beside its bytes it keeps each write since it was made or
+/// last crashed, with what the write covered, so its memory grows with the bytes written; a crash
+/// gives that memory back.
 #[derive(Drop)]
 pub struct MemDisk {
     alloc: Global,
@@ -85,8 +87,8 @@ impl MemDisk {
         }
     }
 
-    /// Makes the calls of `read`, `write_at` and `sync` with these numbers fail, in place of those that a call of
-    /// `fail` named before. The first such call of the disk has the number 1.
+    /// Makes the calls of `read`, `write_at` and `sync` with these numbers fail, in place of those
+    /// that a call of `fail` named before. The first such call of the disk has the number 1.
     pub fn fail(&mut self, calls: &[u64]) -> Result<(), AllocError>
         ensures failing { OnOk result (mem_state self.new ≡ record (mem_state self.old) { quiet = is_nil calls.now }) }
         ensures numbers { OnOk result (failing_of self.new ≡ calls.now) }
@@ -175,8 +177,8 @@ impl Disk for MemDisk {
         Ok(())
     }
 
-    /// As `Disk` says; and where it is refused nothing changes but the counts of calls and faults. It fails exactly
-    /// where its stop is reached or its number is to fail.
+    /// As `Disk` says; and where it is refused nothing changes but the counts of calls and faults.
+    /// It fails exactly where its stop is reached or its number is to fail.
     fn write_at(&mut self, at: u64, bytes: &[u8]) -> Result<(), DiskFault>
         requires { at ≤ length (mem_state self.old).now.seen }
         ensures written { OnOk result ((mem_state self.new).now
@@ -207,8 +209,8 @@ impl Disk for MemDisk {
         Ok(())
     }
 
-    /// As `Disk` says; and where it fails nothing changes but the counts of calls and faults. It fails exactly where
-    /// its stop is reached or its number is to fail. It takes no memory.
+    /// As `Disk` says; and where it fails nothing changes but the counts of calls and faults. It
+    /// fails exactly where its stop is reached or its number is to fail. It takes no memory.
     fn sync(&mut self) -> Result<(), DiskFault>
         ensures durable { OnOk result (IsSettled (mem_state self.new)) }
         ensures seen { (mem_state self.new).now.seen ≡ (mem_state self.old).now.seen }
@@ -249,7 +251,8 @@ impl StopDisk for MemDisk {
     ///
     /// - 0: what a read gives;
     /// - 1: what a read gave at the last sync, with the size of then;
-    /// - 2: the size now; a written byte is new at an even offset, and at an odd one it is that of the last sync, or
+    /// - 2: the size now; a written byte is new at an even offset, and at an odd one it is that of
+    /// the last sync, or
     ///   0 past the end of then;
     /// - 3: the size now; each written byte is 255.
     ///

@@ -165,8 +165,8 @@ const MEMBERS: [&str; 7] = [
     "schedule",
 ];
 
-/// The document of a JSON value, or the first fault and its place. How many bytes the value was read
-/// from is no matter. The cost is that of `read_document`.
+/// The document of a JSON value, or the first fault and its place. How many bytes the value was
+/// read from is no matter. The cost is that of `read_document`.
 #[tactic(auto, unfolding(crate::specs::meaning::Documents::document_of), using(crate::proofs::Parts::parts_stay))]
 pub fn document_from(alloc: Global, value: Json) -> Result<Document, DocFault>
     ensures read { Gives result (document_of (view value)) }
@@ -179,12 +179,12 @@ pub fn document_from(alloc: Global, value: Json) -> Result<Document, DocFault>
     rest_from(alloc, schedule, clients, begin)
 }
 
-/// The document that the bytes spell as JSON (RFC 8259), of at most 8 MiB, or the first fault and its
-/// place. Its tables, clients and events are read one after the other, so that no more than one of them
-/// stands as a JSON value, but where there is a fault, or a number that is no integer of 64 bits or is `-0`:
-/// then the whole value stands there first. The cost is linear in the number of bytes, but for the n log n
-/// comparisons of the keys of a table whose n rows do not stand in rising order of key, and of the names of
-/// a list of n names in no such order.
+/// The document that the bytes spell as JSON (RFC 8259), of at most 8 MiB, or the first fault and
+/// its place. Its tables, clients and events are read one after the other, so that no more than one
+/// of them stands as a JSON value, but where there is a fault, or a number that is no integer of 64
+/// bits or is `-0`: then the whole value stands there first. The cost is linear in the number of
+/// bytes, but for the n log n comparisons of the keys of a table whose n rows do not stand in
+/// rising order of key, and of the names of a list of n names in no such order.
 pub fn read_document(alloc: Global, bytes: &[u8]) -> Result<Document, DocFault>
     ensures read { Gives result (document_at bytes.now) }
     ensures document { IfOk result IsDocument }

@@ -132,8 +132,8 @@ fn members_ahead(alloc: Global, tokens: &mut Reader<'_>, depth: usize) -> Option
     Some(ahead)
 }
 
-/// What a run begins with, among members of which the tables were read before. An image beside them is at
-/// fault.
+/// What a run begins with, among members of which the tables were read before. An image beside them
+/// is at fault.
 fn begin_with(alloc: Global, others: &mut Members, tables: Option<DocTables>) -> Option<Begin>
     ensures { IfSome result (λ begin. (ms : Named) → members_at others.old ≡ held_back ms
         → option_map tables_of (ms (codes "tables")) ≡ option_map (λ ts. Ok ts) tables → begin_of ms ≡ Ok begin) }
@@ -172,10 +172,11 @@ fn joined(alloc: Global, ahead: Ahead) -> Option<Document>
     small(alloc, document_with(begin, clients, events)).ok()
 }
 
-/// The document that the tokens begin with, nested no deeper than `depth`. Its tables, clients and events
-/// are read one after the other, so that no more than one of them stands as a JSON value. There is none
-/// where there is a fault, and in the forms that are read otherwise: `read_document` says which. How many
-/// bytes the tokens were read from is no matter. The cost is that of `read_document`.
+/// The document that the tokens begin with, nested no deeper than `depth`. Its tables, clients and
+/// events are read one after the other, so that no more than one of them stands as a JSON value.
+/// There is none where there is a fault, and in the forms that are read otherwise: `read_document`
+/// says which. How many bytes the tokens were read from is no matter. The cost is that of
+/// `read_document`.
 pub fn document_ahead(alloc: Global, tokens: &mut Reader<'_>, depth: usize) -> Option<Document>
     ensures read { IfSome result
         (λ document. Begins document_of depth tokens.old document tokens.new) }
@@ -200,8 +201,9 @@ fn text_ahead(alloc: Global, text: &str) -> Option<Document>
     Some(document)
 }
 
-/// The document that the bytes spell, whose tables, clients and events are read one after the other. There is
-/// none where there is a fault, and in the forms that are read otherwise: `read_document` says which.
+/// The document that the bytes spell, whose tables, clients and events are read one after the
+/// other. There is none where there is a fault, and in the forms that are read otherwise:
+/// `read_document` says which.
 pub(crate) fn streamed(alloc: Global, bytes: &[u8]) -> Option<Document>
     ensures { IfSome result (λ document. document_at bytes.now ≡ Ok document) }
 {

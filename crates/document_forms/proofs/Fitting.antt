@@ -142,8 +142,8 @@ read_alike most clients standby (Some d) None e fit = absurd (cc)
 read_alike most clients standby (Some d) (Some es) e fit =
     let read : schedule_of most true d ≡ Ok es = cc in ap (λ r. Some r) (schedule_alike most clients standby d es read fit)
 
--- Events that were read as those of a document with more clients and a second store are those of this document, where all of
--- them fit it.
+-- Events that were read as those of a document with more clients and a second store are those of
+-- this document, where all of them fit it.
 pub as_they_fit : (most clients : ℕ) (standby : Bool) (o : Option Data) (events : Option (List Event)) → option_map (schedule_of most true) o ≡ option_map given events → list_all (fits clients standby) (unwrap_or events []) ≡ true
     → read_or (codes "schedule") [] (schedule_of clients standby) o ≡ Ok (unwrap_or events [])
 as_they_fit most clients standby o events e fit = may_be_there (codes "schedule") [] (schedule_of clients standby) o events (read_alike most clients standby o events e fit)

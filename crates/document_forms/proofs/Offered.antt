@@ -15,5 +15,6 @@ pub use Rattle.document_forms.proofs.ReadSequences.{AreTables, tables_read, no_t
 pub use Rattle.document_forms.proofs.ReadService.{service_read, usual_is}
 pub use Rattle.document_forms.proofs.ReadScripts.{AreClients, clients_read}
 pub use Rattle.document_forms.proofs.ReadEvents.{AreEvents, schedule_read, no_events}
--- events that were read before it was known how many clients there are and whether there is a second store
+-- events that were read before it was known how many clients there are and whether there is a
+-- second store
 pub use Rattle.document_forms.proofs.Fitting.{as_they_fit}

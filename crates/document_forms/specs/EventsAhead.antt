@@ -6,6 +6,7 @@ use Rattle.json_form.specs.meaning.Faults.{Fault}
 use Rattle.json_form.specs.Streams.{items_ahead}
 use Rattle.outage_schedule.specs.declared.event.Event.{Event}
 
--- the tokens begin with what is left of an event's array behind its word: the whole is read as this, and the others stand behind it
+-- the tokens begin with what is left of an event's array behind its word: the whole is read as
+-- this, and the others stand behind it
 abbrev pub Ends : (Data → Result Event Fault) → ℕ → List Token → Event → List Token → Type 0
 Ends read depth ts one rest = (ds : Items) × (items_ahead depth ts ≡ Some (ds, rest)) × ((word : Data) → read (array (item word ds)) ≡ Ok one)

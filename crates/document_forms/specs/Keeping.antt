@@ -28,7 +28,8 @@ is_service service =
 abbrev pub schema_in : DocTable → Schema
 schema_in table = record { name = table.name; columns = table.columns }
 
--- declared with columns of different names; each row fits them and has a key of its own; it is indexed by different columns
+-- declared with columns of different names; each row fits them and has a key of its own; it is
+-- indexed by different columns
 unfoldable pub is_table : DocTable → Bool
 is_table table =
     is_declared (schema_in table) && (list_all (row_fits table.columns) table.rows && (have_distinct_keys same_value key_of table.rows && (nat_le (length table.rows) 10000
@@ -49,7 +50,8 @@ is_client client = list_all is_request client.requests
 abbrev pub is_pick : Bool → ℕ → Bool
 is_pick standby pick = nat_le pick 3 || (standby && nat_le pick 7)
 
--- its client is among so many, and the first store is lost for good behind it only where there is a second one
+-- its client is among so many, and the first store is lost for good behind it only where there is a
+-- second one
 abbrev pub fits : ℕ → Bool → Event → Bool
 fits clients standby (event.Go client) = nat_le client clients
 fits clients standby (event.Crash connection after pick) = standby || nat_le pick 3

@@ -22,6 +22,7 @@ pub record IsTableRead (taken : List ℕ → Bool) (ahead : TableAhead) (ms : Na
   pub rows : option_map (rows_of (columns_in ahead.columns)) (ms (codes "rows")) ≡ option_map (λ rows. Ok rows) ahead.rows
   pub index : option_map (index_of (columns_in ahead.columns)) (ms (codes "index")) ≡ option_map (λ index. Ok index) ahead.index
 
--- the tokens begin with a value, and once it was passed it is read with the members before as the one at this name
+-- the tokens begin with a value, and once it was passed it is read with the members before as the
+-- one at this name
 abbrev pub PassesMember : (List ℕ → Bool) → ℕ → List ℕ → TableAhead → List Token → TableAhead → List Token → Type 0
 PassesMember taken depth name old ts new rest = (d : Data) × (value_ahead depth ts ≡ Some (d, rest)) × ((ms : Named) → IsTableRead taken old ms → IsTableRead taken new (putting name d ms))

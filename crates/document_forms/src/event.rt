@@ -316,9 +316,9 @@ impl Reader<Events> for ScheduleReader {
     }
 }
 
-/// Whether a document with so many clients, and with a second store or not, may have this event of one with
-/// more clients and a second store: its client is there, and the first store is lost for good only where
-/// there is a second one.
+/// Whether a document with so many clients, and with a second store or not, may have this event of
+/// one with more clients and a second store: its client is there, and the first store is lost for
+/// good only where there is a second one.
 fn fits(event: &Event, clients: u64, standby: bool) -> bool
     ensures { result ≡ fits_def clients standby event.now }
 {
@@ -336,9 +336,9 @@ pub fn all_fit(events: &[Event], clients: u64, standby: bool) -> bool
     events.iter().all(|event| fits(event, clients, standby))
 }
 
-/// The events that `ScheduleReader` reads where there are as many clients as there may be and a second store,
-/// each read as soon as its tokens are passed. With fewer clients, or without a second store, they are read
-/// alike where `all_fit` says so.
+/// The events that `ScheduleReader` reads where there are as many clients as there may be and a
+/// second store, each read as soon as its tokens are passed. With fewer clients, or without a
+/// second store, they are read alike where `all_fit` says so.
 pub fn schedule_ahead(alloc: Global, tokens: &mut json::Reader<'_>, depth: usize) -> Option<Events>
     ensures read { IfSome result
         (λ events. Begins (schedule_of 64 true) depth tokens.old events tokens.new) }

@@ -153,8 +153,8 @@ fn parts_ahead(
     }
 }
 
-/// The event that the tokens begin with. There is none where there is a fault. It takes memory for the calls of
-/// an `outside` alone.
+/// The event that the tokens begin with. There is none where there is a fault. It takes memory for
+/// the calls of an `outside` alone.
 pub(crate) fn event_ahead(
     alloc: Global,
     tokens: &mut json::Reader<'_>,

@@ -1,4 +1,5 @@
-//! How the parts of a document are read from JSON values: tables, sequences, the service, clients and events.
+//! How the parts of a document are read from JSON values: tables, sequences, the service, clients
+//! and events.
 #![tactic(auto)]
 
 mod event;

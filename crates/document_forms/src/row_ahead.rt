@@ -32,8 +32,8 @@ fn field_ahead(
     Some(field)
 }
 
-/// The values of a row of so many. Beside the list of them memory is taken for the bytes of texts and of
-/// octets alone.
+/// The values of a row of so many. Beside the list of them memory is taken for the bytes of texts
+/// and of octets alone.
 fn fields_ahead(
     alloc: Global,
     taken: &Taken<Value>,
@@ -61,8 +61,8 @@ fn fields_ahead(
     Some(found)
 }
 
-/// The row of these columns that the tokens begin with, whose key is none of those taken. There is none where
-/// there is a fault.
+/// The row of these columns that the tokens begin with, whose key is none of those taken. There is
+/// none where there is a fault.
 pub(crate) fn row_ahead(
     alloc: Global,
     taken: &Taken<Value>,

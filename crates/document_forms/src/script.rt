@@ -165,7 +165,8 @@ impl Reader<Client> for ClientReader {
         })
     }
 
-    /// The client that the tokens begin with, each of whose requests is read as soon as its tokens are passed.
+    /// The client that the tokens begin with, each of whose requests is read as soon as its tokens
+    /// are passed.
     fn ahead(&self, alloc: Global, tokens: &mut json::Reader<'_>, depth: usize) -> Option<Client> {
         client_ahead(alloc, tokens, depth)
     }

@@ -137,8 +137,8 @@ fn members_ahead(alloc: Global, tokens: &mut json::Reader<'_>, depth: usize) -> 
     Some(ahead)
 }
 
-/// The request that the tokens begin with, whose calls are read one after the other. There is none where there
-/// is a fault.
+/// The request that the tokens begin with, whose calls are read one after the other. There is none
+/// where there is a fault.
 pub(crate) fn request_ahead(
     alloc: Global,
     tokens: &mut json::Reader<'_>,
@@ -162,8 +162,8 @@ pub(crate) fn request_ahead(
     Some(rightly)
 }
 
-/// The client that the tokens begin with, each of whose requests is read as soon as its tokens are passed. There
-/// is none where there is a fault.
+/// The client that the tokens begin with, each of whose requests is read as soon as its tokens are
+/// passed. There is none where there is a fault.
 pub(crate) fn client_ahead(
     alloc: Global,
     tokens: &mut json::Reader<'_>,

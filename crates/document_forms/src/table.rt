@@ -272,8 +272,8 @@ pub(crate) fn index_from(
     IndexReader { columns }.read(alloc, value)
 }
 
-/// Reads a table whose name does not stand before. For n rows the cost is 2 n comparisons of keys where the
-/// rows stand in rising order of key, and else n log n.
+/// Reads a table whose name does not stand before. For n rows the cost is 2 n comparisons of keys
+/// where the rows stand in rising order of key, and else n log n.
 struct TableReader;
 
 impl KeyedReader<DocTable> for TableReader {

@@ -152,8 +152,8 @@ fn members_ahead(
     Some(ahead)
 }
 
-/// The table that the tokens begin with, whose name is none of those taken. There is none where there is a
-/// fault, and where the rows or the index stand before the columns.
+/// The table that the tokens begin with, whose name is none of those taken. There is none where
+/// there is a fault, and where the rows or the index stand before the columns.
 pub(crate) fn table_ahead(
     alloc: Global,
     taken: &Taken<Name>,

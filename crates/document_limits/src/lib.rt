@@ -1,5 +1,5 @@
-//! The limits of a document: how many of each thing it may have, and between which numbers a number of it
-//! lies.
+//! The limits of a document: how many of each thing it may have, and between which numbers a number
+//! of it lies.
 #![tactic(auto)]
 
 mod count;

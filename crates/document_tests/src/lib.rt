@@ -1,6 +1,6 @@
-//! Tests of the reader of documents, by documents that are too long for a page or of which more is asked than a
-//! line. `.ci/documents` has the others: each production of the form with each of its faults, and two faults
-//! at once.
+//! Tests of the reader of documents, by documents that are too long for a page or of which more is
+//! asked than a line. `.ci/documents` has the others: each production of the form with each of its
+//! faults, and two faults at once.
 #![tactic(auto)]
 
 #[cfg(test)]

@@ -110,13 +110,13 @@ impl<R: BoundRule + Copy> Driver<R> {
         wanted && (is_gone(input) || !self.gone_next)
     }
 
-    /// Takes one step at this tick: what `wants` tells is handed in, and after a frame from a connection
-    /// that has ended, where the request goes on, its `Gone`. Ticks don't fall. The act is what the
-    /// caller has to do. After want of memory the driver may only be dropped.
+    /// Takes one step at this tick: what `wants` tells is handed in, and after a frame from a
+    /// connection that has ended, where the request goes on, its `Gone`. Ticks don't fall. The act
+    /// is what the caller has to do. After want of memory the driver may only be dropped.
     ///
-    /// Frames that go out are copies of what is kept, as the wire takes them. Nothing else is copied but
-    /// the draws of a call that is recorded: what is shown is moved out of the reply. Linear in what goes
-    /// out and comes in.
+    /// Frames that go out are copies of what is kept, as the wire takes them. Nothing else is
+    /// copied but the draws of a call that is recorded: what is shown is moved out of the reply.
+    /// Linear in what goes out and comes in.
     pub fn step(&mut self, input: Input, now: u64) -> Result<Act, NoMemory>
         requires wanted { IsTrue (may_come_def self.old.gone_next (wants_of (terms_of (R.rules self.old.rule) self.old.limits self.old.recorded) self.old.talk now) input) }
         requires past { ArePast self.old.talk now }

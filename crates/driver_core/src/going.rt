@@ -54,7 +54,8 @@ impl<R: BoundRule + Copy> Terms<R> {
         track
     }
 
-    /// The call goes out unmarked. On a dead connection it neither goes out nor counts as submitted.
+    /// The call goes out unmarked. On a dead connection it neither goes out nor counts as
+    /// submitted.
     pub(crate) fn send_call(
         &self,
         request: &Request,

@@ -1,8 +1,8 @@
-//! One client's driver: it sends a request's calls, keeps what a replay needs, and after each outage
-//! asks for the outcome before it sends anything again.
+//! One client's driver: it sends a request's calls, keeps what a replay needs, and after each
+//! outage asks for the outcome before it sends anything again.
 //!
-//! A step is the function `talk_step` of `client_model`, over the states of `replay_core`, so each law
-//! of `client_model` holds of it over any server.
+//! A step is the function `talk_step` of `client_model`, over the states of `replay_core`, so each
+//! law of `client_model` holds of it over any server.
 #![tactic(auto)]
 
 mod driver;

@@ -55,8 +55,8 @@ impl<R: BoundRule + Copy> Terms<R> {
         self.go_on(request, live, here, Before::Nothing, Some(shown))
     }
 
-    /// A repeated call that was answered as before is followed by the next one. Other answers end the
-    /// request.
+    /// A repeated call that was answered as before is followed by the next one. Other answers end
+    /// the request.
     pub(crate) fn on_repeated(
         &self,
         request: &Request,
@@ -85,8 +85,8 @@ impl<R: BoundRule + Copy> Terms<R> {
         }
     }
 
-    /// The next recorded call goes out marked, with its draws, made from the recorder's own. Behind the
-    /// last one the lost call goes out.
+    /// The next recorded call goes out marked, with its draws, made from the recorder's own. Behind
+    /// the last one the lost call goes out.
     pub(crate) fn repeat(
         &self,
         request: &Request,

@@ -14,8 +14,8 @@ use std::mem;
 use svc_values::{Call, Name, NoMemory, Settings, TryCopy, Value};
 
 /// A request but for its phase: the settings that a Begin carries, and the ones that were set since
-/// they were settled; the calls that are not shown yet; how many tries in a row failed, and at which
-/// tick the last failed one was made.
+/// they were settled; the calls that are not shown yet; how many tries in a row failed, and at
+/// which tick the last failed one was made.
 #[derive(Drop)]
 pub(crate) struct Request {
     pub(crate) settings: Settings,

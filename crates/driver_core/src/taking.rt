@@ -39,8 +39,8 @@ impl<R: BoundRule + Copy> Terms<R> {
         }
     }
 
-    /// At Hello a fresh request begins and sends its first call. One that lost a session asks for the
-    /// outcome.
+    /// At Hello a fresh request begins and sends its first call. One that lost a session asks for
+    /// the outcome.
     pub(crate) fn on_hello(
         &self,
         request: &Request,
@@ -75,8 +75,8 @@ impl<R: BoundRule + Copy> Terms<R> {
         Turn::fail(self.alloc, here.alive, None, Failed::BadPeer { tag })
     }
 
-    /// The outcome is refused with a frame of this tag: it is forgotten, or the server is not at one with the
-    /// client on what was committed.
+    /// The outcome is refused with a frame of this tag: it is forgotten, or the server is not at
+    /// one with the client on what was committed.
     fn on_refused(&self, asked: Asked, tag: u8, ahead: Ahead, here: Here) -> Result<Turn, NoMemory>
         ensures { (terms : WhatIsKept) (talk : Talk) (frame : Frame) (next : ℕ) → tag ≡ tag_of_def frame → frame ≡ OutcomeRefused ahead next → IfOk result (λ turn. step_in talk turn ≡ takes terms talk (AsksFor asked) frame here.alive here.now) }
     {
@@ -90,8 +90,9 @@ impl<R: BoundRule + Copy> Terms<R> {
         }
     }
 
-    /// A frame, in each phase. Blocked and Refused do nothing by themselves: they end the connection,
-    /// and the next input says so. Every frame that is not named here fails the request.
+    /// A frame, in each phase. Blocked and Refused do nothing by themselves: they end the
+    /// connection, and the next input says so. Every frame that is not named here fails the
+    /// request.
     pub(crate) fn take(
         &self,
         request: &mut Request,

@@ -67,7 +67,8 @@ impl Turn {
         })
     }
 
-    /// The request is through: it ends on its connection and gives it back, if there is one to give.
+    /// The request is through: it ends on its connection and gives it back, if there is one to
+    /// give.
     pub(crate) fn end(alloc: Global, alive: bool, shown: Option<Shown>) -> Result<Turn, NoMemory>
         ensures { IfOk result (λ turn. turn ≡ record { phase = Idle; act = ending alive shown }) }
     {

@@ -1,4 +1,5 @@
--- What `Once` says of a report of which identifiers differ, by which identifiers are those of entries.
+-- What `Once` says of a report of which identifiers differ, by which identifiers are those of
+-- entries.
 use Rattle.std.specs.Prelude.{ℕ, ◌+◌, ◌==◌, ◌&&◌, ◌||◌, Bool, true, nat_le, List, [], ◌∷◌, length, filter, drop, map, flat_map, Option, Some, None, if◌then◌else◌}
 use Rattle.std.specs.List.{list_all}
 use Rattle.svc_values.specs.declared.entry.Ltxid.{Ltxid}
@@ -54,7 +55,8 @@ ends_from stored failed lists (call ∷ calls) =
     then (ended_right stored call (first_of lists) && ends_from stored failed (rest_of lists) calls)
     else ends_from stored failed lists calls
 
--- how many transactions are over behind a call, where so many were before it; none where its end is not that of its transaction
+-- how many transactions are over behind a call, where so many were before it; none where its end is
+-- not that of its transaction
 abbrev pub over_behind : (Ltxid → Bool) → ShownCall → List (List Ltxid) → ℕ → Option ℕ
 over_behind stored call lists over =
     if ends_transaction call.answers

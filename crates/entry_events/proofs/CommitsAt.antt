@@ -1,4 +1,5 @@
--- Commits one after the other: how often each session committed is all that is asked of those before.
+-- Commits one after the other: how often each session committed is all that is asked of those
+-- before.
 use Rattle.std.proofs.Common.{◌≡◌, ℕ, ◌+◌, List, [], ◌∷◌, ◌++◌, Bool, not, ◌&&◌, append_assoc, refl, sym, ap, ◌∙◌, arith}
 use Rattle.std.specs.Prelude.{cond}
 use Rattle.std.specs.List.{list_any}

@@ -1,4 +1,5 @@
--- Entries by their sessions, and when each was stored: at 0 before the run, and else behind its event.
+-- Entries by their sessions, and when each was stored: at 0 before the run, and else behind its
+-- event.
 use Rattle.std.specs.Prelude.{ℕ, ◌+◌, ◌==◌, ◌&&◌, Bool, nat_le, List, count_by}
 use Rattle.std.specs.declared.cmp.Ordering.{Ordering}
 use Rattle.std.specs.Ordering.{nat_cmp, ordering_then}

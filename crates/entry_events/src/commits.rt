@@ -60,8 +60,8 @@ fn has_entry(entries: &[Entry], ltxid: &Ltxid) -> bool
     entries.iter().any(|entry| is_same(&entry.ltxid, ltxid))
 }
 
-/// Whether a call that a crash stopped was committed: it has no mark and a commit, and an entry has its
-/// session's next identifier.
+/// Whether a call that a crash stopped was committed: it has no mark and a commit, and an entry has
+/// its session's next identifier.
 fn has_crashed_commit(
     entries: &[Entry],
     before: &[CommitAt],

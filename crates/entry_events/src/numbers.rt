@@ -16,8 +16,8 @@ use std::alloc::Global;
 use std::marker::Model;
 use svc_values::{Entry, NoMemory, SessionId};
 
-/// The session of an entry, by its two numbers, and when it was stored: 0 before the run, and else the
-/// number behind its event.
+/// The session of an entry, by its two numbers, and when it was stored: 0 before the run, and else
+/// the number behind its event.
 type Key = (u64, u64, u128);
 
 /// When the entries of each session were stored.
@@ -117,8 +117,8 @@ fn count_until(keys: &[Key], session: &SessionId, time: u128) -> usize
 }
 
 impl Numbers {
-    /// Those of an image's entries, and of the run of a report with these moments. For n entries it takes
-    /// n log n, and for each commit that a crash stopped the entries besides.
+    /// Those of an image's entries, and of the run of a report with these moments. For n entries it
+    /// takes n log n, and for each commit that a crash stopped the entries besides.
     pub fn of(
         alloc: Global,
         image: &[Entry],
@@ -146,8 +146,8 @@ impl Numbers {
         count_until(self.keys.as_slice(), session, time) as u64
     }
 
-    /// How many entries of the session were stored before an event: those of the image, and those of the
-    /// run. It takes the logarithm of their number.
+    /// How many entries of the session were stored before an event: those of the image, and those
+    /// of the run. It takes the logarithm of their number.
     pub fn before(&self, session: &SessionId, event: u64) -> u64
         ensures { result ≡ before_def self.now session.now event }
     {

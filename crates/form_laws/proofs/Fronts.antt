@@ -1,4 +1,5 @@
--- What may still be served on a connection was sent on it: a test that holds of all that was sent holds of it.
+-- What may still be served on a connection was sent on it: a test that holds of all that was sent
+-- holds of it.
 use Rattle.std.proofs.Common.{◌≡◌, Bool, true, List, [], ◌∷◌, ◌++◌, refl, sym, ap, ◌∙◌}
 use Rattle.std.specs.List.{list_all}
 use Rattle.std.proofs.lemmas.Bool.{and_parts}

@@ -1,4 +1,5 @@
--- What holds of each call that was served, and of each that ran from outside, holds of each call of an entry.
+-- What holds of each call that was served, and of each that ran from outside, holds of each call of
+-- an entry.
 use Rattle.std.proofs.Common.{◌≡◌, ◌∙◌, ℕ, ◌&&◌, Bool, true, false, not, List, [], ◌∷◌, Option, Some, None, refl, sym, ap, if◌then◌else◌}
 use Rattle.std.specs.Prelude.{nat_lt}
 use Rattle.std.specs.Cmp.Lexicographic.{pointwise, pointwise_decides}
@@ -109,7 +110,8 @@ module _ (test : Call → Bool) where
   abbrev left_pass : Walk → Bool
   left_pass walk = list_all (entry_passes test) walk.left
 
-  -- the sessions pass still, and where the entries that are left then pass, so do those that were left
+  -- the sessions pass still, and where the entries that are left then pass, so do those that were
+  -- left
   record GoesOn (before behind : Walk) : Type 0 where
     sessions : sessions_pass behind.sessions ≡ true
     left : left_pass behind ≡ true → left_pass before ≡ true

@@ -30,7 +30,8 @@ use Rattle.world_model.proofs.Offered.{eq_from, only_is, left_or, at_event, mapp
 abbrev pub IsOf : Up → Item → Type 0
 IsOf frame one = (is_item_of frame one ≡ true) ⊎ (is_crashed_item frame one ≡ true)
 
--- No item is taken, or the first one: it is of this event and of the first frame of a connection, and its word passes.
+-- No item is taken, or the first one: it is of this event and of the first frame of a connection,
+-- and its word passes.
 pub data Took (m : Machine) (test : ServedWord → Bool) (items left : List Served) : Type 0 where
   NoItem : items ≡ left → Took m test items left
   OneItem : (number : ℕ) (front : Front) (served : Served) → front_at m.links number ≡ Some front → IsOf front.first.frame served.item → served.event ≡ m.event

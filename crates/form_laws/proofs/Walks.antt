@@ -1,4 +1,5 @@
--- What each event of a walk keeps holds at its end, and what each tells of its items is told of all of them.
+-- What each event of a walk keeps holds at its end, and what each tells of its items is told of all
+-- of them.
 use Rattle.std.proofs.Common.{◌≡◌, Bool, true, false, List, [], ◌∷◌, Option, Some, None, refl, sym, ap, subst, if◌then◌else◌}
 use Rattle.std.specs.Prelude.{option_and_then, is_none}
 use Rattle.outage_schedule.specs.declared.document.Document.{Document}
@@ -13,8 +14,8 @@ use Rattle.world_model.specs.meaning.Settings.{Setting, setting_of}
 use Rattle.world_model.specs.meaning.Walking.{After, Walked, follow, walk}
 use Rattle.world_model.proofs.Offered.{left_or, reaches}
 
--- Where `Stands` holds before an event with the notes from it on, it holds behind it, and where `Tells` holds of the items that it leaves, it does of
--- all of them.
+-- Where `Stands` holds before an event with the notes from it on, it holds behind it, and where
+-- `Tells` holds of the items that it leaves, it does of all of them.
 pub record EachTells (setting : Setting) (Stands : Machine → List Note → Type 0) (Tells : Machine → List Served → Type 0) : Type 0 where
   pub stands : (m n : Machine) (event : Event) (note : Note) (notes : List Note) (items left : List Served) → follow setting m event note items ≡ Some (n, left)
       → Stands m (note ∷ notes) → Stands n notes

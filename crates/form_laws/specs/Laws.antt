@@ -49,13 +49,15 @@ served_pass test report = list_all (λ one. item_passes test one.item) report.se
 abbrev pub entry_passes : (Call → Bool) → Entry → Bool
 entry_passes test entry = list_all (λ piece. test piece.call) entry.pieces
 
--- What holds of each call of the scripts holds of each call that was served, and no frame was refused.
+-- What holds of each call of the scripts holds of each call that was served, and no frame was
+-- refused.
 abbrev pub ServedCallsPass : Type 0
 ServedCallsPass =
     (test : Call → Bool) (document : Document) (report : Report)
     → IsTrue (scripts_pass test document) → IsTrue (followed document report) → IsTrue (served_pass test report)
 
--- What holds of each call that was served, and of each that ran from outside, holds of each call of an entry.
+-- What holds of each call that was served, and of each that ran from outside, holds of each call of
+-- an entry.
 abbrev pub StoredCallsPass : Type 0
 StoredCallsPass =
     (test : Call → Bool) (document : Document) (report : Report)
@@ -64,8 +66,8 @@ StoredCallsPass =
 
 -- ---- the form
 
--- A report of a document that was read, to which its events lead and of which what was served is legal, has the form that reports have, where it
--- keeps to the limits of its types.
+-- A report of a document that was read, to which its events lead and of which what was served is
+-- legal, has the form that reports have, where it keeps to the limits of its types.
 abbrev pub ReportsHaveTheForm : Type 0
 ReportsHaveTheForm =
     (bytes : List ℕ) (document : Document) (report : Report) → document_at bytes ≡ Ok document → IsTrue (followed document report) → IsTrue (legal_of document report)

@@ -5,7 +5,8 @@ use Rattle.canon_bytes.specs.meaning.TextBytes.{spell_bytes}
 use Rattle.frame_wire.specs.declared.feed.FrameFault.{FrameFault}
 use Rattle.frame_wire.specs.Stream.{Pending, with_bytes, with_first, first_payload, whole_front, IsNext}
 
--- one step: bytes pushed, so many bytes given up at the end of those that wait, or what `next` answered
+-- one step: bytes pushed, so many bytes given up at the end of those that wait, or what `next`
+-- answered
 pub data Step (F : Type 0) : Type 0 where
   Push : List ℕ → Step F
   Cut : ℕ → Step F
@@ -48,7 +49,8 @@ module _ {F : Type 0} (spell : F → List ℕ) (fits : F → Type 0) where
   abbrev pub frame_size : F → ℕ
   frame_size frame = length (spell_bytes (spell frame))
 
-  -- of a stream the first so many bytes are the frames that lie whole in them, and then a part that is no whole one
+  -- of a stream the first so many bytes are the frames that lie whole in them, and then a part that
+  -- is no whole one
   pub record IsWholeFront (frames : List F) (bytes : ℕ) : Type 0 where
     pub part : List ℕ
     pub front : take bytes (stream frames) ≡ stream (whole_front frame_size bytes frames) ++ part

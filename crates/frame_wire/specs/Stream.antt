@@ -1,4 +1,5 @@
--- A stream of frames as it arrives. A frame is spelled like octets: the number of its payload's bytes, and the payload.
+-- A stream of frames as it arrives. A frame is spelled like octets: the number of its payload's
+-- bytes, and the payload.
 use Rattle.std.specs.Prelude.{◌≡◌, ◌≢◌, ℕ, ◌-◌, ◌<◌, ◌^◌, ◌⊎◌, Bool, true, false, List, [], ◌∷◌, ◌++◌, length, take, drop, Option, Some, None, Result, Ok, Err, nat_lt, nat_le, if◌then◌else◌}
 use Rattle.std.specs.Int.{w64, from_be_bytes}
 use Rattle.canon_bytes.specs.meaning.TextBytes.{spell_bytes}
@@ -21,7 +22,8 @@ with_bytes pending bytes = record { bytes = pending.bytes ++ bytes; bad = pendin
 abbrev pub with_first : Pending → ℕ → Pending
 with_first pending n = record { bytes = take n pending.bytes; bad = pending.bad }
 
--- the payload that a frame's length announces; none where the length or the payload has not arrived whole
+-- the payload that a frame's length announces; none where the length or the payload has not arrived
+-- whole
 unfoldable pub first_payload : List ℕ → Option (List ℕ)
 first_payload bytes =
     if nat_lt (length bytes) 8 then None
@@ -48,8 +50,9 @@ module _ {F : Type 0} (spell : F → List ℕ) (fits : F → Type 0) where
   abbrev pub HasNoFrame : List ℕ → Type 0
   HasNoFrame bytes = (first_payload bytes ≡ None) ⊎ IsBadFront bytes
 
-  -- what `next` answers and leaves: the frame that stands first, which is taken off; none where no whole one does;
-  -- a bad frame where one stands first or was met before, and for good; and after want of memory all is as before
+  -- what `next` answers and leaves: the frame that stands first, which is taken off; none where no
+  -- whole one does; a bad frame where one stands first or was met before, and for good; and after
+  -- want of memory all is as before
   abbrev pub IsNext : Pending → Result (Option F) FrameFault → Pending → Type 0
   IsNext before (Ok (Some frame)) after = (before.bad ≡ false) × StandsFirst before.bytes frame after.bytes × (after.bad ≡ false)
   IsNext before (Ok None) after = (before.bad ≡ false) × (first_payload before.bytes ≡ None) × (after ≡ before)

@@ -121,8 +121,8 @@ impl<F> Feed<F> {
         self.bytes.len()
     }
 
-    /// Gives up all but the first of the bytes that wait. It takes no memory, and constant time; where
-    /// none are left their memory is given back.
+    /// Gives up all but the first of the bytes that wait. It takes no memory, and constant time;
+    /// where none are left their memory is given back.
     pub fn keep_first(&mut self, bytes: usize)
         requires { bytes ≤ length self.old.bytes }
         ensures { self.new ≡ with_first self.old bytes }

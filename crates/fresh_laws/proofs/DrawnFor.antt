@@ -1,4 +1,5 @@
--- What the items of some sessions drew anew, of all that was: values of sessions that differ are counted apart.
+-- What the items of some sessions drew anew, of all that was: values of sessions that differ are
+-- counted apart.
 use Rattle.std.proofs.Common.{◌≡◌, refl, ap, ◌∙◌, arith, ◌+◌, ◌≤◌, ◌||◌, Bool, true, false, not, List, [], ◌∷◌, ◌++◌, if◌then◌else◌}
 use Rattle.std.specs.List.{list_any}
 use Rattle.std.proofs.lemmas.Bool.{and_parts, not-true, or_left, or_right}

@@ -1,4 +1,5 @@
--- What a frame's call was given anew, and that each other value of a marked call is the first kept one of its kind.
+-- What a frame's call was given anew, and that each other value of a marked call is the first kept
+-- one of its kind.
 use Rattle.std.proofs.Common.{◌≡◌, refl, sym, ap, ◌∙◌, ℕ, ◌+◌, ◌&&◌, Bool, true, false, List, [], ◌∷◌, ◌++◌, length, Option, Some, None, if◌then◌else◌}
 use Rattle.std.specs.Prelude.{is_some}
 use Rattle.std.proofs.lemmas.Bool.{and_parts}

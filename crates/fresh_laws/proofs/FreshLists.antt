@@ -1,4 +1,5 @@
--- Of values among draws, among what calls were given, and among what the entries of sessions drew: how often they stand there.
+-- Of values among draws, among what calls were given, and among what the entries of sessions drew:
+-- how often they stand there.
 use Rattle.std.proofs.Common.{◌≡◌, refl, ap, ◌∙◌, arith, ℕ, ◌+◌, ◌≤◌, ◌&&◌, ◌||◌, not, cond, Bool, true, false, List, [], ◌∷◌, ◌++◌, map, ◌⊎◌, inl, inr, if◌then◌else◌}
 use Rattle.std.specs.Prelude.{flat_map, filter}
 use Rattle.std.specs.List.{list_all}

@@ -1,4 +1,5 @@
--- No value stands twice among what the entries of a run's report drew: no call of a request is stored twice.
+-- No value stands twice among what the entries of a run's report drew: no call of a request is
+-- stored twice.
 use Rattle.std.proofs.Common.{◌≡◌, sym, ap, ◌∙◌, true}
 use Rattle.std.specs.Prelude.{drop}
 use Rattle.outage_schedule.specs.declared.document.Document.{Document}

@@ -1,4 +1,5 @@
--- No value stands twice among what the entries of a run drew, where no call of a request is stored twice.
+-- No value stands twice among what the entries of a run drew, where no call of a request is stored
+-- twice.
 use Rattle.std.proofs.Common.{◌≡◌, refl, sym, ap, subst, ◌∙◌, arith, ℕ, suc, zero, ◌+◌, ◌≤◌, ◌||◌, not, Bool, true, false, List, [], ◌∷◌, ◌++◌, Option, Some, None, ◌⊎◌, inl, inr}
 use Rattle.std.specs.Prelude.{◌==◌, flat_map, filter_map, slice_get, drop}
 use Rattle.std.specs.List.{list_all, list_any, cons_option}

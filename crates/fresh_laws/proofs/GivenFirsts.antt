@@ -1,4 +1,5 @@
--- Of the values that a connection's calls were given, those that are no earlier one's are at most those that were drawn anew.
+-- Of the values that a connection's calls were given, those that are no earlier one's are at most
+-- those that were drawn anew.
 use Rattle.std.proofs.Common.{◌≡◌, refl, sym, ap, subst, ◌∙◌, arith, ℕ, ◌+◌, ◌≤◌, ◌&&◌, ◌||◌, not, cond, Bool, true, false, List, [], ◌∷◌, map, Option, Some, None, ◌⊎◌, inl, inr, if◌then◌else◌}
 use Rattle.std.specs.Prelude.{◌==◌, nat_lt, flat_map, filter}
 use Rattle.std.specs.List.{list_all, list_any}
@@ -79,7 +80,8 @@ module _ (whole : List Given) (value : Draw) where
           )
       by false same again = behind (origin_of given kept) refl same again
 
-  -- draws of a call, of which each is a new one or a kept one, and each kept one came from an earlier event
+  -- draws of a call, of which each is a new one or a kept one, and each kept one came from an
+  -- earlier event
   call_firsts : (one : Handled) (mark : Bool) (kept draws : List Draw) → are_drawn kept draws ≡ true → ((other : Draw) → list_any (same_draw other) kept ≡ true → has_origin whole (given_as one mark other) ≡ true)
       → firsts whole value (map (given_as one mark) draws) ≤ times value (new_among kept draws)
   call_firsts one mark kept [] drawn came = omega arith

@@ -1,4 +1,5 @@
--- Where a call was stopped on a connection, the identifier that is held there is the one that its session had then.
+-- Where a call was stopped on a connection, the identifier that is held there is the one that its
+-- session had then.
 use Rattle.std.proofs.Common.{◌≡◌, refl, sym, ap, subst, ◌∙◌, arith, ℕ, ◌+◌, ◌≤◌, ◌&&◌, ◌||◌, cond, Bool, true, false, List, [], ◌∷◌, ◌++◌, length, length-append, map, filter, filter_map, Option, Some, None, ⊎_elim}
 use Rattle.std.specs.Prelude.{◌==◌, nat_le, is_some, is_none, option_map}
 use Rattle.std.specs.List.{list_all, list_any, cons_option}

@@ -1,4 +1,5 @@
--- Along a legal history a session draws anew what its connection's calls were given anew, and each other value of a marked call is a kept one.
+-- Along a legal history a session draws anew what its connection's calls were given anew, and each
+-- other value of a marked call is a kept one.
 use Rattle.std.proofs.Common.{◌≡◌, refl, sym, ap, subst, ◌∙◌, ℕ, ◌+◌, ◌&&◌, ◌||◌, Bool, true, false, not, List, [], ◌∷◌, ◌++◌, length, map, Option, Some, None, if◌then◌else◌, arith}
 use Rattle.std.specs.Prelude.{flat_map}
 use Rattle.std.specs.List.{list_all, list_any, last_or}

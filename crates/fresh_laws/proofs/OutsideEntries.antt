@@ -1,4 +1,5 @@
--- Along a legal history the entries of a session whose calls have no mark, and of which none was stopped, drew no value more often than the session drew it anew.
+-- Along a legal history the entries of a session whose calls have no mark, and of which none was
+-- stopped, drew no value more often than the session drew it anew.
 use Rattle.std.proofs.Common.{◌≡◌, refl, sym, ap, subst, ◌∙◌, ℕ, ◌+◌, ◌&&◌, Bool, true, false, not, List, [], ◌∷◌, ◌++◌, Some, if◌then◌else◌, arith, ◌≤◌}
 use Rattle.std.specs.Prelude.{flat_map, filter}
 use Rattle.std.specs.List.{list_all}

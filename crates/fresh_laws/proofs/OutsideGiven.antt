@@ -1,4 +1,5 @@
--- What runs from outside drew is what their calls were answered with, and was drawn anew by their sessions.
+-- What runs from outside drew is what their calls were answered with, and was drawn anew by their
+-- sessions.
 use Rattle.std.proofs.Common.{◌≡◌, refl, sym, ap, ◌∙◌, arith, ℕ, ◌+◌, ◌≤◌, Bool, true, false, List, [], ◌∷◌, ◌++◌, map, Some}
 use Rattle.std.specs.Prelude.{flat_map}
 use Rattle.std.proofs.lemmas.Bool.{and_parts, or_left, or_right}

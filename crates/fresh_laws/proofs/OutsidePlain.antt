@@ -1,4 +1,5 @@
--- What a run's history has of the sessions of runs from outside: no call has the mark, and none was stopped.
+-- What a run's history has of the sessions of runs from outside: no call has the mark, and none was
+-- stopped.
 use Rattle.std.proofs.Common.{◌≡◌, refl, sym, ap, ◌∙◌, Bool, true, false, ℕ, not, List, [], ◌∷◌, ◌++◌, map, Some, ◌⊎◌, inl, inr, if◌then◌else◌}
 use Rattle.std.specs.List.{list_all, list_any}
 use Rattle.std.proofs.lemmas.Bool.{and_parts, and_from, or_cases, not-true}

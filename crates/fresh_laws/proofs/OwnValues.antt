@@ -1,4 +1,5 @@
--- No value that a run gives to calls is one that was drawn outside: a run from outside draws anew, in a session of its own.
+-- No value that a run gives to calls is one that was drawn outside: a run from outside draws anew,
+-- in a session of its own.
 use Rattle.std.proofs.Common.{◌≡◌, refl, sym, ap, ◌∙◌, arith, ℕ, ◌≤◌, ◌&&◌, ◌||◌, not, Bool, true, false, List, [], ◌∷◌, ◌⊎◌, inl, inr, if◌then◌else◌, zero, suc, subst, ◌++◌}
 use Rattle.std.specs.Prelude.{flat_map, filter, slice_get, drop, Some}
 use Rattle.std.specs.List.{list_all, list_any}

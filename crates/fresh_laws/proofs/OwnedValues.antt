@@ -1,4 +1,5 @@
--- Each value that a run gives to calls has one owner: what is drawn anew is drawn once, and what is given again was kept of the same call.
+-- Each value that a run gives to calls has one owner: what is drawn anew is drawn once, and what is
+-- given again was kept of the same call.
 use Rattle.std.proofs.Common.{◌≡◌, refl, sym, ap, subst, ◌∙◌, arith, ℕ, suc, ◌+◌, ◌≤◌, not, Bool, true, false, List, [], ◌∷◌, ◌++◌, Option, Some, None}
 use Rattle.std.proofs.Math.Seq.{drop-append_seam}
 use Rattle.std.specs.Prelude.{◌==◌, slice_get, flat_map, filter_map, drop, is_some, is_none, length}
@@ -70,7 +71,8 @@ reached_given orderly document _ _ _ _ _ calls (GoesOn events notes items more b
 
 -- CONNECTIONS -------------------------------------------------------------------------------------
 
--- what is known of each connection: without a session it served nothing, and what its calls were given first its session drew
+-- what is known of each connection: without a session it served nothing, and what its calls were
+-- given first its session drew
 pub record HasDrawn (whole : List Given) (t : Traced) (drawn : (SessionId → Bool) → List Draw) (value : Draw) (link : Link) : Type 0 where
   pub unnamed : link.session ≡ None → link.served ≡ []
   pub named : (session : SessionId) → link.session ≡ Some session → firsts whole value (given_on t link) ≤ times value (drawn (is_session session))

@@ -1,4 +1,5 @@
--- Along a legal history, how often a value stands among what the entries of one session drew: an item spends what its transaction drew.
+-- Along a legal history, how often a value stands among what the entries of one session drew: an
+-- item spends what its transaction drew.
 use Rattle.std.proofs.Common.{◌≡◌, refl, sym, ap, ◌∙◌, arith, ℕ, ◌+◌, cond, Bool, true, false, List, [], ◌∷◌, ◌++◌, if◌then◌else◌}
 use Rattle.std.specs.Prelude.{flat_map, filter}
 use Rattle.std.proofs.lemmas.List.Concat.{flat_map-append}

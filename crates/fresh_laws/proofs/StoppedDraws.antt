@@ -1,4 +1,5 @@
--- What a call drew that was stopped, as far as its entry tells: there is at most one of its identifier.
+-- What a call drew that was stopped, as far as its entry tells: there is at most one of its
+-- identifier.
 use Rattle.std.proofs.Common.{◌≡◌, refl, sym, ap, subst, ◌∙◌, arith, ℕ, ◌<◌, cond, Bool, true, false, List, [], ◌∷◌, ◌++◌, length, filter, Option, Some, None, if◌then◌else◌}
 use Rattle.std.specs.Prelude.{slice_get}
 use Rattle.std.specs.List.{list_all, last_or}

@@ -1,4 +1,5 @@
--- Along a legal history the entries of a connection's session drew what its calls were given that were of transactions that were stored.
+-- Along a legal history the entries of a connection's session drew what its calls were given that
+-- were of transactions that were stored.
 use Rattle.std.proofs.Common.{◌≡◌, refl, sym, ap, subst, ◌∙◌, arith, ℕ, ◌+◌, ◌≤◌, ◌&&◌, Bool, true, false, List, [], ◌∷◌, ◌++◌, Some, None, if◌then◌else◌}
 use Rattle.std.specs.Prelude.{flat_map, filter}
 use Rattle.std.specs.List.{last_or}
@@ -45,7 +46,8 @@ module _ (session : SessionId) (stopped : List Draw) (stood : Bool) (value : Dra
   abbrev pub open_times : Walk → ℕ
   open_times walk = times value (open_in session walk)
 
-  -- what the entries to come drew was drawn by the open transaction, if it is stored, or is given to calls that are stored
+  -- what the entries to come drew was drawn by the open transaction, if it is stored, or is given
+  -- to calls that are stored
   abbrev pub IsSpent : Walk → List Handled → Type 0
   IsSpent walk served = left_times walk ≤ count_if (is_stored_next stood served) (open_times walk) + stored_times served
 

@@ -1,4 +1,5 @@
--- To whom a run's values are given: each that stands once alone is given to one call of one request, and none of these is drawn outside.
+-- To whom a run's values are given: each that stands once alone is given to one call of one
+-- request, and none of these is drawn outside.
 use Rattle.std.specs.Prelude.{Bool, IsTrue, List, drop}
 use Rattle.outage_schedule.specs.declared.document.Document.{Document}
 use Rattle.outage_schedule.specs.declared.event.Event.{Event}
@@ -25,7 +26,8 @@ HoldsAtTheEnd test =
     (document : Document) (notes : List Note) (items : List Served) (seen : Seen) (t : Traced)
     → IsTrue (all_requests_right document) → IsRun document notes items seen t → IsTrue (test t)
 
--- Of two that are the same value, the later one is given to a marked call, and both to one call of one request.
+-- Of two that are the same value, the later one is given to a marked call, and both to one call of
+-- one request.
 abbrev pub ValuesHaveOneOwner : Type 0
 ValuesHaveOneOwner = HoldsOnTheWay owned
 
@@ -39,7 +41,8 @@ ValuesAreOwn = HoldsOnTheWay none_foreign
 abbrev pub ValuesEndOwn : Type 0
 ValuesEndOwn = HoldsAtTheEnd none_foreign
 
--- Where no call of a request is stored twice, no value stands twice among what the entries drew that the run added.
+-- Where no call of a request is stored twice, no value stands twice among what the entries drew
+-- that the run added.
 abbrev pub StoredValuesAreFresh : Type 0
 StoredValuesAreFresh = HoldsOnTheWay (λ t. implies (are_stored_once t) (fresh (drop t.image t.entries)))
 

@@ -40,8 +40,8 @@ fn journal_in(alloc: Global, image: &[u8]) -> Result<Option<Journal>, NoMemory>
     read_of(alloc, image)
 }
 
-/// Whether it has the base, the entries, the blocks and the alert lines of the journal before the run,
-/// followed by those of the report.
+/// Whether it has the base, the entries, the blocks and the alert lines of the journal before the
+/// run, followed by those of the report.
 fn is_grown(before: &Journal, report: &Report, journal: &Journal) -> bool
     ensures { result ≡ is_grown_def before.now report.now journal.now }
 {

@@ -85,7 +85,8 @@ next_behind course next sent _ = next
 abbrev pub next_on : Course → Link → Option ℕ
 next_on course link = fold (λ next one. next_behind course next one.sent one.served.item) None link.served
 
--- it has the settings before that call, and its open transaction started with those before its first call, or before that one
+-- it has the settings before that call, and its open transaction started with those before its
+-- first call, or before that one
 abbrev pub stands_before : Course → Ran → ℕ → Bool
 stands_before course ran next = same_settings ran.settings (settings_before course.request next) && same_settings ran.at_start (settings_before course.request (first_call ran.pieces next))
 

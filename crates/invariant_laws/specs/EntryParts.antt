@@ -1,5 +1,5 @@
--- An entry of a sending that is open or was answered Committed, part by part: where its transaction begins, and its answers and granted draws.
--- (Its calls, and the settings before them: Same.)
+-- An entry of a sending that is open or was answered Committed, part by part: where its transaction
+-- begins, and its answers and granted draws. (Its calls, and the settings before them: Same.)
 use Rattle.std.specs.Prelude.{ℕ, ◌+◌, ◌-◌, ◌==◌, ◌&&◌, ◌||◌, Bool, true, false, not, nat_le, List, [], ◌∷◌, length, filter, take, drop, slice_get, None}
 use Rattle.std.specs.List.{list_all, last_or}
 use Rattle.std.specs.Option.{option_map_or}

@@ -18,7 +18,8 @@ pub record Invariant (t : Traced) : Type 0 where
   -- each entry has the pieces of what its session ran, and the settings at the start of that
   pub ran : IsTrue (entries_ran t)
   pub started : IsTrue (entries_started t)
-  -- each Begin carries its request's settings, changed by each `set` before the call that follows it at once
+  -- each Begin carries its request's settings, changed by each `set` before the call that follows
+  -- it at once
   pub settings : IsTrue (carry_settings t)
   pub followed : IsTrue (are_followed t)
   -- this is its first call, or behind one that was shown with a decided commit

@@ -1,4 +1,5 @@
--- What of the invariant is kept: it holds of the start, and of the state behind each event if what is orderly, or the whole, held before.
+-- What of the invariant is kept: it holds of the start, and of the state behind each event if what
+-- is orderly, or the whole, held before.
 use Rattle.std.specs.Prelude.{Bool, IsTrue, List}
 use Rattle.server_model.specs.Seen.{Seen}
 use Rattle.outage_schedule.specs.declared.document.Document.{Document}

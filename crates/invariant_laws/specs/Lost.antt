@@ -21,7 +21,8 @@ use Rattle.world_model.specs.Wanted.{Wanted, wanted_in}
 use Rattle.world_model.specs.Words.{held_in}
 use Rattle.world_model.specs.Parts.{implies, sendings_of, number_of, held_number, is_commit_call, is_unmarked, is_out, out_frame}
 
--- the connections that a request lost: all that it held, but the one that it has, and where it is over and did not lose its last one, but that
+-- the connections that a request lost: all that it held, but the one that it has, and where it is
+-- over and did not lose its last one, but that
 abbrev pub without_last : List ℕ → List ℕ
 without_last [] = []
 without_last (number ∷ []) = []
@@ -103,7 +104,8 @@ lost_rightly t course = list_all (λ number. option_map_or (is_lost t course) (l
 abbrev pub are_lost : Traced → Bool
 are_lost t = list_all (lost_rightly t) (courses_of t)
 
--- L2: at most one is pending and has a call sent; while one is asked for, it is that of a connection that was lost
+-- L2: at most one is pending and has a call sent; while one is asked for, it is that of a
+-- connection that was lost
 abbrev pub open_ends : Traced → Course → List ℕ
 open_ends t course =
     filter (λ number. option_map_or (λ link. is_none (outcome_on course link.held) && submitted_on course link) (link_at t.machine.links number) false) (lost_links course)
@@ -117,7 +119,8 @@ wants_lost t course = option_map_or (is_asked_for t course) (wanted_in course.ph
 abbrev pub want_lost : Traced → Bool
 want_lost t = list_all (wants_lost t) (courses_of t)
 
--- and if a frame is out there, and is a call without the mark, it is the one behind the calls shown so far
+-- and if a frame is out there, and is a call without the mark, it is the one behind the calls shown
+-- so far
 abbrev pub is_next : ℕ → Link → Bool
 is_next count link = implies (is_out link) (option_map_or (λ sent. implies (is_unmarked sent) (sent.call == count)) (out_frame link) true)
 

@@ -54,15 +54,16 @@ is_open_or_committed sending = option_map_or ends_committed sending.taken true
 abbrev pub is_of_link : Traced → Entry → Bool
 is_of_link t entry = list_any (λ link. option_map_or (λ session. is_of_session session entry.ltxid) link.session false) t.machine.links
 
--- Exactly one sending under the identifier of an entry has no reply that was taken, or one that says Committed.
+-- Exactly one sending under the identifier of an entry has no reply that was taken, or one that
+-- says Committed.
 abbrev pub has_sending : Traced → Entry → Bool
 has_sending t entry = count_by is_open_or_committed (under entry.ltxid (all_sendings t)) == 1
 
 abbrev pub entries_sent : Traced → Bool
 entries_sent t = list_all (λ entry. implies (is_of_link t entry) (has_sending t entry)) t.entries
 
--- O1a: an entry of this run is completed where the call that committed it has no statement. One of the image has what its bytes say, whatever
--- made them, and is of no connection's session
+-- O1a: an entry of this run is completed where the call that committed it has no statement. One of
+-- the image has what its bytes say, whatever made them, and is of no connection's session
 abbrev pub last_lone : List Piece → Bool
 last_lone [] = false
 last_lone (piece ∷ []) = is_lone_commit piece.call
@@ -88,8 +89,9 @@ on_links t = list_all (is_on_link t) (all_sendings t)
 abbrev pub committed_stored : Traced → Bool
 committed_stored t = list_all (λ sending. implies (option_map_or ends_committed sending.taken false) (has_entry t.entries sending.ltxid)) (all_sendings t)
 
--- O1d: what became of a sending, against its connection: its number is at most the one held, and below it where it was answered Committed; where
--- no reply was taken, it is what is out on it, under the identifier held
+-- O1d: what became of a sending, against its connection: its number is at most the one held, and
+-- below it where it was answered Committed; where no reply was taken, it is what is out on it,
+-- under the identifier held
 abbrev pub is_frame_of : Sending → Sent → Bool
 is_frame_of sending sent = is_commit_call sent && (owned_by sending.owner sent && (sent.call == sending.at))
 
@@ -110,7 +112,8 @@ has_fate sending link =
 abbrev pub have_fates : Traced → Bool
 have_fates t = list_all (λ sending. option_map_or (has_fate sending) (link_at t.machine.links sending.connection) false) (all_sendings t)
 
--- O1e: a call with a commit that is out on a connection has its sending there: under the identifier held, and no reply was taken to it
+-- O1e: a call with a commit that is out on a connection has its sending there: under the identifier
+-- held, and no reply was taken to it
 abbrev pub has_commit_out : Link → Bool
 has_commit_out link = is_out link && option_map_or is_commit_call (out_frame link) false
 
@@ -123,7 +126,8 @@ out_waits t one = implies (has_commit_out one.link) (list_any (is_waiting_on one
 abbrev pub outs_wait : Traced → Bool
 outs_wait t = list_all (out_waits t) (links_of t)
 
--- O2: of two sendings under one identifier, both are on one connection and at most one is open or committed
+-- O2: of two sendings under one identifier, both are on one connection and at most one is open or
+-- committed
 abbrev pub share : Sending → Sending → Bool
 share a b = not (same_ltxid a.ltxid b.ltxid) || ((a.connection == b.connection) && not (is_open_or_committed a && is_open_or_committed b))
 
@@ -150,8 +154,9 @@ are_placed course = list_all (is_placed course.request.calls (held_in course.ste
 abbrev pub all_placed : Traced → Bool
 all_placed t = list_all are_placed (courses_of t)
 
--- O3b: One that was answered is of a call that was shown with these answers. One that was not is of the next call, and no outcome told it
--- committed and completed; or its identifier is blocked; or its call was shown as committed
+-- O3b: One that was answered is of a call that was shown with these answers. One that was not is of
+-- the next call, and no outcome told it committed and completed; or its identifier is blocked; or
+-- its call was shown as committed
 abbrev pub shows_at : (List Answer → Bool) → List ShownCall → ℕ → Bool
 shows_at test shown at = option_map_or (λ call. test call.answers) (slice_get shown at) false
 
@@ -184,9 +189,9 @@ all_but_last t shown (sending ∷ earlier) = later_settled t shown (transaction_
 abbrev pub earlier_settled : Traced → Bool
 earlier_settled t = list_all (λ course. all_but_last t course.report.calls (commit_sendings course)) (courses_of t)
 
--- O3d: How a request that is over ended: without an error no call of its script is left, and with an error one is. With Incomplete it had
--- sent that call, under the identifier of the error, which has its entry. A sending of the next call that was not answered is on a connection
--- that it lost
+-- O3d: How a request that is over ended: without an error no call of its script is left, and with
+-- an error one is. With Incomplete it had sent that call, under the identifier of the error, which
+-- has its entry. A sending of the next call that was not answered is on a connection that it lost
 abbrev pub is_open_at : Ltxid → ℕ → Sending → Bool
 is_open_at x count sending = same_ltxid sending.ltxid x && ((sending.at == count) && is_none sending.taken)
 
@@ -205,7 +210,8 @@ ends_rightly entries course =
 abbrev pub all_end : Traced → Bool
 all_end t = list_all (ends_rightly t.entries) (courses_of t)
 
--- O3e: each call that was shown as committed has a sending with a commit at its place, open or committed, whose entry is there
+-- O3e: each call that was shown as committed has a sending with a commit at its place, open or
+-- committed, whose entry is there
 abbrev pub is_stored_at : List Entry → ℕ → Sending → Bool
 is_stored_at entries at sending = (sending.at == at) && (is_open_or_committed sending && has_entry entries sending.ltxid)
 
@@ -223,12 +229,14 @@ shown_stored t = list_all (λ course. stored_from t.entries (commit_sendings cou
 abbrev pub over_ends : Traced → Bool
 over_ends t = list_all (λ course. implies course.is_over (request_ends t.entries course.report)) (courses_of t)
 
--- a transaction of the one in course was shown Conflict or RolledBack, or is open: at most one entry; all of it by the sendings
+-- a transaction of the one in course was shown Conflict or RolledBack, or is open: at most one
+-- entry; all of it by the sendings
 abbrev pub transactions_have_one : Traced → Bool
 transactions_have_one t = list_all (λ course. list_all (λ ids. nat_le (length (entries_in t.entries ids)) 1) course.report.tried) (courses_of t)
 
--- O4a: what a client notes of its sendings is what they are: each call without the mark, under the identifier held on the connection, of the
--- transaction of its place, with the answers that were taken
+-- O4a: what a client notes of its sendings is what they are: each call without the mark, under the
+-- identifier held on the connection, of the transaction of its place, with the answers that were
+-- taken
 abbrev pub same_taken : Option (List Answer) → Option (List Answer) → Bool
 same_taken None None = true
 same_taken (Some a) (Some b) = same_answers a b
@@ -266,7 +274,8 @@ tell_tried t = list_all tells_tried (courses_of t)
 abbrev pub tried_apart : Traced → Bool
 tried_apart t = ids_differ (flat_map (λ course. ids_tried course.report) (courses_of t))
 
--- O6: copies of a request with `again` above 0: an entry is of the last copy, and there is at most one
+-- O6: copies of a request with `again` above 0: an entry is of the last copy, and there is at most
+-- one
 abbrev pub with_now : Traced → ℕ → List RequestReport
 with_now t client = map (λ course. course.report) (filter (λ course. course.owner.client == client) (courses_of t))
 
@@ -311,7 +320,8 @@ given_on t link = flat_map (λ one. given_by t link one one.served.item) link.se
 abbrev pub given : Traced → List Given
 given t = flat_map (given_on t) t.machine.links
 
--- Of two that are the same value, the later one is of a marked call, and both are of one call of one request.
+-- Of two that are the same value, the later one is of a marked call, and both are of one call of
+-- one request.
 abbrev pub later_is_marked : Given → Given → Bool
 later_is_marked a b = if nat_lt a.event b.event then b.mark else a.mark
 
@@ -321,8 +331,8 @@ have_one_owner a b = not (is_given_again a.value b.value) || (same_owners a.owne
 abbrev pub owned : Traced → Bool
 owned t = each_pair have_one_owner (given t)
 
--- None is one that a run from outside drew, or that such an entry has: one that the run added and that is of no connection. (An entry of the
--- image has what its bytes say, whatever made them.)
+-- None is one that a run from outside drew, or that such an entry has: one that the run added and
+-- that is of no connection. (An entry of the image has what its bytes say, whatever made them.)
 abbrev pub foreign_draws : Traced → List Draw
 foreign_draws t = t.outside_draws ++ flat_map draws_of (filter (is_foreign t) (drop t.image t.entries))
 

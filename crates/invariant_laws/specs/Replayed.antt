@@ -1,4 +1,5 @@
--- Which calls a replay repeats: of those that were shown before its connection was opened the ones behind the last that was decided.
+-- Which calls a replay repeats: of those that were shown before its connection was opened the ones
+-- behind the last that was decided.
 use Rattle.std.specs.Prelude.{◌≡◌, ◌<◌, ℕ, ◌+◌, ◌==◌, ◌&&◌, ◌||◌, Bool, true, false, if◌then◌else◌, IsTrue, nat_le, nat_lt, List, [], ◌∷◌, ◌++◌, length, slice_get, Option, Some, None}
 use Rattle.std.specs.List.{list_all, list_any}
 use Rattle.std.specs.Option.{option_map_or}
@@ -63,8 +64,9 @@ before_opening number before (step ∷ steps) = if opens number step.done.input 
 abbrev pub is_from_opening : Terms → Course → ℕ → ℕ → Bool
 is_from_opening terms course number call = option_map_or (λ before. is_repeated (shown_at terms course.request before) call) (before_opening number [] course.steps) false
 
--- Wherever a run has come to: a call with the mark that a request sent on a connection is one of those that it was shown before it opened this connection,
--- behind the last of them that was decided.
+-- Wherever a run has come to: a call with the mark that a request sent on a connection is one of
+-- those that it was shown before it opened this connection, behind the last of them that was
+-- decided.
 abbrev pub RunsReplayShown : Type 0
 RunsReplayShown =
     (document : Document) (events : List Event) (notes : List Note) (items : List Served) (seen : Seen) (t : Traced)
@@ -73,8 +75,9 @@ RunsReplayShown =
     → (index : ℕ) (sent : Sent) → slice_get link.sent index ≡ Some sent → IsTrue (owned_by course.owner sent) → IsTrue (is_marked sent.frame)
     → IsTrue (is_from_opening t.setting.terms course number sent.call)
 
--- Behind a Connect, the question for an outcome, a Begin and so many calls with the mark, it repeats the call that is as many behind the last decided of
--- those that were shown before the opening.
+-- Behind a Connect, the question for an outcome, a Begin and so many calls with the mark, it
+-- repeats the call that is as many behind the last decided of those that were shown before the
+-- opening.
 pub record IsRepeat (terms : Terms) (course : Course) (number : ℕ) (front : List Sent) (sent : Sent) : Type 0 where
   pub before : List Step
   pub opened : before_opening number [] course.steps ≡ Some before

@@ -38,8 +38,9 @@ pub record ServedCall : Type 0 where
   pub mark : Bool
   pub piece : Piece
 
--- What a connection's session did: its settings, and what they were at the start of its open transaction; the calls of this one, in order; and
--- the transactions that committed before, each with its calls, and with the settings at its start.
+-- What a connection's session did: its settings, and what they were at the start of its open
+-- transaction; the calls of this one, in order; and the transactions that committed before, each
+-- with its calls, and with the settings at its start.
 pub record Ran : Type 0 where
   pub settings : List (List ℕ × Value)
   pub at_start : List (List ℕ × Value)
@@ -83,8 +84,9 @@ ran_item ran sent _ = ran
 abbrev pub ran_by : Link → Ran
 ran_by link = fold (λ ran one. ran_item ran one.sent one.served.item) (record { settings = []; at_start = []; pieces = []; over = []; starts = [] }) link.served
 
--- The entry of this number of the session has the pieces of the transaction of this number. (Of a stopped call only the call is known: it is the
--- last one of its transaction, which is the last one, and may have no entry.)
+-- The entry of this number of the session has the pieces of the transaction of this number. (Of a
+-- stopped call only the call is known: it is the last one of its transaction, which is the last
+-- one, and may have no entry.)
 abbrev pub is_stopped_piece : ServedCall → Bool
 is_stopped_piece did = length did.piece.answers == 0
 
@@ -136,11 +138,13 @@ begins_at shown index = behind_ends 0 0 (take index shown)
 abbrev pub agrees : (Draw → Bool) → Piece → ShownCall → Bool
 agrees granted piece shown = same_answers piece.answers shown.answers && same_draws (filter granted piece.draws) (filter granted shown.draws)
 
--- A call that was taken: the reply to it on this connection. (The last one may be on its way, or be stopped.)
+-- A call that was taken: the reply to it on this connection. (The last one may be on its way, or be
+-- stopped.)
 abbrev pub is_scripts : Course → ℕ → ServedCall → Bool
 is_scripts course index did = owned_by course.owner did.sent && ((did.sent.call == index) && option_map_or (same_call did.piece.call) (slice_get course.request.calls index) false)
 
--- the calls are the script's from this index on, and those that were shown, or that were verified, agree with what was shown
+-- the calls are the script's from this index on, and those that were shown, or that were verified,
+-- agree with what was shown
 abbrev pub known : (Draw → Bool) → Course → ℕ → ℕ → List ServedCall → Bool
 known granted course upto index [] = true
 known granted course upto index (did ∷ dids) =
@@ -157,7 +161,8 @@ abbrev pub scripts_from : Course → ℕ → List ServedCall → Bool
 scripts_from course index [] = true
 scripts_from course index (did ∷ dids) = is_scripts course index did && scripts_from course (index + 1) dids
 
--- a transaction with a call of the request has all its calls from the script, in a row from the first one
+-- a transaction with a call of the request has all its calls from the script, in a row from the
+-- first one
 abbrev pub has_script_calls : Course → List ServedCall → Bool
 has_script_calls course dids = implies (list_any (λ did. owned_by course.owner did.sent) dids) (scripts_from course (first_call dids 0) dids)
 
@@ -169,7 +174,8 @@ abbrev pub known_upto : Phase → ℕ → ℕ
 known_upto (Replaying state) shown = (state.track.call - length state.track.recorder.calls) + state.verified
 known_upto _ shown = shown
 
--- The session has begun the request: before that its open transaction is that of the request before, if one had the connection.
+-- The session has begun the request: before that its open transaction is that of the request
+-- before, if one had the connection.
 abbrev pub is_begin : Item → Bool
 is_begin (item.Begin settings) = true
 is_begin _ = false
@@ -185,7 +191,8 @@ open_known granted course upto link = known granted course upto (first_call (ran
 abbrev pub is_answered_last : Link → Bool
 is_answered_last link = length (served_reps link) == count_reps link.sent
 
--- It begins where the transaction of the call `next` begins; where it has no call, and `next` was not served, that call begins one.
+-- It begins where the transaction of the call `next` begins; where it has no call, and `next` was
+-- not served, that call begins one.
 abbrev pub begins_rightly : Course → ℕ → Link → Bool
 begins_rightly course next link =
     if length (ran_by link).pieces == 0 then is_answered_last link || (next == begins_at course.report.calls next)
@@ -211,7 +218,8 @@ is_current_known granted course link =
     && (implies (is_running course.phase) (begins_rightly course (length course.report.calls) link && has_settings course (length course.report.calls) link)
     && implies (is_repeating course.phase && not (is_answered_last link)) (begins_rightly course (known_upto course.phase 0) link)))
 
--- on one that was lost and is pending, where a call was sent on it without the mark: an orphan may still commit it
+-- on one that was lost and is pending, where a call was sent on it without the mark: an orphan may
+-- still commit it
 abbrev pub is_pending_known : (Draw → Bool) → Course → Link → Bool
 is_pending_known granted course link =
     implies (is_pending course link && (submitted_on course link && has_begun course link))
@@ -228,7 +236,8 @@ is_open_known granted t course =
 abbrev pub opens_known : (Draw → Bool) → Traced → Bool
 opens_known granted t = list_all (is_open_known granted t) (courses_of t)
 
--- each transaction that was run on a connection that the request held: those that are over, and the open one
+-- each transaction that was run on a connection that the request held: those that are over, and the
+-- open one
 abbrev pub run_script_calls : Traced → Bool
 run_script_calls t = list_all (λ course. list_all (test_at t (runs_script_calls course)) (held_in course.steps)) (courses_of t)
 
@@ -237,7 +246,8 @@ run_script_calls t = list_all (λ course. list_all (test_at t (runs_script_calls
 abbrev pub calls_of : Entry → List Call
 calls_of entry = map (λ piece. piece.call) entry.pieces
 
--- The entry has the calls of the script that end with the one that was sent, and the request's settings, changed by each `set` before the first of them.
+-- The entry has the calls of the script that end with the one that was sent, and the request's
+-- settings, changed by each `set` before the first of them.
 abbrev pub ends_with_sent : Course → Sending → Entry → Bool
 ends_with_sent course sending entry =
     same_calls (calls_of entry) (drop ((sending.at + 1) - length entry.pieces) (take (sending.at + 1) course.request.calls))
@@ -273,7 +283,8 @@ agree_from granted [] shown = true
 agree_from granted pieces [] = true
 agree_from granted (piece ∷ pieces) (shown ∷ others) = agrees granted piece shown && agree_from granted pieces others
 
--- the entry has the calls of the transaction up to the one that was sent, with the settings before its first call
+-- the entry has the calls of the transaction up to the one that was sent, with the settings before
+-- its first call
 abbrev pub is_entry_of : (Draw → Bool) → Course → Sending → Entry → Bool
 is_entry_of granted course sending entry =
     let from : ℕ = begins_at course.report.calls sending.at in

@@ -1,4 +1,5 @@
--- What a service's history has of a session, and what a connection served: frame by frame with what was told, in order.
+-- What a service's history has of a session, and what a connection served: frame by frame with what
+-- was told, in order.
 use Rattle.std.specs.Prelude.{List, [], ◌∷◌, map, Option, if◌then◌else◌}
 use Rattle.svc_values.specs.declared.entry.SessionId.{SessionId}
 use Rattle.svc_values.specs.declared.frame.Up.{Up}

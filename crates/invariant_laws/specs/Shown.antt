@@ -1,5 +1,5 @@
--- InvShown: what a request was shown its sessions served, what it sent lies in rows of its script, what it lost ends with its own, and what
--- was answered of an identifier stands.
+-- InvShown: what a request was shown its sessions served, what it sent lies in rows of its script,
+-- what it lost ends with its own, and what was answered of an identifier stands.
 use Rattle.std.specs.Prelude.{ℕ, ◌+◌, ◌==◌, ◌&&◌, ◌||◌, Bool, true, false, if◌then◌else◌, IsTrue, List, [], ◌∷◌, length, filter, take, slice_get, Option, Some, None}
 use Rattle.std.specs.List.{list_all, list_any}
 use Rattle.std.specs.Option.{option_map_or}
@@ -32,15 +32,16 @@ abbrev pub is_shown_item : Call → ShownCall → Item → Bool
 is_shown_item call shown (item.Call false served answers draws) = same_call served call && (same_answers answers shown.answers && same_draws draws shown.draws)
 is_shown_item call shown _ = false
 
--- on this connection, an item of this call of this request, under this identifier (the one after it)
+-- on this connection, an item of this call of this request, under this identifier (the one after
+-- it)
 abbrev pub item_shows : Course → ℕ → Call → ShownCall → Handled → Bool
 item_shows course index call shown one = owned_by course.owner one.sent && ((one.sent.call == index) && is_shown_item call shown one.served.item)
 
 abbrev pub link_shows : Traced → Course → ℕ → Call → ShownCall → ℕ → Bool
 link_shows t course index call shown number = option_map_or (λ link. list_any (item_shows course index call shown) link.served) (link_at t.machine.links number) false
 
--- or a lone commit, shown as committed and without a value, and an outcome was taken that says committed and completed, of an identifier under which
--- the request tried
+-- or a lone commit, shown as committed and without a value, and an outcome was taken that says
+-- committed and completed, of an identifier under which the request tried
 abbrev pub shows_commit : ShownCall → Bool
 shows_commit shown = same_answers shown.answers (answer.Committed ∷ []) && (length shown.draws == 0)
 
@@ -85,9 +86,10 @@ abbrev pub is_scripts : Course → Sent → Up → Bool
 is_scripts course sent (up.Call replay kept call) = option_map_or (same_call call) (slice_get course.request.calls sent.call) false
 is_scripts course sent _ = true
 
--- The calls that a request sent on a connection are of indices in a row. The marked ones come first (wire3). They begin at j for the call that
--- was sent behind them; and while none was, for the calls shown so far, as long as the request has the connection. (Of a replay that was
--- lost before its last verification nothing is said: the call may be shown later, and j moves.)
+-- The calls that a request sent on a connection are of indices in a row. The marked ones come first
+-- (wire3). They begin at j for the call that was sent behind them; and while none was, for the
+-- calls shown so far, as long as the request has the connection. (Of a replay that was lost before
+-- its last verification nothing is said: the call may be shown later, and j moves.)
 abbrev pub marked_from : Course → List Sent → ℕ → Bool
 marked_from course [] next = true
 marked_from course (first ∷ others) next = implies (is_marked first.frame) (first.call == recorded_from (take next course.report.calls))
@@ -129,7 +131,8 @@ lose_own t = list_all (loses_own t.machine.links) (courses_of t)
 
 -- ANSWERS -----------------------------------------------------------------------------------------
 
--- what was answered of an identifier stands: uncommitted, it is blocked; committed, its entry is there; and no other answer but forgotten
+-- what was answered of an identifier stands: uncommitted, it is blocked; committed, its entry is
+-- there; and no other answer but forgotten
 abbrev pub stands : Traced → Item → Bool
 stands t (item.Outcome x told.Uncommitted) = holds t.blocked x
 stands t (item.Outcome x (told.Committed completed)) = option_map_or (same_bool completed) (completed_of t.entries x) false

@@ -1,5 +1,6 @@
--- What a request knows of the calls that its connections served: where it sent a further one behind, a call without the mark was shown with what
--- was answered, and of a repeated one the digest is that of the answers that were shown.
+-- What a request knows of the calls that its connections served: where it sent a further one
+-- behind, a call without the mark was shown with what was answered, and of a repeated one the
+-- digest is that of the answers that were shown.
 use Rattle.std.specs.Prelude.{ℕ, ◌-◌, ◌==◌, ◌&&◌, ◌||◌, Bool, true, false, not, List, [], ◌∷◌, length, filter, take, slice_get, None}
 use Rattle.std.specs.List.{list_all, list_any, last_or}
 use Rattle.std.specs.Option.{option_map_or}

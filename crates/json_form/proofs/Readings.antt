@@ -102,7 +102,8 @@ unfolding member_in
 member_read name read ms x h =
     let a = after (required name ms) (λ d. within name (read d)) x h in (a.0, within_ok (escaped name) (read a.0) x a.2)
 
--- a member that may be missing keeps what its reading keeps, and what stands for it where it is missing
+-- a member that may be missing keeps what its reading keeps, and what stands for it where it is
+-- missing
 read_or_keeps : {A : Type 0} (Good : A → Type 0) (name : List ℕ) (otherwise : A) (read : Data → Result A Fault) (o : Option Data) (x : A) → Good otherwise → ((d : Data) (y : A) → read d ≡ Ok y → Good y) → read_or name otherwise read o ≡ Ok x → Good x
 read_or_keeps Good name otherwise read None x good keeps h = subst Good (ok_is otherwise x h) good
 read_or_keeps Good name otherwise read (Some d) x good keeps h = keeps d x (within_ok (escaped name) (read d) x h)

@@ -14,7 +14,8 @@ abbrev pub put_each : Members → Members → Members
 put_each found no_members = found
 put_each found (member k d ms) = put_each (put k d found) ms
 
--- its numbers are whole, the members of its objects are each once and in order, and it nests at most so deep
+-- its numbers are whole, the members of its objects are each once and in order, and it nests at
+-- most so deep
 abbrev mutual
   pub IsForm : ℕ → Data → Type 0
   IsForm deep null = Unit {0}

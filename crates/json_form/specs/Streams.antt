@@ -22,6 +22,7 @@ members_ahead depth ts = converted (λ ms. of_members ms no_members) (members (v
 abbrev pub Begins : {A : Type 0} → (Data → Result A Fault) → ℕ → List Token → A → List Token → Type 0
 Begins read depth ts x rest = parse_map read (value_ahead depth ts) ≡ Some (Ok x, rest)
 
--- the tokens begin with the last item of an array, which is read as this, and with the bracket behind it
+-- the tokens begin with the last item of an array, which is read as this, and with the bracket
+-- behind it
 abbrev pub IsLastItem : {A : Type 0} → (Data → Result A Fault) → ℕ → List Token → A → List Token → Type 0
 IsLastItem read depth ts x rest = (d : Data) × (items_ahead depth ts ≡ Some (item d no_items, rest)) × (read d ≡ Ok x)

@@ -145,9 +145,9 @@ pub fn list_at<T: Drop, R: Reader<T>>(
     list_within(alloc, name, list_from(alloc, member, reader))
 }
 
-/// The items of an array of at most `high`: those found, and behind them what is left up to the bracket that
-/// ends it, each read as soon as its tokens are passed. There are none where the reader gives none of one, and
-/// where there are too many.
+/// The items of an array of at most `high`: those found, and behind them what is left up to the
+/// bracket that ends it, each read as soon as its tokens are passed. There are none where the
+/// reader gives none of one, and where there are too many.
 pub fn rest_ahead<T: Drop, R: Reader<T>>(
     alloc: Global,
     tokens: &mut json::Reader<'_>,
@@ -172,9 +172,9 @@ pub fn rest_ahead<T: Drop, R: Reader<T>>(
     Some(found)
 }
 
-/// The items of an array of at most `high`, in order, each read as soon as its tokens are passed, so that no
-/// more than one of them is held as a JSON value. There are none where the reader gives none of one, and
-/// where there are too many: `array_from` tells what is at fault.
+/// The items of an array of at most `high`, in order, each read as soon as its tokens are passed,
+/// so that no more than one of them is held as a JSON value. There are none where the reader gives
+/// none of one, and where there are too many: `array_from` tells what is at fault.
 pub fn array_ahead<T: Drop, R: Reader<T>>(
     alloc: Global,
     tokens: &mut json::Reader<'_>,

@@ -24,8 +24,8 @@ fn is_below<K: Ord>(key: &K, other: &K) -> bool
     key.cmp(other).is_lt()
 }
 
-/// The key is greater than each of a run that rises: the run still rises with the key behind it. The cost is
-/// one comparison.
+/// The key is greater than each of a run that rises: the run still rises with the key behind it.
+/// The cost is one comparison.
 fn rises_to<K: Ord>(run: &[K], key: &K) -> bool
     requires { IsStrictlySortedBy K.cmp run.now }
     ensures { IsTrue result ↔ IsStrictlySortedBy K.cmp (run.now ++ key.now ∷ []) }
@@ -36,8 +36,8 @@ fn rises_to<K: Ord>(run: &[K], key: &K) -> bool
     }
 }
 
-/// The key stands in a run that rises. The cost is one comparison where the key is greater than the last of
-/// the run, and else is logarithmic in the length of the run.
+/// The key stands in a run that rises. The cost is one comparison where the key is greater than the
+/// last of the run, and else is logarithmic in the length of the run.
 fn stands_in_run<K: Ord>(run: &[K], key: &K) -> bool
     requires { IsStrictlySortedBy K.cmp run.now }
     ensures { result ≡ is_key K.eq run.now key.now }
@@ -45,16 +45,17 @@ fn stands_in_run<K: Ord>(run: &[K], key: &K) -> bool
     !rises_to(run, key) && run.binary_search(key).is_ok()
 }
 
-/// The key stands in the set. The cost is no comparison where the set is empty, and else is logarithmic in
-/// the number of its keys.
+/// The key stands in the set. The cost is no comparison where the set is empty, and else is
+/// logarithmic in the number of its keys.
 fn stands_in_set<K: Ord>(keys: &BTreeSet<K>, key: &K) -> bool
     ensures { result ≡ is_key K.eq keys.now.keys key.now }
 {
     !keys.is_empty() && keys.contains(key)
 }
 
-/// The keys of the items read so far: a run of keys that rise, each greater than the one before it, and as an
-/// ordered set those that came out of order. Clauses see the list of the keys, those of the run first.
+/// The keys of the items read so far: a run of keys that rise, each greater than the one before it,
+/// and as an ordered set those that came out of order. Clauses see the list of the keys, those of
+/// the run first.
 #[derive(Drop)]
 pub struct Taken<K: Ord + Drop> {
     run: Vec<K>,
@@ -84,8 +85,8 @@ impl<K: Ord + Drop> Taken<K> {
         }
     }
 
-    /// One key more. The cost is one comparison where the key is greater than the last of the run, and else
-    /// is logarithmic in the number of keys out of order.
+    /// One key more. The cost is one comparison where the key is greater than the last of the run,
+    /// and else is logarithmic in the number of keys out of order.
     fn add(&mut self, key: K) -> Result<(), AllocError>
         ensures { OnOk result ((k : K) → is_key K.eq self.new k ≡ (is_key K.eq self.old k || K.eq k key)) }
     {
@@ -97,8 +98,8 @@ impl<K: Ord + Drop> Taken<K> {
         Ok(())
     }
 
-    /// No item before has this key. The cost is one comparison where the keys of the items before rise to
-    /// this one, and else is logarithmic in the number of items before.
+    /// No item before has this key. The cost is one comparison where the keys of the items before
+    /// rise to this one, and else is logarithmic in the number of items before.
     pub fn fresh(&self, alloc: Global, key: &K) -> Result<(), DocFault>
         ensures { GivesBy (λ _. tt) result (fresh_def (is_key K.eq self.now) key.now) }
     {
@@ -132,8 +133,9 @@ pub trait KeyedReader<T> {
         ensures { Gives result
             (reads self.now (is_key Self.Key.eq taken.now) (view value)) };
 
-    /// What the value that the tokens begin with is read as after items with these keys, once they are passed.
-    /// There is none where there is a fault, and in the forms that are read otherwise: `read` says which.
+    /// What the value that the tokens begin with is read as after items with these keys, once they
+    /// are passed. There is none where there is a fault, and in the forms that are read otherwise:
+    /// `read` says which.
     fn ahead(
         &self,
         alloc: Global,
@@ -201,8 +203,9 @@ fn each_distinct<T: Drop, R: KeyedReader<T>>(
     Ok(found)
 }
 
-/// The items of an array of `low` to `high`, in order, with different keys. Beside the readings of the
-/// items the cost is a key for each item and, where the keys rise, two comparisons for each, else n log n.
+/// The items of an array of `low` to `high`, in order, with different keys. Beside the readings of
+/// the items the cost is a key for each item and, where the keys rise, two comparisons for each,
+/// else n log n.
 pub fn distinct_from<T: Drop, R: KeyedReader<T>>(
     alloc: Global,
     value: Value,
@@ -231,8 +234,9 @@ pub fn distinct_list<T: Drop, R: KeyedReader<T>>(
     each_distinct(alloc, values, reader)
 }
 
-/// The items of an array of at most `high`, in order, with different keys, each read as soon as its tokens
-/// are passed, as `array_ahead` does it: `distinct_from` tells what is at fault where there are none.
+/// The items of an array of at most `high`, in order, with different keys, each read as soon as its
+/// tokens are passed, as `array_ahead` does it: `distinct_from` tells what is at fault where there
+/// are none.
 pub fn distinct_ahead<T: Drop, R: KeyedReader<T>>(
     alloc: Global,
     tokens: &mut json::Reader<'_>,

@@ -5,7 +5,8 @@ use crate::pointer::{Pointer, escape};
 use std::alloc::{AllocError, AllocFailed, Global};
 use thiserror::Error;
 
-/// What is wrong with a value of a document or of a report. The codes are 1 to 9, in this order, and 11.
+/// What is wrong with a value of a document or of a report. The codes are 1 to 9, in this order,
+/// and 11.
 #[derive(Clone, Copy, Debug, PartialEq, Eq, Error)]
 pub enum DocCode {
     /// The document has more bytes than its limit.

@@ -9,8 +9,8 @@ use crate::word::chosen;
 use json::Token;
 use std::alloc::Global;
 
-/// What the text that the tokens begin with stands for in a table of words. No copy is made of it. There is
-/// none where they begin with no text, and where it is none of the words.
+/// What the text that the tokens begin with stands for in a table of words. No copy is made of it.
+/// There is none where they begin with no text, and where it is none of the words.
 pub fn word_ahead<T: Copy>(
     alloc: Global,
     tokens: &mut json::Reader<'_>,
@@ -37,8 +37,8 @@ pub fn array_ends(tokens: &mut json::Reader<'_>) -> Option<()>
     Some(())
 }
 
-/// What the last item of an array is read as, once it is passed with the bracket behind it. There is none
-/// where the reader gives none, and where an item stands behind it.
+/// What the last item of an array is read as, once it is passed with the bracket behind it. There
+/// is none where the reader gives none, and where an item stands behind it.
 pub fn last_ahead<T: Drop, R: Reader<T>>(
     alloc: Global,
     tokens: &mut json::Reader<'_>,

@@ -39,7 +39,8 @@ pub(crate) fn whole_in(text: &str) -> Option<u64>
     unsigned(&Numeral::scan(bytes))
 }
 
-/// The number that a token of JSON writes, where it is an integer of 64 bits with a sign and not `-0`.
+/// The number that a token of JSON writes, where it is an integer of 64 bits with a sign and not
+/// `-0`.
 pub fn integer_in(text: &str) -> Option<i64>
     ensures { IfSome result (λ z. number_of text.now ≡ Some (of_integer z)) }
 {

@@ -51,8 +51,8 @@ fn known(alloc: Global, members: &Map<String, Value>, names: &[&str]) -> Result<
     Ok(())
 }
 
-/// The members of an object that has none but those named. The cost is the number of members times the
-/// number of names.
+/// The members of an object that has none but those named. The cost is the number of members times
+/// the number of names.
 pub fn object_with(alloc: Global, value: Value, names: &[&str]) -> Result<Members, DocFault>
     ensures { GivesBy members_at result (object_with_def (map (λ n. n.now) names.now) (view value)) }
 {
@@ -76,7 +76,8 @@ impl Members {
         }
     }
 
-    /// Puts a member there, in the place of one with the same name. The cost is logarithmic in their number.
+    /// Puts a member there, in the place of one with the same name. The cost is logarithmic in
+    /// their number.
     pub fn put(&mut self, name: String, member: Value) -> Result<(), AllocError>
         ensures { OnOk result
             (members_at self.new ≡ putting (string_bytes name) (view member) (members_at self.old)) }
@@ -113,8 +114,8 @@ impl Members {
         }
     }
 
-    /// Refuses members among which one of these names is missing: the first one in this order is the
-    /// fault.
+    /// Refuses members among which one of these names is missing: the first one in this order is
+    /// the fault.
     pub fn require(&self, alloc: Global, names: &[&str]) -> Result<(), DocFault>
         ensures { GivesBy (λ _. tt) result
             (all_there (map (λ n. n.now) names.now) (members_at self.now)) }
@@ -143,7 +144,8 @@ impl Members {
         within(alloc, name, reader.read(alloc, value))
     }
 
-    /// A member that may be missing, taken out and read. Where it is missing, `otherwise` stands for it.
+    /// A member that may be missing, taken out and read. Where it is missing, `otherwise` stands
+    /// for it.
     #[tactic(auto, unfolding(crate::specs::meaning::Objects::optional))]
     pub fn optional<T: Drop, R: Reader<T>>(
         &mut self,

@@ -14,8 +14,8 @@ use serde_json::Value;
 use std::alloc::Global;
 use std::mem;
 
-/// The items of an array of a fixed form, each of which is taken out once. Clauses see what stands at
-/// each position from 0.
+/// The items of an array of a fixed form, each of which is taken out once. Clauses see what stands
+/// at each position from 0.
 #[derive(Drop)]
 pub struct Parts {
     pub items: Vec<Value>,

@@ -14,8 +14,8 @@ use json::Token;
 use serde_json::{Number, Value};
 use std::alloc::Global;
 
-/// Reads a `T` from a JSON value, whose texts are moved into it. The reader is a unit struct, or holds
-/// a setting.
+/// Reads a `T` from a JSON value, whose texts are moved into it. The reader is a unit struct, or
+/// holds a setting.
 pub trait Reader<T> {
     ghost reads: { Self → Data → Result T Fault };
 
@@ -23,8 +23,8 @@ pub trait Reader<T> {
     fn read(&self, alloc: Global, value: Value) -> Result<T, DocFault>
         ensures { Gives result (reads self.now (view value)) };
 
-    /// What the value that the tokens begin with is read as, once they are passed. There is none where there
-    /// is a fault, and in the forms that are read otherwise: `read` says which.
+    /// What the value that the tokens begin with is read as, once they are passed. There is none
+    /// where there is a fault, and in the forms that are read otherwise: `read` says which.
     fn ahead(&self, alloc: Global, tokens: &mut json::Reader<'_>, depth: usize) -> Option<T>
         ensures begins { IfSome result (λ x. Begins (reads self.now) depth tokens.old x tokens.new) }
         ensures shorter { IfSome result (λ _. length tokens.new < length tokens.old) }

@@ -11,9 +11,9 @@ use json::{Reader, Token};
 use serde_json::{Map, Value};
 use std::alloc::Global;
 
-/// The value that the tokens begin with, nested no deeper than `depth`. There is none where they begin
-/// with no value, where memory is refused, and where a number is not an integer of 64 bits or is `-0`:
-/// such a text is for `json_from`.
+/// The value that the tokens begin with, nested no deeper than `depth`. There is none where they
+/// begin with no value, where memory is refused, and where a number is not an integer of 64 bits or
+/// is `-0`: such a text is for `json_from`.
 #[cycle(ahead)]
 pub fn value_from(alloc: Global, tokens: &mut Reader<'_>, depth: usize) -> Option<Value>
     ensures read { IfSome result (λ v. value_ahead depth tokens.old ≡ Some (view v, tokens.new)) }
@@ -36,8 +36,8 @@ pub fn value_from(alloc: Global, tokens: &mut Reader<'_>, depth: usize) -> Optio
     }
 }
 
-/// The object whose brace was passed, nested no deeper than `depth`. There is none where `value_from` gives
-/// none.
+/// The object whose brace was passed, nested no deeper than `depth`. There is none where
+/// `value_from` gives none.
 #[cycle(ahead)]
 pub fn object_from(alloc: Global, tokens: &mut Reader<'_>, depth: usize) -> Option<Value>
     ensures read { IfSome result

@@ -7,8 +7,8 @@ ghost use Rattle.json_form.specs.Tokens.{tokens_of};
 use std::alloc::{AllocError, Global};
 use std::marker::Model;
 
-/// A JSON text that is being written. Clauses see its tokens. Its numbers are of 64 bits, since no other
-/// can be written.
+/// A JSON text that is being written. Clauses see its tokens. Its numbers are of 64 bits, since no
+/// other can be written.
 #[derive(Drop)]
 pub struct TextWriter {
     writer: json::Writer,
@@ -26,7 +26,8 @@ impl Model for TextWriter {
     ghost invariant = { λ a. (a.writer.before ≡ []) × AreShort a.writer.tokens };
 }
 
-/// Writes a `T` as a JSON value, at the end of a text. The writer is a unit struct, or holds a setting.
+/// Writes a `T` as a JSON value, at the end of a text. The writer is a unit struct, or holds a
+/// setting.
 pub trait Writer<T> {
     ghost use Rattle.serde_json.specs.Data.{Data};
 
@@ -161,8 +162,8 @@ impl TextWriter {
         self.end_array()
     }
 
-    /// The bytes of the text: of a value whose tokens these are, its compact text (RFC 8259), with no white
-    /// space, from which a value of the form is read back. It takes no memory.
+    /// The bytes of the text: of a value whose tokens these are, its compact text (RFC 8259), with
+    /// no white space, from which a value of the form is read back. It takes no memory.
     pub fn into_bytes(self) -> Vec<u8>
         ensures text { (d : Data) → self ≡ tokens_of d → result.items ≡ compact_text d }
         ensures reads { (d : Data) → IsForm max_depth d → self ≡ tokens_of d

@@ -41,8 +41,8 @@ pub fn word_from<T: Copy>(alloc: Global, value: Value, table: &[(&str, T)]) -> R
     chosen(alloc, word.as_str(), table)
 }
 
-/// What the text that an array begins with stands for in a table. An array that begins with none names
-/// nothing.
+/// What the text that an array begins with stands for in a table. An array that begins with none
+/// names nothing.
 pub fn head_from<T: Copy>(alloc: Global, value: &Value, table: &[(&str, T)]) -> Result<T, DocFault>
     ensures { Gives result
         (head_of (map (λ pair. (pair.0.now, pair.1)) table.now) (view value.now)) }

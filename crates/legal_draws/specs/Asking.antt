@@ -19,7 +19,8 @@ stopped_by asked count = record count { maybe = count.maybe + blocks_for (asks_i
 abbrev pub unseen_by : List DrawKind → Count → Count
 unseen_by asked count = gave_often (asks_in asked count.name) count
 
--- Of the first draws of statements, so many of which are there behind the first few: how many belong to statements whose draws are all there.
+-- Of the first draws of statements, so many of which are there behind the first few: how many
+-- belong to statements whose draws are all there.
 abbrev pub whole_from : ℕ → List Statement → ℕ → ℕ
 whole_from before [] drawn = before
 whole_from before (first ∷ more) drawn = let through = before + length (asked_by_statement first) in if nat_lt drawn through then before else whole_from through more drawn

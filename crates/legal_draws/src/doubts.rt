@@ -32,8 +32,8 @@ fn doubts_of(count: &Count, asked: &[DrawKind]) -> u64
     count.maybe()
 }
 
-/// In how many ways beside the first a call that asks for these may draw them, with these sequences:
-/// `None` where there are more than `most`.
+/// In how many ways beside the first a call that asks for these may draw them, with these
+/// sequences: `None` where there are more than `most`.
 pub(crate) fn doubts_in(counts: &[Count], asked: &[DrawKind], most: u64) -> Option<u64>
     ensures { (called : Call) → asked.now ≡ asked_by_call called
         → result ≡ at_most most (ways_to_draw called counts.now - 1) }

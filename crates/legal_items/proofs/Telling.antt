@@ -1,4 +1,5 @@
--- The items of a report are those that its moments tell beside its ticks, its schedule and what is kept.
+-- The items of a report are those that its moments tell beside its ticks, its schedule and what is
+-- kept.
 use Rattle.std.proofs.Common.{◌≡◌, refl, sym, ap, subst, ◌∙◌, ℕ, ◌+◌, ◌-◌, ◌<◌, ◌≤◌, Bool, length, get_or, List, [], ◌∷◌, ◌++◌, arith}
 use Rattle.std.specs.Prelude.{slice_get, drop}
 use Rattle.std.proofs.lemmas.Bool.{le-ltb}

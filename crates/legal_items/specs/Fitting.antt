@@ -5,7 +5,8 @@ use Rattle.outage_schedule.specs.declared.note.Note.{Note}
 use Rattle.shown_clauses.specs.meaning.Fronts.{first_item, rest_items}
 use Rattle.shown_clauses.specs.meaning.LegalItems.{outside_fits}
 
--- the number of the first note that does not; the first of these notes has this number, and stands beside the event that it is of
+-- the number of the first note that does not; the first of these notes has this number, and stands
+-- beside the event that it is of
 abbrev pub misfit_from : ℕ → List Event → List Note → Option ℕ
 misfit_from number schedule [] = None
 misfit_from number schedule (first ∷ notes) =

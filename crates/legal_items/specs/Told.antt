@@ -1,4 +1,5 @@
--- The items of a report by its moments alone, each with the ticks before its event and what it brings.
+-- The items of a report by its moments alone, each with the ticks before its event and what it
+-- brings.
 use Rattle.std.specs.Prelude.{ℕ, ◌-◌, List, [], ◌∷◌, ◌++◌, map, drop, slice_get, slice_index}
 use Rattle.std.specs.Option.{option_map_or}
 use Rattle.svc_values.specs.declared.draw.Draw.{Draw}
@@ -18,7 +19,8 @@ abbrev pub ticks_from : ℕ → List Note → List ℕ
 ticks_from tick [] = []
 ticks_from tick (first ∷ notes) = tick ∷ ticks_from (tick_after tick first) notes
 
--- The items of what happened at an event. (`tick` are the ticks before it, `kept` is what a served item brings.)
+-- The items of what happened at an event. (`tick` are the ticks before it, `kept` is what a served
+-- item brings.)
 abbrev pub items_then : List Event → ℕ → List Draw → ℕ → Happened → List Item
 items_then schedule tick kept event (ServedItem session served) = did_at event tick session (thing_of kept served) ∷ []
 items_then schedule tick kept event (RanOutside ran) = outside_items event tick (session_of ran.ltxid) (calls_of (slice_get schedule (event - 1))) ran.runs
@@ -37,7 +39,8 @@ first_kept kept = option_map_or (λ draws. draws) (first_item kept) []
 abbrev pub at_place : At → List Item → List (At × Item)
 at_place at items = map (λ item. (at, item)) items
 
--- Of moments, the served ones of which bring so much in turn. (`ticks` are those before each event.) Each item has its moment's place.
+-- Of moments, the served ones of which bring so much in turn. (`ticks` are those before each
+-- event.) Each item has its moment's place.
 abbrev pub items_told : List Event → List ℕ → List (List Draw) → List (At × HappenedAt) → List (At × Item)
 items_told schedule ticks kept [] = []
 items_told schedule ticks kept (one ∷ more) =

@@ -1,4 +1,5 @@
--- What was served is judged alike, whatever number an item has, and whatever kept values a call without the mark brings.
+-- What was served is judged alike, whatever number an item has, and whatever kept values a call
+-- without the mark brings.
 use Rattle.std.proofs.Common.{◌≡◌, refl, ap, ◌∙◌, ℕ, ◌&&◌, Bool, false, List, [], ◌∷◌, ◌++◌, map, Option, Some, None}
 use Rattle.svc_values.specs.declared.answer.Answer.{Answer}
 use Rattle.svc_values.specs.declared.call.Call.{Call}

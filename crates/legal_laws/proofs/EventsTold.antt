@@ -1,5 +1,5 @@
--- What a report tells of its service at one event is what the service did then, but for the numbers of its items and what calls without the
--- mark bring.
+-- What a report tells of its service at one event is what the service did then, but for the numbers
+-- of its items and what calls without the mark bring.
 use Rattle.std.proofs.Common.{◌≡◌, refl, sym, ap, subst, ◌∙◌, ℕ, ◌+◌, ◌<◌, ◌≤◌, ◌&&◌, Bool, true, false, length, List, [], ◌∷◌, ◌++◌, map, Option, Some, None, option_map, arith}
 use Rattle.std.specs.Prelude.{◌==◌, ◌*◌, nat_lt, nat_le, not}
 use Rattle.std.specs.List.{list_all}
@@ -58,7 +58,8 @@ use Rattle.legal_laws.proofs.ThingsTold.{if_marked, Brings, ordinary_told, stopp
 abbrev pub bare_of : Happened → Item
 bare_of happened = bare (item_did 0 happened)
 
--- What is told of an event, and the front from which the rest is read; the note has as many runs as it may.
+-- What is told of an event, and the front from which the rest is read; the note has as many runs as
+-- it may.
 pub record OneTold (parts : List Part) (all : List Note) (schedule : List Event) (notes : List Note) (items : List Served) (first : Note) (more : List Served) (others : List Note) (left : List Served) (front : Front) (happened : List Happened) : Type 0 where
   pub now : List Item
   pub next : Front

@@ -1,4 +1,5 @@
--- The events of a whole run are those of the schedule, and then those of the finish, of which none runs calls from outside.
+-- The events of a whole run are those of the schedule, and then those of the finish, of which none
+-- runs calls from outside.
 use Rattle.std.proofs.Common.{◌≡◌, refl, sym, subst, append_assoc, append-nil, ℕ, Bool, true, false, List, [], ◌∷◌, ◌++◌, Option, Some, None, if◌then◌else◌}
 use Rattle.std.specs.Prelude.{is_some}
 use Rattle.std.specs.List.{list_any}

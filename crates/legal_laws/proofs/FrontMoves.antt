@@ -1,5 +1,5 @@
--- How the reading of a report comes to an event: with the ticks and the connections that the notes and the items before it tell, and with the
--- events of the schedule from it on.
+-- How the reading of a report comes to an event: with the ticks and the connections that the notes
+-- and the items before it tell, and with the events of the schedule from it on.
 use Rattle.std.proofs.Common.{◌≡◌, refl, sym, ap, ◌∙◌, ℕ, ◌+◌, ◌<◌, Bool, true, false, length, List, [], ◌∷◌, ◌++◌, arith}
 use Rattle.std.specs.Prelude.{◌==◌, nat_lt}
 use Rattle.std.proofs.lemmas.Bool.Decides.{nat_tests}

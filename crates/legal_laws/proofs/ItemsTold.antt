@@ -1,5 +1,5 @@
--- The items that are read off the report of a run are those of its service's history, but for their numbers and what calls without the mark
--- bring.
+-- The items that are read off the report of a run are those of its service's history, but for their
+-- numbers and what calls without the mark bring.
 use Rattle.std.proofs.Common.{◌≡◌, refl, sym, ap, subst, ◌∙◌, append_assoc, append-nil, ℕ, ◌+◌, ◌<◌, true, length, List, [], ◌∷◌, ◌++◌, map, arith}
 use Rattle.std.specs.Prelude.{IsTrue}
 use Rattle.std.proofs.lemmas.Bool.{and_from}
@@ -77,7 +77,8 @@ from_start document last _ _ _ _ _ (GoesOn events notes items more before after 
     from_start document last events notes items before old reached
     (Onward (record { events = events; notes = notes; items = items; seen = before; t = old }) event note more after new one (GoesOn events notes items more before after old new event note reached one forgets) leads)
 
--- What is told from a point on is what the service did from there on, and the notes of runs from outside fit the schedule.
+-- What is told from a point on is what the service did from there on, and the notes of runs from
+-- outside fit the schedule.
 pub record Tells (document : Document) (last : Point) (parts : List Part) (all : List Note) (p : Point) (leads : LeadsTo document last p) (front : Front) : Type 0 where
   pub history : map bare_of last.seen.history ≡ map bare_of p.seen.history ++ bare_items (items_from parts all front (in_order (items_left document last p leads) (moments_of_notes (length p.notes + 1) (notes_left document last p leads))))
   pub fits : outsides_fit (rest_behind p.notes document.schedule) (notes_left document last p leads) ≡ true

@@ -1,4 +1,5 @@
--- The judgement of items looks at no item's number: so the items of a history, which have their places, are judged as those of events.
+-- The judgement of items looks at no item's number: so the items of a history, which have their
+-- places, are judged as those of events.
 use Rattle.std.proofs.Common.{◌≡◌, refl, ap, ◌∙◌, ℕ, ◌+◌, ◌&&◌, Bool, List, [], ◌∷◌, ◌++◌, map}
 use Rattle.svc_values.specs.declared.entry.Entry.{Entry}
 use Rattle.svc_values.specs.declared.entry.Ltxid.{Ltxid}

@@ -1,4 +1,5 @@
--- The items of an event are those of what its service did then, but for their numbers, and look at no item that it does not take.
+-- The items of an event are those of what its service did then, but for their numbers, and look at
+-- no item that it does not take.
 use Rattle.std.proofs.Common.{◌≡◌, refl, sym, ap, ◌∙◌, ℕ, ◌+◌, Bool, true, false, List, [], ◌∷◌, ◌++◌, map, Option, Some, None, if◌then◌else◌}
 use Rattle.svc_values.specs.declared.call.Call.{Call}
 use Rattle.svc_values.specs.declared.entry.SessionId.{SessionId}

@@ -1,4 +1,5 @@
--- What a run served is legal, drew nothing anew twice, and nothing past what is set aside: its report's items are those of the service's history, but for their numbers.
+-- What a run served is legal, drew nothing anew twice, and nothing past what is set aside: its
+-- report's items are those of the service's history, but for their numbers.
 use Rattle.std.proofs.Common.{◌≡◌, refl, sym, ap, subst, ◌∙◌, append_assoc, append-nil, List, [], ◌∷◌, ◌++◌, map, Option, Some, None}
 use Rattle.std.specs.Prelude.{option_and_then}
 use Rattle.std.specs.Option.{option_map_or}
@@ -104,7 +105,8 @@ reached_items document _ _ _ _ _ (GoesOn events notes items more before after ol
     ∙ joins (walk_items setting (start_of document) events notes items) (next_items old.machine event note more) before after one.happened (reached_items document events notes items before old reached)
     (event_did old.machine event note more one.happened one.did) one.history
 
--- So are those of a run whose finish has come so far, with those of the notes and items that are left behind them.
+-- So are those of a run whose finish has come so far, with those of the notes and items that are
+-- left behind them.
 record Leads (document : Document) (place : Place) (notes : List Note) (items : List Served) (seen : Seen) (t : Traced) (others : List Note) (left : List Served) : Type 0 where
   front : List Item
   are : AreOf front seen

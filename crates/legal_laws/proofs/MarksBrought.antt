@@ -1,4 +1,5 @@
--- Where replays are told as they are, what is told of a call with the mark is what its frame brought.
+-- Where replays are told as they are, what is told of a call with the mark is what its frame
+-- brought.
 use Rattle.std.proofs.Common.{◌≡◌, refl, sym, ap, subst, ◌∙◌, Bool, true, false, ℕ, zero, suc, ◌+◌, ◌<◌, length, List, [], ◌∷◌, ◌++◌, Option, Some, None, arith}
 use Rattle.std.specs.Prelude.{slice_get}
 use Rattle.std.specs.List.{list_all}

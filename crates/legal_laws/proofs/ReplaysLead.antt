@@ -1,4 +1,5 @@
--- From a point at which a call with the mark is served to the end of the run: the request that sent it goes on, and the report has served that call.
+-- From a point at which a call with the mark is served to the end of the run: the request that sent
+-- it goes on, and the report has served that call.
 use Rattle.std.proofs.Common.{◌≡◌, sym, ap, subst, ◌∙◌, append-nil, append_assoc, true, false, List, [], ◌∷◌, ◌++◌, IsTrue}
 use Rattle.std.proofs.lemmas.Bool.{or_left, or_right}
 use Rattle.std.proofs.lemmas.List.Folds.{list_any-append}

@@ -1,5 +1,5 @@
--- Each call with the mark that is served was sent by a request on a connection that it held, and the turn that is told of its session has as many calls with
--- the mark as were sent before it.
+-- Each call with the mark that is served was sent by a request on a connection that it held, and
+-- the turn that is told of its session has as many calls with the mark as were sent before it.
 use Rattle.std.proofs.Common.{◌≡◌, refl, sym, ap, subst, ◌∙◌, Bool, true, false, ℕ, zero, suc, ◌+◌, ◌&&◌, ◌||◌, length, filter, List, [], ◌∷◌, ◌++◌, map, Option, Some, None, option_map, arith}
 use Rattle.std.specs.Prelude.{◌==◌, IsTrue, is_some, slice_get}
 use Rattle.std.specs.List.{list_all, list_any}

@@ -1,5 +1,6 @@
--- Where a session may serve a call with the mark, it served a Connect, a question for an outcome, a Begin and calls with the mark before: as many calls since
--- that Begin as were sent since then, each with its mark.
+-- Where a session may serve a call with the mark, it served a Connect, a question for an outcome, a
+-- Begin and calls with the mark before: as many calls since that Begin as were sent since then,
+-- each with its mark.
 use Rattle.std.proofs.Common.{◌≡◌, refl, sym, ap, subst, ◌∙◌, Bool, true, false, ℕ, suc, ◌+◌, ◌&&◌, ◌||◌, length, filter, List, [], ◌∷◌, ◌++◌, map, fold, Option, Some, None, arith}
 use Rattle.std.specs.Prelude.{◌==◌, not, is_none, is_some}
 use Rattle.std.proofs.lemmas.Bool.{and_parts}
@@ -167,7 +168,8 @@ marked_same a b same is = absurd (let no : ⊥ = cc in no)
 
 -- THE FRONT ---------------------------------------------------------------------------------------
 
--- The frame that may be served stands among those that were sent, behind as many as were served, and is of who sent the last Begin of these.
+-- The frame that may be served stands among those that were sent, behind as many as were served,
+-- and is of who sent the last Begin of these.
 pub record StandsBehind (first : Sent) (sents : List Sent) (count : ℕ) (begun : Option (Option Owner)) (calls : Option (List Marked)) : Type 0 where
   pub front : List Sent
   pub sent : Sent

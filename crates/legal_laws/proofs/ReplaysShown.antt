@@ -1,5 +1,5 @@
--- The request that sent a call with the mark is told by its part, which was shown before its session was acquired what the request was shown before it opened
--- the connection.
+-- The request that sent a call with the mark is told by its part, which was shown before its
+-- session was acquired what the request was shown before it opened the connection.
 use Rattle.std.proofs.Common.{◌≡◌, refl, sym, ap, subst, ◌∙◌, append_assoc, append-nil, Bool, true, false, ℕ, length, List, [], ◌∷◌, ◌++◌, Some, if◌then◌else◌}
 use Rattle.std.specs.Prelude.{IsTrue}
 use Rattle.std.proofs.lemmas.Bool.{or_left}

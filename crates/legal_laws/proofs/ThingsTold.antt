@@ -1,4 +1,5 @@
--- What a session did with a frame, as the report tells it: by its item, and by what its frame brings where it is a call with the mark.
+-- What a session did with a frame, as the report tells it: by its item, and by what its frame
+-- brings where it is a call with the mark.
 use Rattle.std.proofs.Common.{◌≡◌, refl, sym, ap, ◌∙◌, ◌&&◌, ℕ, Bool, true, false, List, []}
 use Rattle.std.specs.Prelude.{not}
 use Rattle.std.proofs.lemmas.Bool.{and_parts}

@@ -9,7 +9,8 @@ use Rattle.world_model.specs.OneEvent.{OneEvent}
 use Rattle.world_model.specs.Reached.{Reached}
 use Rattle.world_model.specs.Traced.{Traced}
 
--- the events so far, those of the finish among them, with their notes and all that was served, and the state that they led to
+-- the events so far, those of the finish among them, with their notes and all that was served, and
+-- the state that they led to
 pub record Point : Type 0 where
   pub events : List Event
   pub notes : List Note

@@ -49,8 +49,8 @@ pub record TellsPlace (p : Point) (served : Served) (front : List Sent) : Type 0
   pub has : one.turn ≡ Some turn
   pub as_many : length front ≡ place_in turn + 3
 
--- The request that acquired the session of the turn is told as the one that sent it, and as shown as many calls before as it was before it opened the
--- connection, the same ones.
+-- The request that acquired the session of the turn is told as the one that sent it, and as shown
+-- as many calls before as it was before it opened the connection, the same ones.
 pub record TellsShown (parts : List Part) (p : Point) (number : ℕ) (course : Course) (turn : Turn) : Type 0 where
   pub acquired : Acquired
   pub acquires : turn.acquired ≡ Some acquired
@@ -92,7 +92,8 @@ ReplaysArePlaced =
     (document : Document) (last : Point) → IsTrue (all_requests_right document)
     → (p : Point) (served : Served) (kept : List Draw) → IsPoint document p → (serves : ServesMarked document last p served kept) → IsPlaced p served serves.number serves.front.first
 
--- The request is told as it is of each call with the mark that is served in a whole run, whose place is told.
+-- The request is told as it is of each call with the mark that is served in a whole run, whose
+-- place is told.
 abbrev pub ReportsShowReplays : Type 0
 ReportsShowReplays =
     (document : Document) (report : Report) (seen : Seen) (t : Traced) (server : Server) (events : List Event)

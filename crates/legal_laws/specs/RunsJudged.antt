@@ -19,7 +19,8 @@ RunsAreLegal = (document : Document) (report : Report) (seen : Seen) (t : Traced
 abbrev pub RunsAreFreshNew : Type 0
 RunsAreFreshNew = (document : Document) (report : Report) (seen : Seen) (t : Traced) (server : Server) → IsReported document report seen t server → IsTrue (is_fresh_new document report)
 
--- What was drawn anew lies in what the source has set aside, and nothing that was set aside before event 1 is given back.
+-- What was drawn anew lies in what the source has set aside, and nothing that was set aside before
+-- event 1 is given back.
 abbrev pub RunsAreSetAside : Type 0
 RunsAreSetAside =
     (document : Document) (report : Report) (seen : Seen) (t : Traced) (server : Server) → IsReported document report seen t server

@@ -1,5 +1,5 @@
--- Whether others have committed beside a transaction. A service counts the commits that it has applied, and
--- beside a transaction stands the count at which it began to read.
+-- Whether others have committed beside a transaction. A service counts the commits that it has
+-- applied, and beside a transaction stands the count at which it began to read.
 use Rattle.std.specs.Prelude.{◌≡◌, ◌≤◌, ◌<◌, ◌+◌, ◌-◌, ◌^◌, ◌==◌, ◌&&◌, ℕ, Bool, true, IsTrue, List, [], Option, Some, None, min, nat_lt}
 use Rattle.std.specs.Option.{option_or}
 use Rattle.table_txn.specs.Readings.{Reading, AreUnchanged}
@@ -13,8 +13,8 @@ counted commits = min (commits + 1) (2 ^ 64 - 1)
 abbrev pub begun_at : Option ℕ → ℕ → Option ℕ
 begun_at since commits = option_or since (Some commits)
 
--- None has committed since the transaction began to read, which the largest count can't tell. One that
--- has read nothing is alone.
+-- None has committed since the transaction began to read, which the largest count can't tell. One
+-- that has read nothing is alone.
 abbrev pub is_alone : ℕ → Option ℕ → Bool
 is_alone commits None = true
 is_alone commits (Some since) = (since == commits) && nat_lt since (2 ^ 64 - 1)

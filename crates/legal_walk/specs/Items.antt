@@ -47,7 +47,8 @@ begins walk session settings = record walk { sessions = with_transaction walk.se
 
 -- ---- a call that was stopped
 
--- the last piece of the entry that the call stored, if it is a commit without the mark and the entry that comes next is its session's
+-- the last piece of the entry that the call stored, if it is a commit without the mark and the
+-- entry that comes next is its session's
 abbrev pub standing : Walk → SessionId → Bool → Call → Option Piece
 standing walk session replay called = if has_commit called && not replay then stands (next_of walk session) walk.left else None
 

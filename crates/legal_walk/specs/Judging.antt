@@ -20,7 +20,8 @@ use Rattle.legal_walk.specs.Going.{begins_with}
 abbrev pub answered_by : List Answer → Bool → Bool → List Answer
 answered_by answers replay changed = if ends_committed answers then ending_with answers (verdict replay changed) else answers
 
--- the entry has this identifier, the transaction, the settings at its start, and tells a lone commit
+-- the entry has this identifier, the transaction, the settings at its start, and tells a lone
+-- commit
 abbrev pub is_entry_with : Ltxid → OnWay → Bool → Entry → Bool
 is_entry_with next going is_lone entry =
     same_ltxid entry.ltxid next && (pointwise same_piece entry.pieces going.pieces && (same_settings entry.settings going.at_start && same_bool entry.completed is_lone))

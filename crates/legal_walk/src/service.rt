@@ -142,8 +142,8 @@ impl<'a> Service<'a> {
         self.blocked.has(ltxid) || self.perhaps.has(ltxid)
     }
 
-    /// Whether a block may stop a call: it is a commit without the mark, and the identifier that its
-    /// session commits under next is or may be blocked.
+    /// Whether a block may stop a call: it is a commit without the mark, and the identifier that
+    /// its session commits under next is or may be blocked.
     pub(crate) fn may_stop(&self, session: &SessionId, replay: bool, call: &Call) -> bool
         ensures { (base : Base) (walk : Walk) → Beside base walk self.now
             → result ≡ may_stop walk session.now replay call.now }

@@ -107,7 +107,8 @@ by_kind P false true c cut tick go serve is_cut is_tick is_go is_serve = is_tick
 by_kind P false false true cut tick go serve is_cut is_tick is_go is_serve = is_go
 by_kind P false false false cut tick go serve is_cut is_tick is_go is_serve = is_serve
 
--- what holds of cuts of these connections, of ticks, of steps of these clients and of frames that are served there
+-- what holds of cuts of these connections, of ticks, of steps of these clients and of frames that
+-- are served there
 pub event_by : (P : Event → Type 0) (clients x : ℕ) → P (event.Cut (connection_drawn clients (next x)) 0 0) → P event.Tick
     → P (event.Go (client_drawn clients (next x))) → P (event.Serve (connection_drawn clients (next x))) → P (event_at clients x)
 unfolding event_at

@@ -1,4 +1,5 @@
--- Each entry of a load is a stretch of the script of a transfer: its identifier stands in a list of a request, and every request is a transfer.
+-- Each entry of a load is a stretch of the script of a transfer: its identifier stands in a list of
+-- a request, and every request is a transfer.
 use Rattle.std.proofs.Common.{◌≡◌, refl, sym, ap, subst, ◌∙◌, ℕ, zero, suc, ◌+◌, ◌-◌, ◌<◌, ◌||◌, Bool, true, false, cond, filter, length, List, [], ◌∷◌, ◌++◌, Some, ◌⊎◌, inl, inr, if◌then◌else◌, arith}
 use Rattle.std.specs.Prelude.{◌==◌, ◌*◌, not, nat_le, slice_get, count_by, flat_map}
 use Rattle.std.specs.List.{list_all, list_any}

@@ -1,5 +1,5 @@
-//! Work to be timed: a journal of as many commits as the word says, written commit by commit and opened again. It prints
-//! how many were read.
+//! Work to be timed: a journal of as many commits as the word says, written commit by commit and
+//! opened again. It prints how many were read.
 #![tactic(auto)]
 
 mod work;

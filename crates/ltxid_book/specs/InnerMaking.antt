@@ -1,4 +1,5 @@
--- A book under way to that of a journal: commits and blocks that are taken as they come, whatever their numbers.
+-- A book under way to that of a journal: commits and blocks that are taken as they come, whatever
+-- their numbers.
 use Rattle.std.specs.Prelude.{◌+◌, ◌==◌, true, if◌then◌else◌}
 use Rattle.svc_values.specs.declared.entry.Ltxid.{Ltxid}
 use Rattle.ltxid_book.specs.meaning.Sessions.{Sessions, is_forgotten}

@@ -1,6 +1,6 @@
--- What a book says: of each session how many commits it made, whether its next identifier is blocked and what its last
--- commit was, and below which incarnation sessions are forgotten.
--- Here is what contracts and proofs say of it besides.
+-- What a book says: of each session how many commits it made, whether its next identifier is
+-- blocked and what its last commit was, and below which incarnation sessions are forgotten. Here is
+-- what contracts and proofs say of it besides.
 use Rattle.std.specs.Prelude.{ℕ, ◌+◌, ◌==◌, ◌&&◌, Bool, true, false, max, List, unwrap_or, if◌then◌else◌}
 use Rattle.std.specs.Map.{lookup}
 use Rattle.svc_values.specs.declared.entry.Ltxid.{Ltxid}

@@ -22,8 +22,8 @@ use svc_values::{Entry, Ltxid, NoMemory};
 pub use verdict::Verdict;
 
 /// What the book says of a session. `next` is the number of the session's commits and so the number
-/// of its next identifier, `blocked` tells that this identifier is blocked, and `completed` that the
-/// session's last commit was a call without statements (false before the first).
+/// of its next identifier, `blocked` tells that this identifier is blocked, and `completed` that
+/// the session's last commit was a call without statements (false before the first).
 #[derive(Clone, Copy, Debug, PartialEq, Eq)]
 pub struct State {
     pub next: u64,
@@ -38,8 +38,8 @@ const UNTOUCHED: State = State {
 };
 
 /// The state of each session that is not forgotten. Each call but those that say so takes time
-/// logarithmic in the number of these sessions that committed or were blocked, and the calls that only
-/// look take no memory.
+/// logarithmic in the number of these sessions that committed or were blocked, and the calls that
+/// only look take no memory.
 #[derive(Drop)]
 pub struct Book {
     horizon: u64,
@@ -72,8 +72,8 @@ impl Book {
         }
     }
 
-    /// The book of a journal with this horizon, these entries and these blocked identifiers, each in the
-    /// order in which they were stored: n log n for n of both.
+    /// The book of a journal with this horizon, these entries and these blocked identifiers, each
+    /// in the order in which they were stored: n log n for n of both.
     pub fn of_journal(
         alloc: Global,
         horizon: u64,
@@ -102,8 +102,8 @@ impl Book {
         self.horizon
     }
 
-    /// What the book says of the session: no commit and no block where it was never told of one, and
-    /// where the session is forgotten.
+    /// What the book says of the session: no commit and no block where it was never told of one,
+    /// and where the session is forgotten.
     pub fn state(&self, incarnation: u64, session: u64) -> State
         ensures { result ≡ (sessions_in self.now).state incarnation session }
     {
@@ -124,7 +124,8 @@ impl Book {
         x.number == state.next && !state.blocked
     }
 
-    /// Whether `commit` and `block` take the identifier: it can commit, and its session is not forgotten.
+    /// Whether `commit` and `block` take the identifier: it can commit, and its session is not
+    /// forgotten.
     pub fn may_commit(&self, x: &Ltxid) -> bool
         ensures { result ≡ may_commit_def (sessions_in self.now) x.now }
     {
@@ -147,8 +148,8 @@ impl Book {
         Ok(())
     }
 
-    /// Notes that the identifier is blocked: its session can commit no more. Where memory is refused
-    /// the book stays as it was.
+    /// Notes that the identifier is blocked: its session can commit no more. Where memory is
+    /// refused the book stays as it was.
     pub fn block(&mut self, x: &Ltxid) -> Result<(), NoMemory>
         requires { IsTrue (may_commit_def (sessions_in self.old) x.now) }
         ensures ok { OnOk result (sessions_in self.new ≡ after_block (sessions_in self.old) x.now) }
@@ -160,8 +161,8 @@ impl Book {
         Ok(())
     }
 
-    /// Forgets the sessions of all incarnations below this one, and keeps the greater horizon. Linear in
-    /// the number of sessions that the book knows, and it takes no memory.
+    /// Forgets the sessions of all incarnations below this one, and keeps the greater horizon.
+    /// Linear in the number of sessions that the book knows, and it takes no memory.
     pub fn forget(&mut self, below: u64)
         ensures { sessions_in self.new ≡ after_forgetting (sessions_in self.old) below }
     {

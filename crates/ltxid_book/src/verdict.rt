@@ -6,8 +6,8 @@ pub enum Verdict {
     /// The identifier is the session's last commit. `completed` tells whether that was a call
     /// without statements.
     Committed { completed: bool },
-    /// It is the session's next one, and nothing blocks it yet: before it may be called uncommitted,
-    /// it has to be blocked for good.
+    /// It is the session's next one, and nothing blocks it yet: before it may be called
+    /// uncommitted, it has to be blocked for good.
     BlockIt,
     /// It is the session's next one and is blocked: uncommitted.
     AlreadyBlocked,

@@ -30,7 +30,8 @@ use Rattle.note_forms.specs.meaning.Items.{item_words, last_event, event_in, pla
 use Rattle.told_reports.specs.Keeping.{word_of_item, events_fit, is_item}
 use Rattle.answer_forms.proofs.Offered.{settings_read, call_at}
 
--- the item may stand at its event behind the last one, keeps to what items do, and is read alike behind each other event that it is behind
+-- the item may stand at its event behind the last one, keeps to what items do, and is read alike
+-- behind each other event that it is behind
 record Stands (notes : List Note) (read : ℕ → Result Served Fault) (last : ℕ) (one : Served) : Type 0 where
   fits : fits_event notes (word_of_item one.item) last one.event ≡ true
   keeps : is_item one.item ≡ true

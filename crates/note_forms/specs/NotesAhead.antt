@@ -16,7 +16,8 @@ use Rattle.answer_forms.specs.meaning.Parts.{if_count, number_in}
 use Rattle.note_forms.specs.meaning.Notes.{go_count, go_by}
 use Rattle.note_forms.specs.meaning.Told.{behind_of, told_by, asked_behind, asked_by}
 
--- the tokens begin with such items and the bracket that ends their array, and the others stand behind it
+-- the tokens begin with such items and the bracket that ends their array, and the others stand
+-- behind it
 abbrev pub AreLeft : (Items → Type 0) → ℕ → List Token → List Token → Type 0
 AreLeft Such depth ts rest = (ds : Items) × (items_ahead depth ts ≡ Some (ds, rest)) × Such ds
 
@@ -41,7 +42,8 @@ result_in w ds = if_count (3 + behind_of w) (items_len ds) >>= λ _. told_by w 3
 abbrev pub told_in : Option ToldWord → Items → Result (Option AskResult) Fault
 told_in w ds = if_count (3 + asked_behind w) (items_len ds) >>= λ _. asked_by w 3 (placed ds)
 
--- the tokens begin with this connection, the number of frames that are sent on it, and the bracket behind them
+-- the tokens begin with this connection, the number of frames that are sent on it, and the bracket
+-- behind them
 abbrev pub AreSent : ℕ → ℕ → ℕ → List Token → List Token → Type 0
 AreSent sent k depth ts rest =
     (d : Data) × (e : Data) × (items_ahead depth ts ≡ Some (item d (item e no_items), rest)) × (number_in d ≡ Ok k)

@@ -1,5 +1,5 @@
-//! How the notes of a report are read, and the served items that stand at them, from JSON values and
-//! from tokens.
+//! How the notes of a report are read, and the served items that stand at them, from JSON values
+//! and from tokens.
 #![tactic(auto)]
 
 mod go;

@@ -300,8 +300,8 @@ fn parts_ahead(
     }
 }
 
-/// The note that the tokens begin with. There is none where there is a fault. It takes memory for the
-/// runs of an `outside` and for the items that are read as a JSON value of their own.
+/// The note that the tokens begin with. There is none where there is a fault. It takes memory for
+/// the runs of an `outside` and for the items that are read as a JSON value of their own.
 pub(crate) fn note_ahead(alloc: Global, tokens: &mut json::Reader<'_>, depth: usize) -> Option<Note>
     ensures begins { IfSome result (λ one. Begins note_in depth tokens.old one tokens.new) }
     ensures shorter { IfSome result (λ _. length tokens.new < length tokens.old) }

@@ -1,4 +1,5 @@
--- How the answers to a call may end: with RolledBack those of a rollback and no others, and with Committed those of a call with a commit and without the mark.
+-- How the answers to a call may end: with RolledBack those of a rollback and no others, and with
+-- Committed those of a call with a commit and without the mark.
 use Rattle.std.specs.Prelude.{◌&&◌, Bool, true, false, not, List}
 use Rattle.std.specs.List.{list_all}
 use Rattle.svc_values.specs.declared.answer.Answer.{Answer}

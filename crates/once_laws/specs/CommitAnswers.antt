@@ -1,5 +1,6 @@
--- How commits are answered: CommitInReplay ends the answers only of a call with the mark; a commit with no statement before it has one answer, and in
--- an entry that it stored this is Committed, and it drew nothing.
+-- How commits are answered: CommitInReplay ends the answers only of a call with the mark; a commit
+-- with no statement before it has one answer, and in an entry that it stored this is Committed, and
+-- it drew nothing.
 use Rattle.std.specs.Prelude.{◌==◌, ◌&&◌, Bool, true, List, [], ◌∷◌, length, drop, None}
 use Rattle.std.specs.List.{list_all, last_or}
 use Rattle.std.specs.Option.{option_map_or}

@@ -1,4 +1,5 @@
--- At the end of a run each transaction stands in the journal at most once, and each outcome that was told is the stored one.
+-- At the end of a run each transaction stands in the journal at most once, and each outcome that
+-- was told is the stored one.
 use Rattle.std.specs.Prelude.{IsTrue}
 use Rattle.outage_schedule.specs.declared.document.Document.{Document}
 use Rattle.outage_schedule.specs.declared.report.Report.{Report}
@@ -21,11 +22,13 @@ ReportsAreOnce =
     (document : Document) (report : Report) (seen : Seen) (t : Traced) (server : Server)
     → IsTrue (all_requests_right document) → IsReported document report seen t server → IsTrue (once document report)
 
--- The lists of `tried` that a run ends with are those of the rule of run_clauses, by the sendings that the steps of each request tell.
+-- The lists of `tried` that a run ends with are those of the rule of run_clauses, by the sendings
+-- that the steps of each request tell.
 abbrev pub RunsTellTried : Type 0
 RunsTellTried = (document : Document) (notes : List Note) (items : List Served) (seen : Seen) (t : Traced) → IsTrue (all_requests_right document) → IsRun document notes items seen t → IsTrue (tell_tried t)
 
--- Each outcome that a client was told is the stored one, where the requests of the document are right.
+-- Each outcome that a client was told is the stored one, where the requests of the document are
+-- right.
 abbrev pub OutcomesAreStored : Type 0
 OutcomesAreStored =
     (document : Document) (report : Report) (seen : Seen) (t : Traced) (server : Server)

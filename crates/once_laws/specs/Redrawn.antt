@@ -21,7 +21,8 @@ use Rattle.world_model.specs.Sames.{owned_by}
 use Rattle.world_model.specs.Traced.{Traced, Course, courses_of}
 use Rattle.world_model.specs.Words.{held_in}
 
--- A call with the mark that was answered as its first time was shown drew the granted values that were shown, in order.
+-- A call with the mark that was answered as its first time was shown drew the granted values that
+-- were shown, in order.
 abbrev pub redraws : (Draw → Bool) → Course → Sent → Item → Bool
 redraws granted course sent (item.Call true call answers draws) =
     option_map_or (λ shown. implies (same_answers answers shown.answers) (same_draws (filter granted draws) (filter granted shown.draws))) (slice_get course.report.calls sent.call) true

@@ -1,4 +1,5 @@
--- What a request took as the reply to a call that it sent without the mark is what it was shown of that call.
+-- What a request took as the reply to a call that it sent without the mark is what it was shown of
+-- that call.
 use Rattle.std.specs.Prelude.{ℕ, ◌&&◌, Bool, true, false, List, slice_get}
 use Rattle.std.specs.List.{list_all}
 use Rattle.std.specs.Option.{option_map_or}

@@ -1,4 +1,5 @@
--- The calls of connections that entries are of: those of transactions that were stored, and that none of them is stored twice.
+-- The calls of connections that entries are of: those of transactions that were stored, and that
+-- none of them is stored twice.
 use Rattle.std.specs.Prelude.{◌==◌, ◌&&◌, Bool, true, false, not, List, [], ◌∷◌, map, flat_map, Option, if◌then◌else◌}
 use Rattle.std.specs.Option.{option_map_or}
 use Rattle.svc_values.specs.declared.draw.Draw.{Draw}
@@ -14,7 +15,8 @@ use Rattle.world_model.specs.Parts.{has_entry}
 use Rattle.world_model.specs.Sames.{each_pair, same_owners}
 use Rattle.world_model.specs.Traced.{Traced}
 
--- the transaction that is open before this item is stored, where it is so behind it; of one that was stopped by its entry
+-- the transaction that is open before this item is stored, where it is so behind it; of one that
+-- was stopped by its entry
 abbrev pub goes : Bool → ItemTold → Bool → Bool
 goes stood (item.Begin settings) later = false
 goes stood (item.Call marked called answers draws) later = if ends_committed answers then true else (if ends answers then false else later)

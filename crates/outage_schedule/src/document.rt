@@ -37,11 +37,11 @@ pub struct KeepOf {
     pub id: bool,
 }
 
-/// What the document says of the service and of its drivers. `record_limit`, the document's `record`,
-/// is the most calls that are recorded for a replay. `delay`, `timeout` and `retention` are ticks:
-/// between two tries to connect, from a request's first call to its replay, and from the end of an
-/// incarnation for as long as its outcomes are kept. `standby` tells whether the service has a second
-/// store.
+/// What the document says of the service and of its drivers. `record_limit`, the document's
+/// `record`, is the most calls that are recorded for a replay. `delay`, `timeout` and `retention`
+/// are ticks: between two tries to connect, from a request's first call to its replay, and from the
+/// end of an incarnation for as long as its outcomes are kept. `standby` tells whether the service
+/// has a second store.
 #[derive(Clone, Copy)]
 pub struct ServiceOf {
     pub failover: Failover,

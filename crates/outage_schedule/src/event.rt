@@ -6,8 +6,8 @@ use svc_values::{Call, Listed, Ltxid, NoMemory, TryCopy};
 /// Calls of one request or of one `outside`, in order, without a limit.
 pub type Calls = Listed<Call>;
 
-/// One event of the schedule. Clients and connections are numbered from 1, and connection 0 is none.
-/// The codes of the events are 1 to 11, in this order, and 12 is the crash of a `failover`.
+/// One event of the schedule. Clients and connections are numbered from 1, and connection 0 is
+/// none. The codes of the events are 1 to 11, in this order, and 12 is the crash of a `failover`.
 #[derive(Drop)]
 pub enum Event {
     /// One step of a client.
@@ -18,8 +18,8 @@ pub enum Event {
     Serve {
         connection: u64,
     },
-    /// The connection ends. Of the bytes on their way the first `up` still reach the server, and the
-    /// first `down` the client.
+    /// The connection ends. Of the bytes on their way the first `up` still reach the server, and
+    /// the first `down` the client.
     Cut {
         connection: u64,
         up: u64,
@@ -30,9 +30,9 @@ pub enum Event {
         connection: u64,
     },
     /// A `Serve` whose disk stops after this many device calls (writes and syncs), and then a crash
-    /// that leaves the image of this pick, 0 to 3. The document's `failover` is read as a crash with
-    /// its pick plus 4: the first store is lost for good, and the second one, left as the image of
-    /// the pick less 4, is the only one.
+    /// that leaves the image of this pick, 0 to 3. The document's `failover` is read as a crash
+    /// with its pick plus 4: the first store is lost for good, and the second one, left as the
+    /// image of the pick less 4, is the only one.
     Crash {
         connection: u64,
         after: u64,

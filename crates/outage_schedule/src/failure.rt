@@ -3,8 +3,8 @@
 use std::alloc::Global;
 use svc_values::{Ltxid, NoMemory, TryCopy};
 
-/// Why a request is not replayed. The numbers are the index of the call in its request, at `Full` the
-/// limit of the recorder.
+/// Why a request is not replayed. The numbers are the index of the call in its request, at `Full`
+/// the limit of the recorder.
 #[derive(Clone, Copy)]
 pub enum Reason {
     Off,

@@ -23,8 +23,9 @@ pub struct ReportTable {
 /// All tables, in the order in which they were declared, without a limit.
 pub type ReportTables = Listed<ReportTable>;
 
-/// What a run shows: what the store holds at the end, what the clients were shown, and what each event
-/// did. `forgotten` is the horizon below which outcomes are kept no more, and 0 where there is none.
+/// What a run shows: what the store holds at the end, what the clients were shown, and what each
+/// event did. `forgotten` is the horizon below which outcomes are kept no more, and 0 where there
+/// is none.
 #[derive(Drop)]
 pub struct Report {
     pub alerts: Alerts,

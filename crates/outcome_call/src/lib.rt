@@ -10,7 +10,8 @@ use ltxid_book::Book;
 pub use ltxid_book::Verdict;
 use svc_values::Ltxid;
 
-/// The outcome of the identifier. Logarithmic in the number of sessions of the book; takes no memory.
+/// The outcome of the identifier. Logarithmic in the number of sessions of the book; takes no
+/// memory.
 pub fn decide(book: &Book, x: &Ltxid) -> Verdict
     requires { IsLtxid x.now }
     ensures { result ≡ verdict_of (sessions_in book.now) x.now }

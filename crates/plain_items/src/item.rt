@@ -12,7 +12,8 @@ pub enum Thing<'a> {
     Began {
         settings: Option<&'a Settings>,
     },
-    /// `replay` is the frame's replay mark. With it the frame brings the draws that are kept for it.
+    /// `replay` is the frame's replay mark. With it the frame brings the draws that are kept for
+    /// it.
     Called {
         replay: bool,
         kept: &'a [Draw],

@@ -1,4 +1,5 @@
--- When each entry was stored is told without its writes, and so is whether each request was shown its script.
+-- When each entry was stored is told without its writes, and so is whether each request was shown
+-- its script.
 use Rattle.std.proofs.Common.{◌≡◌, ℕ, ◌&&◌, not, Bool, List, [], ◌∷◌, ◌++◌, map, refl, ap, ◌∙◌}
 use Rattle.svc_values.specs.declared.entry.Entry.{Entry}
 use Rattle.svc_values.specs.declared.entry.SessionId.{SessionId}

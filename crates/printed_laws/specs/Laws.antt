@@ -1,4 +1,5 @@
--- Each clause says the same of a report and of what is shown of it, which is all but the writes of its entries.
+-- Each clause says the same of a report and of what is shown of it, which is all but the writes of
+-- its entries.
 use Rattle.std.specs.Prelude.{◌≡◌}
 use Rattle.outage_schedule.specs.declared.document.Document.{Document}
 use Rattle.outage_schedule.specs.declared.report.Report.{Report}

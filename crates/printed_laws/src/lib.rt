@@ -1,4 +1,5 @@
-//! What the clauses say of a report that was printed, which shows no writes of its entries. It has laws, and no code.
+//! What the clauses say of a report that was printed, which shows no writes of its entries. It has
+//! laws, and no code.
 #![tactic(auto)]
 
 pub mod laws;

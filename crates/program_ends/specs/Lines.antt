@@ -10,8 +10,9 @@ use Rattle.program_ends.specs.declared.status.Status.TheVariants as status
 abbrev pub ended : List ℕ → List ℕ
 ended line = line ++ 10 ∷ []
 
--- Of an answer nothing is told; of what is no document the code's number and the path to the value at fault; of a report the first clause that
--- is false, and the path to its place, or that it is undecided, and the path to where more would have to be tried.
+-- Of an answer nothing is told; of what is no document the code's number and the path to the value
+-- at fault; of a report the first clause that is false, and the path to its place, or that it is
+-- undecided, and the path to where more would have to be tried.
 abbrev pub line_of : Status → List ℕ
 line_of status.Done = []
 line_of status.NoMemory = ended (codes "continuity: no memory")

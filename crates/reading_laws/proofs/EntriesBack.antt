@@ -1,4 +1,5 @@
--- Entries without their writes, tables, errors and what requests were shown are read of what is written of them.
+-- Entries without their writes, tables, errors and what requests were shown are read of what is
+-- written of them.
 use Rattle.std.proofs.Common.{◌≡◌, ◌==◌, ◌&&◌, List, [], ◌∷◌, ◌++◌, map, length, true, Option, Some, None, Ok, refl, sym, ap, ◌∙◌, append_assoc, append-nil}
 use Rattle.std.specs.List.{AllByRecursion, list_all}
 use Rattle.serde_json.specs.Find.{as_null}

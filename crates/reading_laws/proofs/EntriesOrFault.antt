@@ -1,4 +1,5 @@
--- Of entries, tables, errors and what requests were shown nothing else is read than what was written.
+-- Of entries, tables, errors and what requests were shown nothing else is read than what was
+-- written.
 use Rattle.std.proofs.Common.{List, [], ◌∷◌, ◌++◌, map, length, Option, Some, None, Ok, refl, sym, subst, decimal, append_assoc, append-nil}
 use Rattle.serde_json.specs.View.{items_of}
 use Rattle.json_form.specs.meaning.Arrays.{each_after}

@@ -1,4 +1,5 @@
--- Of values, rows, settings, identifiers, answers and draws nothing else is read than what was written.
+-- Of values, rows, settings, identifiers, answers and draws nothing else is read than what was
+-- written.
 use Rattle.std.proofs.Common.{ℕ, ◌==◌, ℤ, pos, negsuc, List, [], length, refl, ap}
 use Rattle.json_form.specs.declared.hexadecimal.Digits.TheVariants as case
 use Rattle.json_form.specs.meaning.Values.{whole_of, integer_of}

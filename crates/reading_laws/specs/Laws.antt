@@ -8,13 +8,14 @@ use Rattle.report_text.specs.meaning.Report.{report_value}
 use Rattle.report_text.specs.Laws.{shown_report}
 use Rattle.reading_laws.specs.Reports.{IsOfForm}
 
--- A report of the form, which has the disk's bytes exactly where the document asks for them, is read of what is written of it, but for the
--- writes of its entries.
+-- A report of the form, which has the disk's bytes exactly where the document asks for them, is
+-- read of what is written of it, but for the writes of its entries.
 abbrev pub ReadsWhatIsWritten : Type 0
 ReadsWhatIsWritten =
     (document : Document) (r : Report) → IsOfForm r → is_some r.image ≡ document.print_image → report_of document (report_value r) ≡ Ok (shown_report r)
 
--- Whatever is read of what is written of a report is that report, but for the writes of its entries.
+-- Whatever is read of what is written of a report is that report, but for the writes of its
+-- entries.
 abbrev pub ReadsNothingElse : Type 0
 ReadsNothingElse = (document : Document) (r other : Report) → report_of document (report_value r) ≡ Ok other → other ≡ shown_report r
 

@@ -41,7 +41,8 @@ fits_served one = fits_u64 one.event && (fits_session one.session && fits_item o
 
 -- ---- reports
 
--- The octets are bytes, each part keeps to its limits, and items, settings and calls keep to what reports do.
+-- The octets are bytes, each part keeps to its limits, and items, settings and calls keep to what
+-- reports do.
 pub record IsOfForm (report : Report) : Type 0 where
   pub octets : ReportOfBytes report
   pub alerts : IsTrue (list_all fits_line report.alerts)

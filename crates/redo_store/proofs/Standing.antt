@@ -1,4 +1,5 @@
--- The records of a store stand one behind the other, so those that two stores begin with end at one place.
+-- The records of a store stand one behind the other, so those that two stores begin with end at one
+-- place.
 use Rattle.std.proofs.Common.{◌≡◌, ℕ, ◌+◌, ◌^◌, ◌<◌, List, [], ◌∷◌, ◌++◌, length, get_or, take, drop, refl, sym, ◌∙◌, ap, subst, arith, append_assoc, length-append, append-nil}
 use Rattle.std.specs.Prelude.{Ok, Result, All}
 use Rattle.std.proofs.lemmas.List.{take_at, drop_at, drop-drop}

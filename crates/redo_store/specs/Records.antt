@@ -7,7 +7,8 @@ use Rattle.std.specs.Int.{to_be_bytes, w64}
 unfoldable pub length_bytes : ℕ → List ℕ
 length_bytes n = to_be_bytes w64 n
 
--- the payload in the memory in which a record is made: it stands behind eight bytes, in whose place its length is written
+-- the payload in the memory in which a record is made: it stands behind eight bytes, in whose place
+-- its length is written
 abbrev pub payload_in : List ℕ → List ℕ
 payload_in made = drop 8 made
 

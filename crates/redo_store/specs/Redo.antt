@@ -20,16 +20,16 @@ count_of redo = redo.count
 abbrev pub tail_of : Redo → ℕ
 tail_of redo = redo.tail
 
--- The store and the disk belong together and are ready: the store is live, the records on the disk end at its tail, it
--- counts them, and nothing is pending there.
+-- The store and the disk belong together and are ready: the store is live, the records on the disk
+-- end at its tail, it counts them, and nothing is pending there.
 pub record CanAppend (redo : Redo) (disk : DiskState) : Type 0 where
   pub live : IsTrue (is_live redo)
   pub store : IsStore redo.tail disk.now.seen
   pub counted : count_of redo ≡ record_count (records_of disk.now.seen)
   pub settled : IsSettled disk
 
--- After an answer the store goes on with its disk. But after Stopped it is not live, and ends and counts as before; and no
--- damage is told.
+-- After an answer the store goes on with its disk. But after Stopped it is not live, and ends and
+-- counts as before; and no damage is told.
 abbrev pub StoreGoesOn : Result (Unit {0}) RedoFault → Redo → Redo → DiskState → Type 0
 StoreGoesOn (Ok done) old new disk = CanAppend new disk
 StoreGoesOn (Err NoMemory) old new disk = CanAppend new disk

@@ -13,7 +13,8 @@ abbrev pub with_firsts : List (List ℕ) → Result (List (List ℕ)) ℕ → Re
 with_firsts records (Ok more) = Ok (records ++ more)
 with_firsts records (Err place) = Err place
 
--- At the place stands the gate behind these records of the image, each of them open and whole; or no byte does.
+-- At the place stands the gate behind these records of the image, each of them open and whole; or
+-- no byte does.
 pub record StandsBehind (place : ℕ) (done : List (List ℕ)) (image : List ℕ) : Type 0 where
   pub within : place ≤ length image
   pub bytes : image ≡ magic ++ spelling_of done ++ drop place image

@@ -16,8 +16,8 @@ pub enum RedoFault {
     /// The disk failed. What is durable is not known, and the store is to be opened again.
     #[error("the disk failed")]
     Stopped,
-    /// The bytes are no store. The place is the offset of the gate with no whole record behind it, and 0 where the
-    /// first eight bytes are not those of a store.
+    /// The bytes are no store. The place is the offset of the gate with no whole record behind it,
+    /// and 0 where the first eight bytes are not those of a store.
     #[error("the store is damaged at {0}")]
     Damaged(u64),
 }

@@ -24,7 +24,8 @@ const PIECE: usize = 4096;
 /// How many bytes a record has beside its payload: its gate and its length.
 pub const HEAD: u64 = 9;
 
-// The payload in memory in which its record is to be made: behind eight bytes, and with room for a closed gate.
+// The payload in memory in which its record is to be made: behind eight bytes, and with room for a
+// closed gate.
 pub fn made_of(alloc: Global, payload: &[u8]) -> Result<Vec<u8>, AllocError>
     ensures payload { IfOk result (λ made. payload_in made.items ≡ payload.now) }
     ensures room { IfOk result (λ made. 8 ≤ length made.items) }
@@ -35,8 +36,8 @@ pub fn made_of(alloc: Global, payload: &[u8]) -> Result<Vec<u8>, AllocError>
     Ok(made)
 }
 
-// What is written behind a closed gate: the length, the payload and the next closed gate. It is made where the payload
-// stands, behind the eight bytes that become the length.
+// What is written behind a closed gate: the length, the payload and the next closed gate. It is
+// made where the payload stands, behind the eight bytes that become the length.
 #[tactic(auto, unfolding(crate::specs::Records::length_bytes))]
 pub fn body_of(mut made: Vec<u8>) -> Result<Vec<u8>, AllocError>
     requires room { 8 ≤ length made.items }
@@ -76,9 +77,11 @@ pub fn check_magic<D: Disk>(disk: &mut D) -> Result<(), RedoFault>
     Ok(())
 }
 
-// Reads the payload of the record whose gate stands at the place, or none where that gate is closed.
+// Reads the payload of the record whose gate stands at the place, or none where that gate is
+// closed.
 //
-// A length is believed only once as many bytes are there, so no memory is taken by a length that a damaged store claims.
+// A length is believed only once as many bytes are there, so no memory is taken by a length that a
+// damaged store claims.
 pub fn payload_at<D: Disk>(
     alloc: Global,
     disk: &mut D,

@@ -12,7 +12,8 @@ use crate::walk::Walk;
 use disk_model::{Disk, DiskFault};
 use std::alloc::Global;
 
-/// An open store. It holds the place of the closed gate behind the last record and the number of records, and no record.
+/// An open store. It holds the place of the closed gate behind the last record and the number of
+/// records, and no record.
 #[derive(Drop)]
 pub struct Redo {
     alloc: Global,
@@ -26,22 +27,24 @@ impl Redo {
     ghost use Rattle.redo_store.specs.Gate.{HasRecord, HasClosedGate};
     ghost use Rattle.redo_store.specs.Walk.{StandsBehind, KeepsFront};
 
-    /// Whether a record may be added. After `Stopped` it may not, and the store is to be opened again.
+    /// Whether a record may be added. After `Stopped` it may not, and the store is to be opened
+    /// again.
     pub fn is_live(&self) -> bool
         ensures { result ≡ is_live self.now }
     {
         self.live
     }
 
-    /// How many records the store has. After `Stopped` that is the number before the call that was stopped.
+    /// How many records the store has. After `Stopped` that is the number before the call that was
+    /// stopped.
     pub fn count(&self) -> u64
         ensures { result ≡ count_of self.now }
     {
         self.count
     }
 
-    /// The place of the closed gate behind the last record, as an offset in bytes. After `Stopped` that is the one
-    /// before the call that was stopped.
+    /// The place of the closed gate behind the last record, as an offset in bytes. After `Stopped`
+    /// that is the one before the call that was stopped.
     pub fn tail(&self) -> u64
         ensures { result ≡ tail_of self.now }
     {
@@ -50,7 +53,8 @@ impl Redo {
 
     /// Makes a store without a record on an empty disk, in two device calls.
     ///
-    /// Nothing is claimed of a crash before it has answered `Ok`. After `Stopped` the disk may hold any part of it.
+    /// Nothing is claimed of a crash before it has answered `Ok`. After `Stopped` the disk may hold
+    /// any part of it.
     pub fn create<D: Disk>(disk: &mut D) -> Result<(), RedoFault>
         requires { (D.state disk.old).now.seen ≡ [] }
         ensures bytes { OnOk result ((D.state disk.new).now.seen ≡ magic ++ 0 ∷ []) }
@@ -67,12 +71,13 @@ impl Redo {
 
     /// Reads the payloads of all records, in order, and gives the store to go on with.
     ///
-    /// It reads each record once, in calls of at most 4,096 bytes, and keeps nothing of the disk but
-    /// the payloads: time and memory grow with the size of the records alone.
+    /// It reads each record once, in calls of at most 4,096 bytes, and keeps nothing of the disk
+    /// but the payloads: time and memory grow with the size of the records alone.
     pub fn open<D: Disk>(alloc: Global, disk: &mut D) -> Result<(Redo, Vec<Vec<u8>>), RedoFault>
         ensures records { IfOk result (λ opened. records_of (D.state disk.old).now.seen ≡ Ok (map (λ payload. payload.items) opened.1.items)) }
 
-        // The place is that of the first gate with no whole record behind it, by the grammar of the bytes.
+        // The place is that of the first gate with no whole record behind it, by the grammar of the
+        // bytes.
         ensures damaged { (place : ℕ) → IsErrOf result (RedoFault.Damaged place) → records_of (D.state disk.old).now.seen ≡ Err place }
         ensures ready { IsSettled (D.state disk.old) → IfOk result (λ opened. CanAppend opened.0 (D.state disk.new)) }
         ensures only_reads { OnlyReads (IsErrOf result RedoFault.Stopped) (D.state disk.old) (D.state disk.new) }
@@ -83,12 +88,12 @@ impl Redo {
         Ok((redo, records))
     }
 
-    /// Reads the payload of the record whose gate stands at this offset, and tells the offset of the
-    /// gate behind it; none where the gate is closed.
+    /// Reads the payload of the record whose gate stands at this offset, and tells the offset of
+    /// the gate behind it; none where the gate is closed.
     ///
     /// It reads the gate, the length, and the payload in calls of at most 4,096 bytes. Time and
-    /// memory grow with the payload alone. Where no gate of the disk's records stands at the offset,
-    /// the byte there is taken for one.
+    /// memory grow with the payload alone. Where no gate of the disk's records stands at the
+    /// offset, the byte there is taken for one.
     pub fn record_at<D: Disk>(
         alloc: Global,
         disk: &mut D,
@@ -99,7 +104,8 @@ impl Redo {
             (λ one. HasRecord gate one.0.items (D.state disk.old).now.seen
             × (one.1 ≡ gate + 9 + length one.0.items))) }
 
-        // From the gate behind some records it comes to the one behind the next. At the closed one they are all.
+        // From the gate behind some records it comes to the one behind the next. At the closed one
+        // they are all.
         ensures next { (done : List (List ℕ)) → StandsBehind gate done (D.state disk.old).now.seen
             → IfOk result (λ found. IfSome found (λ one.
             StandsBehind one.1 (done ++ one.0.items ∷ []) (D.state disk.old).now.seen)) }
@@ -107,8 +113,8 @@ impl Redo {
             → IfOk result (λ found. IfNone found
             ((records_of (D.state disk.old).now.seen ≡ Ok done) × (whole_records (D.state disk.old).now.seen ≡ done))) }
 
-        // A damage is that of this gate, which is open without a whole record and one more byte behind
-        // it, or past the end. Where that is so, `found` lets no other answer be Ok.
+        // A damage is that of this gate, which is open without a whole record and one more byte
+        // behind it, or past the end. Where that is so, `found` lets no other answer be Ok.
         ensures damaged { (at : ℕ) → IsErrOf result (RedoFault.Damaged at) → at ≡ gate }
         ensures damage { (at : ℕ) → IsErrOf result (RedoFault.Damaged at)
             → (done : List (List ℕ)) → StandsBehind gate done (D.state disk.old).now.seen
@@ -138,8 +144,8 @@ impl Redo {
 
     /// Adds a record, in four device calls: its body, a sync, its gate, a sync.
     ///
-    /// It takes the memory for the body before the first of them, into which the payload is copied, and touches no byte of
-    /// the disk but those of the record.
+    /// It takes the memory for the body before the first of them, into which the payload is copied,
+    /// and touches no byte of the disk but those of the record.
     pub fn append<D: Disk>(&mut self, disk: &mut D, payload: &[u8]) -> Result<(), RedoFault>
         requires { CanAppend self.old (D.state disk.old) }
 
@@ -147,17 +153,20 @@ impl Redo {
         ensures added { OnOk result (records_of (D.state disk.new).now.seen ≡ with_last payload.now (records_of (D.state disk.old).now.seen)) }
         ensures refused { IsErrOf result RedoFault.NoMemory → records_of (D.state disk.new).now.seen ≡ records_of (D.state disk.old).now.seen }
 
-        // A crash at any moment of the call leaves the old list of records, or this list with the payload last. That the
-        // same is so of the time since it began, and of what a read gives when it has ended, is `disk_model::laws::leaves`.
+        // A crash at any moment of the call leaves the old list of records, or this list with the
+        // payload last. That the same is so of the time since it began, and of what a read gives
+        // when it has ended, is `disk_model::laws::leaves`.
         ensures any_moment { Meanwhile (D.state disk.old) (D.state disk.new) (IsOldOrNew (D.state disk.old).now.seen payload.now) }
 
         // And it leaves the old records where they stood.
         ensures front { Meanwhile (D.state disk.old) (D.state disk.new) (KeepsFront (tail_of self.old) (D.state disk.old).now.seen) }
 
-        // After Ok and NoMemory it goes on with its disk, where nothing is pending; after Stopped it is to be opened again.
+        // After Ok and NoMemory it goes on with its disk, where nothing is pending; after Stopped
+        // it is to be opened again.
         ensures goes_on { StoreGoesOn result self.old self.new (D.state disk.new) }
 
-        // It succeeds only with no stop or one of at least four; with either a quiet disk has no fault.
+        // It succeeds only with no stop or one of at least four; with either a quiet disk has no
+        // fault.
         ensures stop { Lowers 4 result (D.state disk.old).stop (D.state disk.new).stop }
         ensures cause { Caused (IsErrOf result RedoFault.Stopped) (D.state disk.old) (D.state disk.new) }
     {
@@ -167,8 +176,9 @@ impl Redo {
 
     /// Adds a record as `append` does, out of the memory in which it was made.
     ///
-    /// The payload stands there behind eight bytes, in whose place its length is written. So it is in memory once, and is
-    /// copied to the disk alone; only a vector that is full may be copied, for the closed gate behind the payload.
+    /// The payload stands there behind eight bytes, in whose place its length is written. So it is
+    /// in memory once, and is copied to the disk alone; only a vector that is full may be copied,
+    /// for the closed gate behind the payload.
     pub fn append_made<D: Disk>(&mut self, disk: &mut D, made: Vec<u8>) -> Result<(), RedoFault>
         requires room { 8 ≤ length made.items }
         requires ready { CanAppend self.old (D.state disk.old) }
@@ -177,17 +187,20 @@ impl Redo {
         ensures added { OnOk result (records_of (D.state disk.new).now.seen ≡ with_last (payload_in made.items) (records_of (D.state disk.old).now.seen)) }
         ensures refused { IsErrOf result RedoFault.NoMemory → records_of (D.state disk.new).now.seen ≡ records_of (D.state disk.old).now.seen }
 
-        // A crash at any moment of the call leaves the old list of records, or this list with the payload last. That the
-        // same is so of the time since it began, and of what a read gives when it has ended, is `disk_model::laws::leaves`.
+        // A crash at any moment of the call leaves the old list of records, or this list with the
+        // payload last. That the same is so of the time since it began, and of what a read gives
+        // when it has ended, is `disk_model::laws::leaves`.
         ensures any_moment { Meanwhile (D.state disk.old) (D.state disk.new) (IsOldOrNew (D.state disk.old).now.seen (payload_in made.items)) }
 
         // And it leaves the old records where they stood.
         ensures front { Meanwhile (D.state disk.old) (D.state disk.new) (KeepsFront (tail_of self.old) (D.state disk.old).now.seen) }
 
-        // After Ok and NoMemory it goes on with its disk, where nothing is pending; after Stopped it is to be opened again.
+        // After Ok and NoMemory it goes on with its disk, where nothing is pending; after Stopped
+        // it is to be opened again.
         ensures goes_on { StoreGoesOn result self.old self.new (D.state disk.new) }
 
-        // It succeeds only with no stop or one of at least four; with either a quiet disk has no fault.
+        // It succeeds only with no stop or one of at least four; with either a quiet disk has no
+        // fault.
         ensures stop { Lowers 4 result (D.state disk.old).stop (D.state disk.new).stop }
         ensures cause { Caused (IsErrOf result RedoFault.Stopped) (D.state disk.old) (D.state disk.new) }
     {

@@ -9,7 +9,8 @@ use crate::redo::Redo;
 use disk_model::Disk;
 use std::alloc::Global;
 
-/// A walk over the records of a store. It holds the place of a gate and the number of records before it, and no record.
+/// A walk over the records of a store. It holds the place of a gate and the number of records
+/// before it, and no record.
 #[derive(Drop)]
 pub struct Walk {
     alloc: Global,
@@ -63,10 +64,11 @@ impl Walk {
         self.place
     }
 
-    /// Reads the payload of the record at the gate, and goes on behind it; none where the gate is closed.
+    /// Reads the payload of the record at the gate, and goes on behind it; none where the gate is
+    /// closed.
     ///
-    /// It reads in calls of at most 4,096 bytes, and its time and memory grow with the payload alone.
-    /// After any error the walk stands where it did.
+    /// It reads in calls of at most 4,096 bytes, and its time and memory grow with the payload
+    /// alone. After any error the walk stands where it did.
     pub fn next<D: Disk>(&mut self, disk: &mut D) -> Result<Option<Vec<u8>>, RedoFault>
         ensures record { (done : List (List ℕ)) → HasRead self.old done (D.state disk.old).now.seen
             → IfOk result (λ found. IfSome found (λ payload. HasRead self.new (done ++ payload.items ∷ []) (D.state disk.old).now.seen)) }
@@ -95,10 +97,11 @@ impl Walk {
         Ok(Some(payload))
     }
 
-    /// The payloads of all records from the gate on, in order. The walk stands at the closed gate then.
+    /// The payloads of all records from the gate on, in order. The walk stands at the closed gate
+    /// then.
     ///
-    /// Time and memory grow with these records alone. After an error the walk stands behind those that
-    /// it had gone over by then, whose payloads are gone.
+    /// Time and memory grow with these records alone. After an error the walk stands behind those
+    /// that it had gone over by then, whose payloads are gone.
     pub fn rest<D: Disk>(&mut self, disk: &mut D) -> Result<Vec<Vec<u8>>, RedoFault>
         ensures records { (done : List (List ℕ)) → HasRead self.old done (D.state disk.old).now.seen
             → IfOk result (λ rest.
@@ -122,8 +125,8 @@ impl Walk {
         Ok(payloads)
     }
 
-    /// The store to go on with, where the walk stands at the closed gate behind the last record. Where it does not, more
-    /// records stand behind those of that store.
+    /// The store to go on with, where the walk stands at the closed gate behind the last record.
+    /// Where it does not, more records stand behind those of that store.
     pub fn finish(self) -> Redo
         ensures place { tail_of result ≡ place_of self }
         ensures count { count_of result ≡ self.count }

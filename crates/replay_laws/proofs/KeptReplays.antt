@@ -1,5 +1,6 @@
--- Each call with the mark that a request sent on a connection is one of those that it was shown before it opened this connection, behind the last that
--- was decided: at the start and behind each event.
+-- Each call with the mark that a request sent on a connection is one of those that it was shown
+-- before it opened this connection, behind the last that was decided: at the start and behind each
+-- event.
 use Rattle.std.proofs.Common.{◌≡◌, ◌≢◌, refl, sym, ap, subst, ◌∙◌, Bool, true, false, ℕ, suc, zero, ◌+◌, ◌<◌, ◌≤◌, ◌&&◌, fold, length, append_assoc, append-nil, List, [], ◌∷◌, ◌++◌, map, Option, Some, None, ◌⊎◌, inl, inr, arith}
 use Rattle.std.specs.Prelude.{◌==◌, is_none, not, nat_le, nat_lt, unwrap_or, slice_get, option_map}
 use Rattle.std.specs.List.{list_all}

@@ -1,5 +1,5 @@
--- Where a call with the mark was sent on a connection, what was sent before it is a Connect, a question for an outcome, a Begin, and calls with the mark, all
--- of one request.
+-- Where a call with the mark was sent on a connection, what was sent before it is a Connect, a
+-- question for an outcome, a Begin, and calls with the mark, all of one request.
 use Rattle.std.proofs.Common.{◌≡◌, refl, sym, ap, ◌∙◌, Bool, true, false, ℕ, ◌&&◌, ◌||◌, fold, List, [], ◌∷◌, ◌++◌, Option}
 use Rattle.std.specs.Prelude.{is_none, is_some, not}
 use Rattle.std.proofs.lemmas.Bool.{and_parts}

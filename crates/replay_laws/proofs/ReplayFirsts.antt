@@ -1,4 +1,5 @@
--- Where each connection is opened once, a call that is repeated is one that was shown before the first opening.
+-- Where each connection is opened once, a call that is repeated is one that was shown before the
+-- first opening.
 use Rattle.std.proofs.Common.{◌≡◌, refl, subst, Bool, true, false, ℕ, zero, suc, ◌+◌, ◌<◌, ◌≤◌, ◌&&◌, length, List, [], ◌∷◌, ◌++◌, Some, ◌⊎◌, inl, inr, if◌then◌else◌, arith}
 use Rattle.std.specs.Prelude.{slice_get}
 use Rattle.std.specs.List.{list_all}

@@ -1,4 +1,5 @@
--- Each call with the mark on a connection repeats, in its place, one of the calls that were shown before the connection was opened.
+-- Each call with the mark on a connection repeats, in its place, one of the calls that were shown
+-- before the connection was opened.
 use Rattle.std.proofs.Common.{◌≡◌, refl, sym, ap, subst, ◌∙◌, Bool, true, false, ℕ, ◌+◌, ◌<◌, ◌≤◌, ◌&&◌, filter, length, List, [], ◌∷◌, ◌++◌, Option, Some, None, ◌⊎◌, inl, inr, if◌then◌else◌, arith}
 use Rattle.std.specs.Prelude.{◌==◌, nat_le, nat_lt, slice_get}
 use Rattle.std.specs.List.{list_all, list_any}

@@ -1,5 +1,5 @@
--- The calls with the mark that a request sent on a connection are in order the ones behind the last decided of those that it was shown before it opened this
--- connection.
+-- The calls with the mark that a request sent on a connection are in order the ones behind the last
+-- decided of those that it was shown before it opened this connection.
 use Rattle.std.proofs.Common.{◌≡◌, refl, sym, ap, subst, ◌∙◌, Bool, true, false, ℕ, zero, suc, ◌+◌, ◌-◌, ◌<◌, ◌≤◌, ◌&&◌, cond, fold, filter, length, append_assoc, List, [], ◌∷◌, ◌++◌, map, Option, Some, None, ◌⊎◌, inl, inr, if◌then◌else◌, arith}
 use Rattle.std.specs.Prelude.{◌==◌, slice_get}
 use Rattle.std.specs.List.{list_all}

@@ -1,4 +1,5 @@
--- A request opens each connection once: the numbers of those that it opens rise, and none is beyond the last connection.
+-- A request opens each connection once: the numbers of those that it opens rise, and none is beyond
+-- the last connection.
 use Rattle.std.specs.Prelude.{ℕ, ◌&&◌, Bool, true, nat_le, nat_lt, List, [], ◌∷◌, length}
 use Rattle.std.specs.List.{list_all}
 use Rattle.client_model.specs.declared.input.Input.{Input}

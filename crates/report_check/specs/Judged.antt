@@ -6,7 +6,8 @@ use Rattle.report_check.specs.declared.verdict.Verdict.{Verdict}
 use Rattle.report_check.specs.declared.verdict.Verdict.TheVariants as verdict
 use Rattle.report_check.specs.meaning.Verdicts.{first_false, undecided, IsFirstFalse}
 
--- Undecided exactly where more is in doubt than is tried; else Yes where each clause holds, and No with the first that does not
+-- Undecided exactly where more is in doubt than is tried; else Yes where each clause holds, and No
+-- with the first that does not
 abbrev pub IsJudged : Document → Report → Verdict → Type 0
 IsJudged document report verdict.Yes = (undecided document report ≡ false) × (first_false document report ≡ None)
 IsJudged document report (verdict.No one path) = (undecided document report ≡ false) × IsFirstFalse document report one path

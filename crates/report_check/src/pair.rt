@@ -112,8 +112,8 @@ fn streamed(alloc: Global, bytes: &[u8]) -> Option<(Document, Report)>
 /// table, beside its alert lines, blocked identifiers and the bytes of its disk. But where there is
 /// a fault, a number that is no integer of 64 bits or is `-0`, a report before the document or
 /// served items before the notes, the whole object does so. The cost is linear in the number of
-/// bytes, but for the n log n comparisons of keys and names that stand in no rising order. Memory is
-/// what is read, the bytes, and as many once more meanwhile, as room for texts with escapes.
+/// bytes, but for the n log n comparisons of keys and names that stand in no rising order. Memory
+/// is what is read, the bytes, and as many once more meanwhile, as room for texts with escapes.
 pub fn pair_from(alloc: Global, bytes: &[u8]) -> Result<(Document, Report), DocFault>
     ensures read { Gives result (pair_at bytes.now) }
     ensures document { IfOk result (λ pair. IsDocument pair.0) }

@@ -20,7 +20,8 @@ abbrev pub last_event : ℕ → List Wanted → ℕ
 last_event event [] = event
 last_event event (one ∷ all) = last_event one.event all
 
--- Their events rise, or stay, from this one on. Each has the greatest horizon that was wanted by then, and the last one the greatest of all.
+-- Their events rise, or stay, from this one on. Each has the greatest horizon that was wanted by
+-- then, and the last one the greatest of all.
 abbrev pub AreOrdered : ℕ → ℕ → List Opening → ℕ → Type 0
 AreOrdered event most [] greatest = most ≡ greatest
 AreOrdered event most (one ∷ all) greatest = (event ≤ one.event) × ((one.most ≡ max most one.horizon) × AreOrdered one.event one.most all greatest)
@@ -47,7 +48,8 @@ abbrev pub Rises : ℕ → List Ended → ℕ → Type 0
 Rises low [] high = low ≤ high
 Rises low (one ∷ all) high = (low ≤ one.tick) × Rises one.tick all high
 
--- Those that a front passed ask for its horizon at this tick and at each later one. The others stand in the order in which they ended.
+-- Those that a front passed ask for its horizon at this tick and at each later one. The others
+-- stand in the order in which they ended.
 pub record IsFront (retention tick : ℕ) (front : Front) (ended : List Ended) : Type 0 where
   pub within : front.passed ≤ length ended
   pub asks : (later : ℕ) → tick ≤ later → most_by (part_of retention later) ended ≡ max front.most (most_by (part_of retention later) (drop front.passed ended))

@@ -12,7 +12,8 @@ pub record Last : Type 0 where
   pub request : Request
   pub copy : RequestReport
 
--- How far the reports were put: the requests that have none yet, the last copy, whether one was of no request, and the submissions.
+-- How far the reports were put: the requests that have none yet, the last copy, whether one was of
+-- no request, and the submissions.
 pub record Submitting : Type 0 where
   pub script : List Request
   pub last : Option Last

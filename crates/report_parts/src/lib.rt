@@ -1,5 +1,5 @@
-//! The submissions of a report's clients, each with its steps, and the draws that a repeated call was
-//! shown with.
+//! The submissions of a report's clients, each with its steps, and the draws that a repeated call
+//! was shown with.
 #![tactic(auto)]
 
 mod kept;

@@ -149,7 +149,8 @@ fn draws_of(shown: &[ShownCall], place: usize) -> &[Draw]
     }
 }
 
-/// The draws of the call at a place behind the last decided one that the part was shown before an event.
+/// The draws of the call at a place behind the last decided one that the part was shown before an
+/// event.
 fn shown_draws<'a>(part: &Part<'a>, acquired: u64, place: usize) -> &'a [Draw]
     ensures { result.now ≡ draws_shown acquired place (part_as part.now) }
 {

@@ -12,7 +12,8 @@ use report_story::{Step, is_hello};
 use std::alloc::Global;
 use svc_values::NoMemory;
 
-/// A submission with its steps: from those that acquire its sessions up to the next that acquires one.
+/// A submission with its steps: from those that acquire its sessions up to the next that acquires
+/// one.
 #[derive(Drop)]
 pub struct Part<'a> {
     pub submission: Submission<'a>,
@@ -186,8 +187,8 @@ fn step_at<'a>(steps: &[Step<'a>], place: usize) -> Option<Step<'a>>
     }
 }
 
-/// The first of a client's steps that is of none of these submissions, since it acquires a session of
-/// none. Linear.
+/// The first of a client's steps that is of none of these submissions, since it acquires a session
+/// of none. Linear.
 pub fn left_of<'a>(submissions: &[Submission<'_>], mine: &[Step<'a>]) -> Option<Step<'a>>
     ensures { option_map step_as result ≡ left_of_def (map submission_as submissions.now) (map step_as mine.now) }
 {

@@ -163,8 +163,8 @@ fn put_all<'a>(
     Ok(put)
 }
 
-/// The submissions of a client, and whether its reports are the copies of its requests, in the order of
-/// the script.
+/// The submissions of a client, and whether its reports are the copies of its requests, in the
+/// order of the script.
 #[derive(Drop)]
 pub struct Submissions<'a> {
     pub all: Vec<Submission<'a>>,

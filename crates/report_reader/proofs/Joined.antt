@@ -1,4 +1,5 @@
--- A report of which the clients, entries, notes, served items and tables were read before its other members.
+-- A report of which the clients, entries, notes, served items and tables were read before its other
+-- members.
 use Rattle.std.proofs.Common.{◌≡◌, ℕ, ◌^◌, ◌-◌, List, Bool, true, false, Option, Some, None, option_map, Result, Ok, codes, refl, sym, ap, subst, ◌∙◌}
 use Rattle.serde_json.specs.Data.{Data, Members, object}
 use Rattle.json_form.specs.meaning.Faults.{Fault, ◌>>=◌, within}

@@ -41,7 +41,8 @@ noted (Some notes) = notes
 abbrev pub IsFound : {A : Type 0} → List ℕ → (Data → Result A Fault) → Option A → Named → Type 0
 IsFound name read found ms = option_map read (ms name) ≡ option_map (λ x. Ok x) found
 
--- what was read is what these members are read as, the items beside the notes that were read, and the others are held
+-- what was read is what these members are read as, the items beside the notes that were read, and
+-- the others are held
 pub record AreRead (print : Bool) (ahead : Ahead) (ms : Named) : Type 0 where
   pub clients : IsFound (codes "clients") clients_in ahead.clients ms
   pub entries : IsFound (codes "entries") entries_in ahead.entries ms
@@ -50,7 +51,8 @@ pub record AreRead (print : Bool) (ahead : Ahead) (ms : Named) : Type 0 where
   pub tables : IsFound (codes "tables") tables_in ahead.tables ms
   pub others : members_at ahead.others ≡ only (held_members print) ms
 
--- the tokens begin with a value, and once it was passed it is read with the members before as the one at this name
+-- the tokens begin with a value, and once it was passed it is read with the members before as the
+-- one at this name
 abbrev pub Passes : Bool → ℕ → List ℕ → Ahead → List Token → Ahead → List Token → Type 0
 Passes print depth name old ts new rest =
     (d : Data) × (value_ahead depth ts ≡ Some (d, rest)) × ((ms : Named) → AreRead print old ms → AreRead print new (putting name d ms))

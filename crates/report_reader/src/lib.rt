@@ -1,5 +1,5 @@
-//! Reading of reports from JSON values and from tokens: the report of a document, or the first place
-//! at fault.
+//! Reading of reports from JSON values and from tokens: the report of a document, or the first
+//! place at fault.
 #![tactic(auto)]
 
 pub mod laws;

@@ -1,4 +1,5 @@
--- The items of a report that was read stand at events that rise, each at a note that is no moment of its own.
+-- The items of a report that was read stand at events that rise, each at a note that is no moment
+-- of its own.
 use Rattle.std.proofs.Common.{◌≡◌, refl, sym, ap, ◌∙◌, ℕ, suc, ◌+◌, ◌-◌, ◌<◌, ◌≤◌, Bool, true, false, not, List, [], ◌∷◌, arith}
 use Rattle.std.specs.Prelude.{◌&&◌, ◌==◌, nat_lt, filter, slice_get}
 use Rattle.std.specs.Option.{option_map_or}

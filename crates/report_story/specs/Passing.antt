@@ -1,5 +1,5 @@
--- A report gone through note by note: what was seen, the steps that were made, and what each served item that carries the
--- mark repeats.
+-- A report gone through note by note: what was seen, the steps that were made, and what each served
+-- item that carries the mark repeats.
 use Rattle.std.specs.Prelude.{ℕ, ◌+◌, ◌==◌, Bool, true, false, List, [], ◌∷◌, ◌++◌, fold, Option, None, option_map, option_and_then}
 use Rattle.svc_values.specs.declared.entry.SessionId.{SessionId}
 use Rattle.outage_schedule.specs.declared.item.Served.{Served}
@@ -11,7 +11,8 @@ use Rattle.shown_clauses.specs.meaning.Steps.{Step}
 use Rattle.shown_clauses.specs.meaning.KeptDraws.{is_marked_item, place_in}
 use Rattle.report_story.specs.Plain.{plain_item, plain_note, is_idle, steps_if, steps_by}
 
--- A call that is repeated: the acquisition of the session before its turn, and how many calls with the mark stood in the turn before it.
+-- A call that is repeated: the acquisition of the session before its turn, and how many calls with
+-- the mark stood in the turn before it.
 pub record Repeated : Type 0 where
   pub acquired : Acquired
   pub place : ℕ
@@ -30,8 +31,8 @@ repeated_if false seen session = None
 abbrev pub repeated_by : Seen → Served → Option Repeated
 repeated_by seen one = repeated_if (is_marked_item one.item) seen one.session
 
--- How far a report was gone through: the event of the next note, what was seen, the steps, what each served item repeats, and the items
--- that are left.
+-- How far a report was gone through: the event of the next note, what was seen, the steps, what
+-- each served item repeats, and the items that are left.
 pub record Passed : Type 0 where
   pub event : ℕ
   pub seen : Seen

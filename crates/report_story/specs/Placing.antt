@@ -59,7 +59,8 @@ abbrev pub noted_place : Which → List (ℕ × ℕ) → List ((ℕ × ℕ) × �
 noted_place (which.Number connection) numbers sessions = value_of (λ a b. a == b) numbers connection
 noted_place (which.Session session) numbers sessions = value_of same_key sessions (key_of session)
 
--- The maps have the place of the newest of each number and of each session. No two have one of these, where none was put twice.
+-- The maps have the place of the newest of each number and of each session. No two have one of
+-- these, where none was put twice.
 pub record IsIndexed (numbers : List (ℕ × ℕ)) (sessions : List ((ℕ × ℕ) × ℕ)) (twice : Bool) (all : List Identity) : Type 0 where
   pub places : (named : Which) → noted_place named numbers sessions ≡ place_of (is_one named) all
   pub single : twice ≡ false → (named : Which) → IsSingle (is_one named) all

@@ -1,5 +1,5 @@
--- What no clause on showings looks at is left out: the event that ended a connection, the tick of a step, and the
--- connection that it lost.
+-- What no clause on showings looks at is left out: the event that ended a connection, the tick of a
+-- step, and the connection that it lost.
 use Rattle.std.specs.Prelude.{ℕ, Bool, true, false, List, [], ◌∷◌, ◌++◌, map, None}
 use Rattle.outage_schedule.specs.declared.item.Served.{Served}
 use Rattle.outage_schedule.specs.declared.note.GoNote.{GoNote}

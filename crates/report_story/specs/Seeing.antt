@@ -31,7 +31,8 @@ turned session one seen = record { links = in_turn session one seen.links; over 
 
 -- ---- the turn that another one follows
 
--- The turn of the session's newest connection is over. What a `begin` makes of the connections is the same as before.
+-- The turn of the session's newest connection is over. What a `begin` makes of the connections is
+-- the same as before.
 pub record IsTurnOver (session : SessionId) (old : Seen) (new : Seen) : Type 0 where
   pub over : new.over ≡ over_on (link_of_session session old.links) ++ old.over
   pub links : with_changed (has_session session) turn_begun new.links ≡ with_changed (has_session session) turn_begun old.links

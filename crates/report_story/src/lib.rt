@@ -1,5 +1,5 @@
-//! The story of a report: what each step of a client took, what each session served since a `begin`,
-//! and what each served item repeats.
+//! The story of a report: what each step of a client took, what each session served since a
+//! `begin`, and what each served item repeats.
 #![tactic(auto)]
 
 mod change;

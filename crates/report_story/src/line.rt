@@ -23,8 +23,8 @@ pub struct Repeated {
     pub place: usize,
 }
 
-/// A connection whose Connect was served: its session, the replies that were not taken yet, its last
-/// acquisition, and what its session served since the last `begin`.
+/// A connection whose Connect was served: its session, the replies that were not taken yet, its
+/// last acquisition, and what its session served since the last `begin`.
 #[derive(Drop)]
 pub(crate) struct Line<'a> {
     connection: u64,
@@ -194,7 +194,8 @@ impl<'a> Line<'a> {
         turn
     }
 
-    /// What its session repeats where it serves a call with the mark now. Linear in the turn's calls.
+    /// What its session repeats where it serves a call with the mark now. Linear in the turn's
+    /// calls.
     pub(crate) fn repeated(&self) -> Option<Repeated>
         ensures { option_map repeated_as result ≡ repeated_on self.now }
     {

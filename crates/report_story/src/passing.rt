@@ -16,8 +16,8 @@ use std::alloc::Global;
 use std::marker::Model;
 use svc_values::{NoMemory, SessionId};
 
-/// How far a report was gone through: the event of the next note, what was seen, the steps that were
-/// made, what each served item repeats, and the items that are left.
+/// How far a report was gone through: the event of the next note, what was seen, the steps that
+/// were made, what each served item repeats, and the items that are left.
 #[derive(Drop)]
 pub(crate) struct Passing<'a> {
     pub(crate) event: u64,

@@ -20,8 +20,8 @@ use std::alloc::Global;
 use std::marker::Model;
 use svc_values::{Call, NoMemory, SessionId};
 
-/// The connections, the newest first, and the turns that another `begin` followed. Each call takes the
-/// logarithm of the number of connections, as long as no two have one number or one session.
+/// The connections, the newest first, and the turns that another `begin` followed. Each call takes
+/// the logarithm of the number of connections, as long as no two have one number or one session.
 #[derive(Drop)]
 pub(crate) struct Seen<'a> {
     alloc: Global,
@@ -211,8 +211,8 @@ impl<'a> Seen<'a> {
         }
     }
 
-    /// The turn that another `begin` of the session, at this event, follows. One of a session that no
-    /// connection has is a turn that nobody acquired.
+    /// The turn that another `begin` of the session, at this event, follows. One of a session that
+    /// no connection has is a turn that nobody acquired.
     fn turn_over(&mut self, session: SessionId, event: u64) -> Result<(), NoMemory>
         ensures { OnOk result (IsTurnOver session self.old self.new) }
     {

@@ -23,8 +23,8 @@ pub struct Marked<'a> {
     pub call: &'a Call,
 }
 
-/// What a session served since one `begin`: the event of that item, the last acquisition of the session
-/// before it, and the calls in order, those too that were blocked or that a crash stopped.
+/// What a session served since one `begin`: the event of that item, the last acquisition of the
+/// session before it, and the calls in order, those too that were blocked or that a crash stopped.
 #[derive(Drop)]
 pub struct Turn<'a> {
     pub begun: u64,

@@ -1,5 +1,5 @@
--- Each part of a report is of the form that is read back from its text: its numbers are whole, its members
--- stand once and in order, and it does not nest deep.
+-- Each part of a report is of the form that is read back from its text: its numbers are whole, its
+-- members stand once and in order, and it does not nest deep.
 use Rattle.std.proofs.Common.{ℕ, suc, true, false, List, map, Bool, refl}
 use Rattle.serde_json.specs.View.{items_of}
 use Rattle.svc_values.specs.declared.value.Value.{Value}

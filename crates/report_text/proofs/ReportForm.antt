@@ -1,5 +1,5 @@
--- The failures, requests, notes and items of a report are of the form that is read back from its text, and
--- so is the whole.
+-- The failures, requests, notes and items of a report are of the form that is read back from its
+-- text, and so is the whole.
 use Rattle.std.proofs.Common.{ℕ, zero, suc, true, false, List, Bool, refl}
 use Rattle.std.specs.Prelude.{Option, Some, None}
 use Rattle.serde_json.specs.Data.{Data}

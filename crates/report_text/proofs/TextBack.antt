@@ -1,4 +1,5 @@
--- The compact text of a value whose numbers are of 64 bits is read back, so it is that of one value.
+-- The compact text of a value whose numbers are of 64 bits is read back, so it is that of one
+-- value.
 use Rattle.std.proofs.Common.{◌≡◌, ◌+◌, pos, negsuc, [], List, ◌++◌, Option, Some, None, refl, sym, ap, ap₂, ◌∙◌, arith}
 use Rattle.json.specs.Token.{Token}
 use Rattle.json.specs.Lex.{tokens}

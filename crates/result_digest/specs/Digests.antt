@@ -7,7 +7,8 @@ use Rattle.canon_bytes.specs.meaning.Numbers.{spell_u64}
 use Rattle.canon_bytes.specs.meaning.AnswerBytes.{spell_answer}
 use Rattle.result_digest.specs.declared.digest.Digesting.{Digesting}
 
--- It was begun for so many answers, and has taken in these: the hasher holds the count and their bytes, one after the other.
+-- It was begun for so many answers, and has taken in these: the hasher holds the count and their
+-- bytes, one after the other.
 pub record HasTaken (digesting : Digesting) (count : ℕ) (answers : List Answer) : Type 0 where
   pub begun : digesting.count ≡ count
   pub taken : digesting.added ≡ length answers

@@ -9,8 +9,8 @@ use sha2::{Digest, Sha256};
 use std::alloc::Global;
 use svc_values::{Answer, NoMemory};
 
-/// A SHA-256 digest (FIPS 180-4) of the canonical bytes of a list of answers, in the making: first the
-/// count, and then the answers one by one. The bytes of the whole list are never held.
+/// A SHA-256 digest (FIPS 180-4) of the canonical bytes of a list of answers, in the making: first
+/// the count, and then the answers one by one. The bytes of the whole list are never held.
 #[derive(Drop)]
 pub struct Digesting {
     alloc: Global,

@@ -1,5 +1,5 @@
--- No value that was drawn of a sequence, and no identifier value, stands twice among a report's entries.
--- Here is what contracts and proofs say of it besides.
+-- No value that was drawn of a sequence, and no identifier value, stands twice among a report's
+-- entries. Here is what contracts and proofs say of it besides.
 use Rattle.std.specs.Prelude.{◌&&◌, Bool}
 use Rattle.svc_values.specs.declared.draw.Draw.{Draw}
 use Rattle.svc_values.specs.meaning.Same.{same_draw}

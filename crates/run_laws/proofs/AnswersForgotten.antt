@@ -1,4 +1,5 @@
--- Each answer that a report tells of says forgotten exactly below the horizon at its event, which the store has before it, and so it is right.
+-- Each answer that a report tells of says forgotten exactly below the horizon at its event, which
+-- the store has before it, and so it is right.
 use Rattle.std.proofs.Common.{◌≡◌, refl, sym, ap, subst, ◌∙◌, append-nil, append_assoc, Bool, true, ℕ, ◌+◌, ◌&&◌, ◌||◌, length, List, [], ◌∷◌, ◌++◌, Some, ◌⊎◌, inl, inr}
 use Rattle.std.specs.Prelude.{not, nat_lt}
 use Rattle.std.specs.List.{list_all}

@@ -1,5 +1,5 @@
--- Each answer that a report tells of is by the outcome table, with as many entries of the session as were stored before its event, as far as
--- it is rightly forgotten or not.
+-- Each answer that a report tells of is by the outcome table, with as many entries of the session
+-- as were stored before its event, as far as it is rightly forgotten or not.
 use Rattle.std.proofs.Common.{◌≡◌, refl, sym, ap, subst, ◌∙◌, append-nil, append_assoc, Bool, true, false, ℕ, ◌+◌, ◌<◌, ◌≤◌, ◌&&◌, ◌||◌, List, [], ◌∷◌, ◌++◌, Option, Some, None, ◌⊎◌, inl, inr, arith}
 use Rattle.std.specs.Prelude.{◌==◌, Contains, not, nat_lt, find, option_map}
 use Rattle.std.specs.List.{list_all}

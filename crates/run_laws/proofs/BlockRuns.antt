@@ -41,8 +41,8 @@ answered_of history = flat_map answered_by_one history
 
 -- WHAT WAS BLOCKED --------------------------------------------------------------------------------
 
--- What one answer adds to the blocks, of which these were there before all. None where the identifier is blocked, or may have been and was
--- not; and else itself.
+-- What one answer adds to the blocks, of which these were there before all. None where the
+-- identifier is blocked, or may have been and was not; and else itself.
 pub data Blocks (before now : List Ltxid) : List Ltxid → List Answered → Type 0 where
   BlocksNone : (after : List Ltxid) → after ≡ now → Blocks before now after []
   LeavesOne : (after : List Ltxid) (one : Answered) → after ≡ now → (is_blocked (before ++ now) one.ltxid ≡ true) ⊎ (one.may_be ≡ true) → Blocks before now after (one ∷ [])

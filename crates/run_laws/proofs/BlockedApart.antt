@@ -1,4 +1,5 @@
--- No identifier of a report's journal is both blocked and an entry's: a blocked one is its session's next, and the entries are numbered.
+-- No identifier of a report's journal is both blocked and an entry's: a blocked one is its
+-- session's next, and the entries are numbered.
 use Rattle.std.proofs.Common.{◌≡◌, refl, sym, ap, subst, ◌∙◌, Bool, true, false, ◌<◌, ◌||◌, cond, List, [], ◌∷◌, ◌++◌, map, Some, arith}
 use Rattle.std.specs.Prelude.{◌==◌, nat_lt, find, is_none, option_map}
 use Rattle.std.specs.List.{list_all, list_any}

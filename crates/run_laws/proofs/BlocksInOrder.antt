@@ -45,7 +45,8 @@ all_answered before _ _ (OneMore now after answers more has blocks) = step_answe
 abbrev walk : List Ltxid → List Ltxid → Walk
 walk done coming = record { done = done; coming = coming; fits = true }
 
--- Where blocks are still to come, the walk has perhaps taken the first of them early: at a crashed item, which did not block them.
+-- Where blocks are still to come, the walk has perhaps taken the first of them early: at a crashed
+-- item, which did not block them.
 record Walked (before now later : List Ltxid) (answers : List Answered) : Type 0 where
   early : List Ltxid
   rest : List Ltxid

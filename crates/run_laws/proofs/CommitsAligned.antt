@@ -1,4 +1,5 @@
--- The entries that a run of the plain server gained are those of the commits that its report tells of, one each, in order.
+-- The entries that a run of the plain server gained are those of the commits that its report tells
+-- of, one each, in order.
 use Rattle.std.proofs.Common.{◌≡◌, refl, sym, ap, subst, ◌∙◌, append-nil, append_assoc, false, ℕ, List, [], ◌∷◌, ◌++◌, map}
 use Rattle.std.specs.Prelude.{All}
 use Rattle.std.proofs.lemmas.List.{map-append}

@@ -1,4 +1,5 @@
--- The commits that a report tells of, moment by moment, and how many entries of a session they stored before an event.
+-- The commits that a report tells of, moment by moment, and how many entries of a session they
+-- stored before an event.
 use Rattle.std.proofs.Common.{◌≡◌, refl, sym, ap, ◌∙◌, append_assoc, Bool, true, false, ℕ, ◌+◌, ◌&&◌, cond, List, [], ◌∷◌, ◌++◌, map, count_by, arith}
 use Rattle.std.specs.Prelude.{not, nat_lt}
 use Rattle.std.specs.List.{list_all}

@@ -1,4 +1,5 @@
--- Along a run, the entries that its server gained are those of the commits that the report tells of, one each, in order.
+-- Along a run, the entries that its server gained are those of the commits that the report tells
+-- of, one each, in order.
 use Rattle.std.proofs.Common.{◌≡◌, refl, sym, ap, subst, ◌∙◌, append-nil, append_assoc, Bool, true, ℕ, ◌+◌, List, [], ◌∷◌, ◌++◌, map, ◌⊎◌, inl, inr, arith}
 use Rattle.std.specs.Prelude.{All, Contains}
 use Rattle.std.proofs.lemmas.Bool.{and_parts}
@@ -150,7 +151,8 @@ module _ (base : Base) (sound : IsSound base) (numbers : EntryNumbers) (final : 
           event_since m more happened one history later server behind gained runs
           (stops_rest history (happened ++ later) (subst (λ (h : List Happened). stops_last h ≡ true) (append_assoc history happened later) stops)) split came counts
 
-  -- The entries of a run so far are of the commits so far, where those that the report has behind them come from what happened later.
+  -- The entries of a run so far are of the commits so far, where those that the report has behind
+  -- them come from what happened later.
   pub aligned : (events : ℕ) (moments : List HappenedAt) (history : List Happened) → RunTells events moments history → (later : List Happened) (server : Server) → Runs base history server → stops_last (history ++ later) ≡ true
       → (gained : List Entry) → final ≡ server.core.entries ++ gained → All (CameFrom later) gained → AreOf server.core.entries (commits_from final [] moments)
   aligned _ _ _ NothingYet later server runs stops gained split came =

@@ -1,4 +1,5 @@
--- Frame by frame, the entries that a run of the plain server gains are of the commits that its report tells of.
+-- Frame by frame, the entries that a run of the plain server gains are of the commits that its
+-- report tells of.
 use Rattle.std.proofs.Common.{◌≡◌, refl, sym, ap, subst, ◌∙◌, append-nil, append_assoc, Bool, true, false, ℕ, ◌+◌, ◌<◌, ◌≤◌, ◌&&◌, ◌||◌, cond, length, List, [], ◌∷◌, ◌++◌, map, arith}
 use Rattle.std.specs.Prelude.{All, not, nat_lt}
 use Rattle.std.specs.List.{list_all, list_any}
@@ -187,7 +188,8 @@ module _ (base : Base) (sound : IsSound base) (numbers : EntryNumbers) (final : 
         test : Entry → Bool
         test one = same_ltxid one.ltxid next
 
-    -- A call that was stopped stored its entry exactly where an entry has the session's next identifier.
+    -- A call that was stopped stored its entry exactly where an entry has the session's next
+    -- identifier.
     pub stopped_are : (now : ℕ) (replay : Bool) (kept : List Draw) (called : Call) (event : ℕ) (few gained : List Entry) → final ≡ (before ++ few) ++ gained → numbered_after [] (base.entries ++ (before ++ few)) ≡ true → length few ≤ 1
         → All (λ entry. CommitsAs entry (ServedFrame session now (up.Call replay kept called) Stopped)) few → (has_commit called ≡ false → few ≡ []) → entries_of gained session ≡ 0
         → AreOf few (commit_if (has_crashed_commit final commits session replay called) session event)

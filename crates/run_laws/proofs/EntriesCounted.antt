@@ -1,5 +1,6 @@
--- Of each connection: behind a frame that its session answered, as many entries were stored of this session by the event as it had answered
--- Committed. Wherever the run has come to that a report tells.
+-- Of each connection: behind a frame that its session answered, as many entries were stored of this
+-- session by the event as it had answered Committed. Wherever the run has come to that a report
+-- tells.
 use Rattle.std.proofs.Common.{◌≡◌, refl, sym, ap, subst, ◌∙◌, Bool, true, false, ℕ, ◌+◌, ◌<◌, ◌≤◌, ◌&&◌, ◌||◌, length, List, [], ◌∷◌, ◌++◌, map, count_by, cond, Option, Some, None, ◌⊎◌, inl, inr, arith}
 use Rattle.std.specs.Prelude.{◌==◌, IsTrue, nat_le, nat_lt, is_none, is_some}
 use Rattle.std.specs.List.{list_all, last_or}
@@ -172,7 +173,8 @@ own_last (Some session) [] one all = ap Some (sym ((same_session_decides one.ser
 own_last found (first ∷ before) one all =
     own_last found before one (and_parts (option_map_or (same_session first.served.session) found false) (list_all (λ other. option_map_or (same_session other.served.session) found false) (before ++ one ∷ [])) all).1
 
--- what is known of a connection: its items are its session's, and this counts what was answered Committed
+-- what is known of a connection: its items are its session's, and this counts what was answered
+-- Committed
 record Counts (t : Traced) (link : Link) : Type 0 where
   pub handled : handled_from 0 link.served ≡ true
   pub commits : counts_commits link ≡ true

@@ -1,5 +1,5 @@
--- What one thing that happened on the plain server added to its entries: an entry of its call's session at most, and one where it says
--- Committed. No session of a run has entries from before it.
+-- What one thing that happened on the plain server added to its entries: an entry of its call's
+-- session at most, and one where it says Committed. No session of a run has entries from before it.
 use Rattle.std.proofs.Common.{◌≡◌, refl, sym, ap, subst, ◌∙◌, append-nil, true, false, ℕ, ◌+◌, ◌<◌, ◌≤◌, length, List, [], ◌∷◌, ◌++◌, inl, inr, arith}
 use Rattle.std.specs.Prelude.{All, IsTrue}
 use Rattle.std.proofs.lemmas.List.{append_cancel_left}

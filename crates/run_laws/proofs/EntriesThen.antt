@@ -1,4 +1,5 @@
--- The entries of a session that a report tells to be stored before an event are those of the journal where the run had come to then.
+-- The entries of a session that a report tells to be stored before an event are those of the
+-- journal where the run had come to then.
 use Rattle.std.proofs.Common.{◌≡◌, refl, sym, ap, subst, ◌∙◌, append-nil, append_assoc, true, ℕ, ◌+◌, List, [], ◌∷◌, ◌++◌}
 use Rattle.std.specs.Prelude.{All, not, nat_lt}
 use Rattle.std.specs.List.{list_all}
@@ -39,7 +40,8 @@ use Rattle.run_laws.proofs.RunTells.{HasCome, told, moments_now, come_on}
 
 -- WHAT COMES LATER --------------------------------------------------------------------------------
 
--- what is told and what happens behind a place of the run, and the entries that the journal gains from it
+-- what is told and what happens behind a place of the run, and the entries that the journal gains
+-- from it
 pub record Later (all : List Note) (whole : List Served) (last : Seen) (end : Traced) (notes : List Note) (items : List Served) (before : Seen) (old : Traced) : Type 0 where
   pub rest : List HappenedAt
   pub moments : moments_of all whole ≡ moments_of notes items ++ rest

@@ -1,4 +1,5 @@
--- What an event tells, beside what the service did in it: the frame that an item is of, a run outside, or a question.
+-- What an event tells, beside what the service did in it: the frame that an item is of, a run
+-- outside, or a question.
 use Rattle.std.proofs.Common.{◌≡◌, refl, sym, ap, subst, append-nil, Bool, true, false, ℕ, ◌+◌, ◌&&◌, List, [], ◌∷◌, ◌++◌, map, Option, Some, None, ◌⊎◌, inl, inr, if◌then◌else◌}
 use Rattle.std.specs.Prelude.{◌==◌, option_and_then}
 use Rattle.std.specs.List.{list_all}

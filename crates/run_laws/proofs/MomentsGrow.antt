@@ -1,4 +1,5 @@
--- What a run tells of its sessions grows event by event: what an event tells stands behind all that was told before it.
+-- What a run tells of its sessions grows event by event: what an event tells stands behind all that
+-- was told before it.
 use Rattle.std.proofs.Common.{◌≡◌, refl, sym, ap, ◌∙◌, append-nil, append_assoc, Bool, true, false, ℕ, ◌+◌, ◌<◌, ◌≤◌, length, List, [], ◌∷◌, ◌++◌, map, Some, arith, if◌then◌else◌}
 use Rattle.std.specs.Prelude.{◌==◌, not, nat_lt}
 use Rattle.std.specs.List.{list_all}

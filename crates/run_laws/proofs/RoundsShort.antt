@@ -159,7 +159,8 @@ module _ (setting : Setting) (short : AreShort setting) where
 -- A CLIENT ----------------------------------------------------------------------------------------
 
 module _ (t : Traced) (inv : Orderly t) (short : AreShort t.setting) where
-  -- the calls that are left to a request in course are its script's, and it records no more calls than it may
+  -- the calls that are left to a request in course are its script's, and it records no more calls
+  -- than it may
   left_few : (number : ℕ) (client : Client) (doing : Doing) → client_at t.machine.clients number ≡ Some client → client.now ≡ Some doing → (length doing.talk.left ≤ 2048) × (records_few t.setting.terms doing.talk.phase ≡ true)
   left_few number client doing here is =
       let known = follows_by (script_at t.setting number) client.past doing.request follows in

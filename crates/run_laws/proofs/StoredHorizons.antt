@@ -1,5 +1,6 @@
--- The incarnation that a store has at the end of a run, and the horizon that it holds in one: what the openings so far raised it to, or more by one that was stopped and asked for no more
--- than the next one will. While the server is up it is the one that the report tells of the next event.
+-- The incarnation that a store has at the end of a run, and the horizon that it holds in one: what
+-- the openings so far raised it to, or more by one that was stopped and asked for no more than the
+-- next one will. While the server is up it is the one that the report tells of the next event.
 use Rattle.std.proofs.Common.{◌≡◌, refl, sym, ap, subst, ◌∙◌, arith, inl, inr, ℕ, ◌+◌, ◌≤◌, Bool, true, false, List, [], ◌∷◌, ◌++◌, length, Some, None}
 use Rattle.std.specs.Prelude.{◌⊎◌, fold, max}
 use Rattle.outage_schedule.specs.declared.document.Document.{Document}

@@ -1,5 +1,5 @@
--- What was told by the outcome table on a store is the outcome by the number of the session's entries there, as far as it is rightly
--- forgotten or not.
+-- What was told by the outcome table on a store is the outcome by the number of the session's
+-- entries there, as far as it is rightly forgotten or not.
 use Rattle.std.proofs.Common.{◌≡◌, refl, sym, ap, subst, ◌∙◌, Bool, true, false, ℕ, ◌+◌, ◌&&◌, ◌||◌, List, [], map, Option, Some, if◌then◌else◌}
 use Rattle.std.specs.Prelude.{◌==◌, not, nat_lt}
 use Rattle.svc_values.specs.declared.entry.Entry.{Entry}
@@ -41,7 +41,8 @@ by_tests next blocked last earlier completed count =
     else (if earlier then verdict.ServerAhead count
     else verdict.ClientAhead count)))
 
--- Whether the identifier is blocked makes no other answer, and of a commit the entry says whether it is completed.
+-- Whether the identifier is blocked makes no other answer, and of a commit the entry says whether
+-- it is completed.
 same_tests : (next blocked last earlier completed : Bool) (count : ℕ) (entry : Option Bool) (answer : AskResult) → outcome_frame answer ≡ down_of (by_tests next blocked last earlier completed count)
     → (next ≡ false → last ≡ true → entry ≡ Some completed) → is_told (told_of (by_tests next false last earlier false count) entry) answer ≡ true
 same_tests true true last earlier completed count entry answer is there = same_frames told.Uncommitted answer is

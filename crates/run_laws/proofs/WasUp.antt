@@ -1,4 +1,5 @@
--- A server that is up behind an event was up before it, or the event opened it, with the incarnation that its note tells.
+-- A server that is up behind an event was up before it, or the event opened it, with the
+-- incarnation that its note tells.
 use Rattle.std.proofs.Common.{◌≡◌, sym, ap, ◌∙◌, refl, Bool, true, false, ℕ, List, Some, None}
 use Rattle.std.specs.Prelude.{◌+◌, ◌&&◌, not}
 use Rattle.svc_values.specs.meaning.Same.{same_bool}

@@ -1,4 +1,5 @@
--- How many entries a session had stored by an event of a run: as many as it had answered Committed, where it answered a frame in that event.
+-- How many entries a session had stored by an event of a run: as many as it had answered Committed,
+-- where it answered a frame in that event.
 use Rattle.std.specs.Prelude.{ℕ, ◌==◌, ◌&&◌, Bool, true, IsTrue, List, [], ◌∷◌, ◌++◌, is_some}
 use Rattle.std.specs.List.{list_all}
 use Rattle.svc_values.specs.declared.entry.SessionId.{SessionId}

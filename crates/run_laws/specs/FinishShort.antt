@@ -37,7 +37,8 @@ pub record AreLimits (document : Document) : Type 0 where
   pub have_calls : IsTrue (all_requests_right document)
   pub again : IsTrue (are_repeated_little document)
 
--- Wherever a run of at most 100,000 events has come to, so much at most is left of the finish that begins there.
+-- Wherever a run of at most 100,000 events has come to, so much at most is left of the finish that
+-- begins there.
 abbrev pub FinishIsShort : Type 0
 FinishIsShort =
     (document : Document) (events : List Event) (notes : List Note) (items : List Served) (seen : Seen) (t : Traced)

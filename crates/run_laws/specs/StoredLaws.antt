@@ -18,7 +18,8 @@ use Rattle.world_model.specs.Reached.{IsRun}
 abbrev pub HoldsOfReports : (Document → Report → Bool) → Type 0
 HoldsOfReports test = (document : Document) (report : Report) (seen : Seen) (t : Traced) (server : Server) → IsReported document report seen t server → IsTrue (test document report)
 
--- Each answer is by the outcome table with the entries that were stored before it, and says forgotten exactly below the horizon of then.
+-- Each answer is by the outcome table with the entries that were stored before it, and says
+-- forgotten exactly below the horizon of then.
 abbrev pub AnswersAreRight : Type 0
 AnswersAreRight = HoldsOfReports (λ document report. answers_right (kept_by document report) report)
 
@@ -34,7 +35,8 @@ BlocksStayApart = HoldsOfReports (λ document report. blocked_or_entry (kept_by 
 abbrev pub BlocksAreAnswered : Type 0
 BlocksAreAnswered = HoldsOfReports (λ document report. blocks_answered (answered_in (moments report)) report.blocked)
 
--- Each identifier that was answered uncommitted was blocked before, or is the next block then, and none is blocked twice.
+-- Each identifier that was answered uncommitted was blocked before, or is the next block then, and
+-- none is blocked twice.
 abbrev pub BlocksComeInOrder : Type 0
 BlocksComeInOrder = HoldsOfReports (λ document report. blocks_in_order (journal_before document).blocked (answered_in (moments report)) report.blocked)
 

@@ -1,4 +1,5 @@
--- Where no two answers that are compared have one digest by chance, a request knows the answers to each call behind which it went on.
+-- Where no two answers that are compared have one digest by chance, a request knows the answers to
+-- each call behind which it went on.
 use Rattle.std.proofs.Common.{◌≡◌, refl, sym, Bool, true, false, ℕ, ◌-◌, ◌&&◌, ◌||◌, length, List, Option, Some, None}
 use Rattle.std.specs.Prelude.{not, slice_get}
 use Rattle.std.specs.List.{list_all}

@@ -39,7 +39,8 @@ got_take (suc n) k [] x less is = absurd (let never : ⊥ = cc in never)
 got_take (suc n) zero (y ∷ ys) x less is = is
 got_take (suc n) (suc k) (y ∷ ys) x less is = let below : k < n = omega (arith, less) in got_take n k ys x below is
 
--- The first call of the request, or one behind a call that ended a transaction, with none from there on that did.
+-- The first call of the request, or one behind a call that ended a transaction, with none from
+-- there on that did.
 pub begins_there : (shown : List ShownCall) (first at : ℕ) → first ≤ at → ((first == 0) || ended_at shown (first - 1)) ≡ true → ((k : ℕ) (x : ShownCall) → first ≤ k → k < at → slice_get shown k ≡ Some x → ends_one x ≡ false) → begins_at shown at ≡ first
 begins_there shown first at most starts none = by (or_cases (first == 0) (ended_at shown (first - 1)) starts)
   where

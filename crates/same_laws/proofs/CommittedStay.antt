@@ -1,5 +1,6 @@
--- Where a request's step takes the answer Committed to a sending, the entry of the sending was there. So a test of the request's sendings that were answered
--- Committed holds behind the step, where it did before and holds of those whose entry is there.
+-- Where a request's step takes the answer Committed to a sending, the entry of the sending was
+-- there. So a test of the request's sendings that were answered Committed holds behind the step,
+-- where it did before and holds of those whose entry is there.
 use Rattle.std.proofs.Common.{◌≡◌, refl, sym, ap, subst, ◌∙◌, Bool, true, false, ℕ, ◌<◌, ◌≤◌, ◌&&◌, cond, filter, fold, length, List, [], ◌∷◌, Some, arith}
 use Rattle.std.specs.Prelude.{not}
 use Rattle.std.specs.List.{list_all}

@@ -1,4 +1,5 @@
--- What holds of each copy of a script's requests holds of each request that was submitted, with its report.
+-- What holds of each copy of a script's requests holds of each request that was submitted, with its
+-- report.
 use Rattle.std.proofs.Common.{◌≡◌, refl, sym, ap, subst, ◌∙◌, Bool, true, false, ℕ, suc, zero, ◌-◌, append_assoc, map, List, [], ◌∷◌, ◌++◌, Some}
 use Rattle.std.specs.Prelude.{not, slice_get}
 use Rattle.std.specs.List.{list_all}
@@ -15,7 +16,8 @@ use Rattle.same_laws.proofs.ScriptsExact.{AreScripts}
 
 -- ONE REPORT AMONG OTHERS -------------------------------------------------------------------------
 
--- a report with more behind it: it is a further copy, where the request was not over, or of a later request
+-- a report with more behind it: it is a further copy, where the request was not over, or of a later
+-- request
 data OneOf (allowed : ℕ) (copy : RequestReport) (mine rest : List RequestReport) (report : RequestReport) (more : List RequestReport) : List RequestReport × List RequestReport → Type 0 where
   IsMine : (further left : List RequestReport) → are_all_copies allowed (copy ∷ mine) ≡ false → OneOf allowed copy mine rest report more (mine ++ report ∷ further, left)
   IsLater : are_all_copies allowed (copy ∷ mine) ≡ true → OneOf allowed copy mine rest report more (mine, rest ++ report ∷ more)

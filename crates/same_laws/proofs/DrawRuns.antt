@@ -1,5 +1,6 @@
--- Wherever a run has come to, where no digests clash: entries have the granted draws that were shown, and the answers of their last calls; they begin
--- behind ends that were shown; and so they are as their requests know.
+-- Wherever a run has come to, where no digests clash: entries have the granted draws that were
+-- shown, and the answers of their last calls; they begin behind ends that were shown; and so they
+-- are as their requests know.
 use Rattle.once_laws.specs.CallEndings.{end_fittingly}
 use Rattle.once_laws.specs.CommitAnswers.{commit_fittingly, store_alone}
 use Rattle.invariant_laws.specs.FirstCalls.{transactions_begin}

@@ -1,4 +1,5 @@
--- What a request knows of the calls that its connections served is so at the start and behind each event.
+-- What a request knows of the calls that its connections served is so at the start and behind each
+-- event.
 use Rattle.std.proofs.Common.{◌≡◌, ◌≢◌, refl, sym, ap, subst, ◌∙◌, append-nil, Bool, true, false, ℕ, suc, zero, ◌+◌, ◌-◌, ◌≤◌, ◌&&◌, ◌||◌, filter, length, take, List, [], ◌∷◌, ◌++◌, map, Option, Some, None, if◌then◌else◌, arith}
 use Rattle.std.specs.Prelude.{not, option_map, unwrap_or}
 use Rattle.std.specs.List.{list_all, cons_option}

@@ -1,4 +1,5 @@
--- Where no two answers that a report's clients compared have one digest by chance, none do in the state at the end of its run.
+-- Where no two answers that a report's clients compared have one digest by chance, none do in the
+-- state at the end of its run.
 use Rattle.std.proofs.Common.{◌≡◌, refl, sym, ap, subst, ◌∙◌, Bool, true, false, ℕ, suc, zero, ◌&&◌, ◌||◌, filter, filter_map, map, List, [], ◌∷◌, ◌++◌, Option, Some, None, ◌⊎◌, inl, inr, if◌then◌else◌}
 use Rattle.std.specs.Prelude.{is_none, not, slice_get}
 use Rattle.std.specs.List.{list_all, list_any, cons_option}

@@ -1,4 +1,5 @@
--- Where no two answers that the clients of a report compared have one digest by chance, none do in the state at the end of its run.
+-- Where no two answers that the clients of a report compared have one digest by chance, none do in
+-- the state at the end of its run.
 use Rattle.std.proofs.Common.{◌≡◌, refl, sym, ap, subst, ◌∙◌, Bool, true, false, ℕ, suc, zero, ◌+◌, ◌&&◌, ◌||◌, length, map, List, [], ◌∷◌, Option, Some, None}
 use Rattle.std.specs.Prelude.{◌==◌, get_or, is_some, not, slice_get}
 use Rattle.std.specs.List.{list_all, list_any}

@@ -1,5 +1,6 @@
--- A transaction that a connection ran and that has a call of a request begins with its first call, with one behind a decided commit that was shown, or
--- with one behind a call that ended a transaction there.
+-- A transaction that a connection ran and that has a call of a request begins with its first call,
+-- with one behind a decided commit that was shown, or with one behind a call that ended a
+-- transaction there.
 use Rattle.std.proofs.Common.{◌≡◌, refl, sym, ap, subst, ◌∙◌, Bool, true, false, ℕ, ◌+◌, ◌&&◌, ◌||◌, List, [], ◌∷◌, ◌++◌, map, filter, fold, Option, Some, None, if◌then◌else◌}
 use Rattle.std.specs.Prelude.{◌==◌, not}
 use Rattle.std.specs.List.{list_all, list_any}

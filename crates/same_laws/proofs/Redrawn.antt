@@ -98,7 +98,8 @@ module _ (keeps : RunsKeepInvariant) (serve : RunsServe) (runs_legal : RunsLegal
     served : HasServed seen.history mark kept call answers draws
     told : settings_behind (items_of served.before) served.session ≡ known
 
-  -- a call of the request that a connection served is in the history, and ran in the settings of its index
+  -- a call of the request that a connection served is in the history, and ran in the settings of
+  -- its index
   record OfCall (course : Course) (one : Handled) (mark : Bool) (call : Call) (answers : List Answer) (draws : List Draw) : Type 0 where
     kept : List Draw
     is_known : KnownCall mark kept call answers draws (settings_before course.request one.sent.call)

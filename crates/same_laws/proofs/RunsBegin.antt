@@ -1,4 +1,5 @@
--- In a state that is as the invariant says, each transaction with a call of a request begins where one may.
+-- In a state that is as the invariant says, each transaction with a call of a request begins where
+-- one may.
 use Rattle.std.proofs.Common.{◌≡◌, refl, sym, ap, ◌∙◌, append_assoc, Bool, true, false, ℕ, ◌+◌, ◌&&◌, List, [], ◌∷◌, ◌++◌, map, Option, None}
 use Rattle.std.specs.Prelude.{◌==◌}
 use Rattle.std.specs.List.{list_all, list_any}

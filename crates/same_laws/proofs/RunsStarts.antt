@@ -1,4 +1,5 @@
--- In a state that is as the invariant says, Begins carry the settings of their requests, and so sessions have them, and transactions start with them.
+-- In a state that is as the invariant says, Begins carry the settings of their requests, and so
+-- sessions have them, and transactions start with them.
 use Rattle.std.proofs.Common.{◌≡◌, true}
 use Rattle.invariant_laws.specs.Begins.{carry_settings, sessions_stand, transactions_start}
 use Rattle.invariant_laws.specs.Invariant.{Invariant}

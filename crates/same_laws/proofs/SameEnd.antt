@@ -1,4 +1,5 @@
--- What holds of each request that is over, with the journal at the end of a run, holds of the request's report in the run's own: the lines of Same.
+-- What holds of each request that is over, with the journal at the end of a run, holds of the
+-- request's report in the run's own: the lines of Same.
 use Rattle.std.proofs.Common.{◌≡◌, refl, sym, ap, subst, ◌∙◌, Bool, true, false, ℕ, suc, ◌+◌, append_assoc, drop, length, map, take, List, [], ◌∷◌, ◌++◌, Option, Some}
 use Rattle.std.specs.Prelude.{slice_get}
 use Rattle.std.specs.List.{list_all}

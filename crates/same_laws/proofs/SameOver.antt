@@ -1,4 +1,5 @@
--- A request that is over stands in the journal with what its client knows, where each entry of a sending does that is open or was answered Committed.
+-- A request that is over stands in the journal with what its client knows, where each entry of a
+-- sending does that is open or was answered Committed.
 use Rattle.std.proofs.Common.{◌≡◌, refl, sym, ap, subst, ◌∙◌, Bool, true, false, ℕ, zero, suc, ◌+◌, ◌-◌, ◌<◌, ◌≤◌, ◌&&◌, append-nil, append_assoc, cond, drop, filter, length, length-append, take, List, [], ◌∷◌, ◌++◌, Option, Some, None, ◌⊎◌, inl, inr, if◌then◌else◌, arith}
 use Rattle.std.specs.Prelude.{nat_le, nat_lt, slice_get}
 use Rattle.std.specs.List.{list_all, last_or}
@@ -63,12 +64,14 @@ holds_any (y ∷ ids) x held = refl
 
 -- ONE REQUEST -------------------------------------------------------------------------------------
 
--- its settings at the start, its script, the calls shown, whether it failed, its lists, and its sendings
+-- its settings at the start, its script, the calls shown, whether it failed, its lists, and its
+-- sendings
 module _ (granted : Draw → Bool) (entries : List Entry) (start : NamedValues) (script : List Call) (shown : List ShownCall) (fails : Bool) (lists : List (List Ltxid)) (told : List Tried) where
   abbrev pub more : ℕ
   more = cond (fails && option_map_or is_any (last_or None lists) false) 1 0
 
-  -- an entry of a sending of one of these calls: of the next call of a request that failed, or of one that was shown as committed
+  -- an entry of a sending of one of these calls: of the next call of a request that failed, or of
+  -- one that was shown as committed
   pub record EntryAt (is_of : ℕ → Bool) (entry : Entry) : Type 0 where
     pub at : ℕ
     pub of_it : is_of at ≡ true

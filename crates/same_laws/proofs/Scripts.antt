@@ -1,5 +1,6 @@
--- The entries of a request that is over are stretches of its script, where each entry of a sending that is open or was answered Committed has the
--- calls that end with the one that was sent; and so they are in the report.
+-- The entries of a request that is over are stretches of its script, where each entry of a sending
+-- that is open or was answered Committed has the calls that end with the one that was sent; and so
+-- they are in the report.
 use Rattle.std.proofs.Common.{◌≡◌, refl, ap, subst, ◌∙◌, Bool, true, false, ℕ, zero, suc, ◌+◌, ◌-◌, ◌&&◌, ◌||◌, drop, length, map, take, List, [], ◌∷◌, ◌++◌, Some}
 use Rattle.std.specs.Prelude.{nat_le, nat_lt, not, slice_get}
 use Rattle.std.specs.List.{list_all}

@@ -1,4 +1,5 @@
--- Each request that a client submitted is its script's, settings and all: the one that follows the reports before it, wherever a run has come to.
+-- Each request that a client submitted is its script's, settings and all: the one that follows the
+-- reports before it, wherever a run has come to.
 use Rattle.std.proofs.Common.{◌≡◌, refl, sym, ap, subst, ◌∙◌, ℕ, suc, zero, append_assoc, List, [], ◌∷◌, ◌++◌, map, Option, Some, None}
 use Rattle.std.specs.Prelude.{get_or, slice_get, slice_set, option_map}
 use Rattle.std.specs.Option.{option_map_or, option_or}

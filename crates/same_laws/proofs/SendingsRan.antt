@@ -1,4 +1,5 @@
--- A sending that was answered Committed was run as the last call of the transaction of its number on its connection, wherever a run has come to.
+-- A sending that was answered Committed was run as the last call of the transaction of its number
+-- on its connection, wherever a run has come to.
 use Rattle.std.proofs.Common.{◌≡◌, refl, sym, ap, subst, ◌∙◌, append-nil, Bool, true, false, ℕ, ◌&&◌, filter, fold, length, List, [], ◌∷◌, ◌++◌, Option, Some, None}
 use Rattle.std.specs.Prelude.{◌==◌, slice_get}
 use Rattle.std.specs.List.{list_all, list_any, last_or}

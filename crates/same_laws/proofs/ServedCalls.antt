@@ -1,4 +1,5 @@
--- A call that a connection served is in the service's history, behind what its session served before it.
+-- A call that a connection served is in the service's history, behind what its session served
+-- before it.
 use Rattle.std.proofs.Common.{◌≡◌, refl, sym, ap, subst, ◌∙◌, ℕ, ◌&&◌, ◌||◌, Bool, true, false, List, [], ◌∷◌, ◌++◌, Option, Some, ◌⊎◌, inl, inr, if◌then◌else◌}
 use Rattle.std.specs.Prelude.{Contains, is_none}
 use Rattle.std.specs.List.{list_all, list_any}

@@ -1,4 +1,5 @@
--- Each item that a connection served is among those of the run: what holds of all items so far holds of each connection's.
+-- Each item that a connection served is among those of the run: what holds of all items so far
+-- holds of each connection's.
 use Rattle.std.proofs.Common.{◌≡◌, refl, sym, ap, ◌∙◌, Bool, true, ℕ, List, [], ◌∷◌, Some}
 use Rattle.std.specs.List.{list_all}
 use Rattle.std.proofs.lemmas.Bool.{and_parts}

@@ -1,4 +1,5 @@
--- Each call of a request that a connection served ran in the settings of its request, changed by each `set` before it.
+-- Each call of a request that a connection served ran in the settings of its request, changed by
+-- each `set` before it.
 use Rattle.std.proofs.Common.{◌≡◌, refl, sym, ap, subst, ◌∙◌, ℕ, ◌+◌, ◌&&◌, Bool, true, false, List, [], ◌∷◌, ◌++◌, map, filter, fold, Option, None, if◌then◌else◌}
 use Rattle.std.specs.Prelude.{◌==◌}
 use Rattle.std.specs.List.{list_all}

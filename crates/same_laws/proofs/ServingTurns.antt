@@ -1,4 +1,5 @@
--- What each connection serves in an event: what it had, or one frame more, whose item is the event's.
+-- What each connection serves in an event: what it had, or one frame more, whose item is the
+-- event's.
 use Rattle.std.proofs.Common.{◌≡◌, refl, sym, ap, ◌∙◌, ℕ, List, [], ◌∷◌, ◌++◌, Some, None}
 use Rattle.svc_values.specs.declared.frame.Up.TheVariants as up
 use Rattle.outage_schedule.specs.declared.item.Served.{Served}

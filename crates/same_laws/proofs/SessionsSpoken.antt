@@ -1,4 +1,5 @@
--- Where a request has spoken on a connection, its session is one that was lent to it or whose Hello it took, wherever a run has come to.
+-- Where a request has spoken on a connection, its session is one that was lent to it or whose Hello
+-- it took, wherever a run has come to.
 use Rattle.std.proofs.Common.{◌≡◌, ◌≢◌, refl, sym, ap, subst, ◌∙◌, Bool, true, false, ℕ, suc, zero, ◌+◌, ◌&&◌, ◌||◌, append_assoc, length, map, List, [], ◌∷◌, ◌++◌, Option, Some, None, ◌⊎◌, inl, inr, arith}
 use Rattle.std.specs.Prelude.{not, option_map, unwrap_or}
 use Rattle.std.specs.List.{list_all, cons_option}

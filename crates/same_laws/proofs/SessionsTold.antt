@@ -1,4 +1,5 @@
--- Where a request has spoken on a connection, its session is one that was lent to it or whose Hello it took.
+-- Where a request has spoken on a connection, its session is one that was lent to it or whose Hello
+-- it took.
 use Rattle.std.proofs.Common.{◌≡◌, refl, sym, ap, subst, ◌∙◌, Bool, true, false, ℕ, ◌&&◌, List, ◌∷◌, ◌++◌, Option, Some, None}
 use Rattle.std.specs.List.{list_any}
 use Rattle.std.specs.Option.{option_map_or, option_or}

@@ -1,4 +1,5 @@
--- The settings before a call of a request, changed by each `set` of so many calls from there on, are those behind these calls.
+-- The settings before a call of a request, changed by each `set` of so many calls from there on,
+-- are those behind these calls.
 use Rattle.std.proofs.Common.{◌≡◌, refl, sym, ap, ◌∙◌, ℕ, zero, suc, ◌+◌, List, [], ◌∷◌, ◌++◌, take, drop, arith}
 use Rattle.std.proofs.lemmas.List.Sums.{fold-append}
 use Rattle.svc_values.specs.declared.call.Call.{Call}

@@ -1,4 +1,5 @@
--- The calls that were shown, cut into transactions: each part but the last ends with the only call of it that ended one, and where they begin.
+-- The calls that were shown, cut into transactions: each part but the last ends with the only call
+-- of it that ended one, and where they begin.
 use Rattle.std.proofs.Common.{◌≡◌, refl, sym, ap, ◌∙◌, Bool, true, false, ℕ, zero, suc, ◌+◌, ◌<◌, ◌≤◌, append_assoc, cond, length, length-append, take, List, [], ◌∷◌, ◌++◌, arith}
 use Rattle.std.specs.Prelude.{not, slice_get}
 use Rattle.std.specs.List.{list_all}

@@ -1,4 +1,5 @@
--- Which frames of a request go on with it, at which inputs it sends them, and what a connection holds and was sent behind an event.
+-- Which frames of a request go on with it, at which inputs it sends them, and what a connection
+-- holds and was sent behind an event.
 use Rattle.std.proofs.Common.{◌≡◌, refl, ap, ◌∙◌, Bool, true, false, ℕ, ◌+◌, ◌-◌, ◌&&◌, ◌||◌, map, List, [], ◌∷◌, ◌++◌, Option, Some, None, ◌⊎◌, inl, inr, if◌then◌else◌}
 use Rattle.std.specs.Prelude.{nat_le}
 use Rattle.std.specs.List.{list_any, last_or}

@@ -1,5 +1,5 @@
--- Why a client sends a call: it took the reply to a call without the mark, which it shows, or the digest of a repeated one is that of before; or it
--- was lent a connection, or told an outcome.
+-- Why a client sends a call: it took the reply to a call without the mark, which it shows, or the
+-- digest of a repeated one is that of before; or it was lent a connection, or told an outcome.
 use Rattle.std.proofs.Common.{◌≡◌, refl, sym, ap, subst, ◌∙◌, Bool, true, false, ℕ, zero, suc, ◌+◌, ◌-◌, ◌<◌, length, length-append, List, [], ◌∷◌, ◌++◌, map, Option, Some, None, if◌then◌else◌, arith}
 use Rattle.std.specs.Prelude.{nat_le, slice_get, Ok, Err}
 use Rattle.std.specs.List.{list_any}

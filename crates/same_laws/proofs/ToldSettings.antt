@@ -1,4 +1,5 @@
--- What a history tells of a session's settings where a call comes next: they are those that its connection ran to, whose requests end with none.
+-- What a history tells of a session's settings where a call comes next: they are those that its
+-- connection ran to, whose requests end with none.
 use Rattle.std.proofs.Common.{◌≡◌, refl, sym, ap, ◌∙◌, ℕ, ◌+◌, ◌&&◌, Bool, true, false, not, List, [], ◌∷◌, ◌++◌, map, fold, if◌then◌else◌}
 use Rattle.std.proofs.lemmas.Bool.{and_parts}
 use Rattle.svc_values.specs.declared.entry.Ltxid.{Ltxid}

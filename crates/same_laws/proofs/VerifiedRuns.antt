@@ -1,4 +1,5 @@
--- Wherever a run has come to, a request has verified the calls behind which it went on; so where no digests clash it knows their answers.
+-- Wherever a run has come to, a request has verified the calls behind which it went on; so where no
+-- digests clash it knows their answers.
 use Rattle.std.proofs.Common.{[]}
 use Rattle.invariant_laws.specs.KeptLaws.{RunsKeepInvariant, WholeRunsKeepInvariant}
 use Rattle.world_model.specs.Reached.{Begins, GoesOn}

@@ -1,4 +1,5 @@
--- Where a client sends a call behind others on its connection, it has verified the one before: that one was shown, or its digest is the recorded one.
+-- Where a client sends a call behind others on its connection, it has verified the one before: that
+-- one was shown, or its digest is the recorded one.
 use Rattle.std.proofs.Common.{◌≡◌, ◌≢◌, refl, sym, ap, subst, ◌∙◌, append-nil, Bool, true, false, ℕ, ◌+◌, ◌-◌, ◌≤◌, ◌&&◌, filter, length, take, List, [], ◌∷◌, ◌++◌, map, Option, Some, None, ◌⊎◌, inl, inr, arith}
 use Rattle.std.specs.Prelude.{◌==◌, ◌||◌, not, option_map, slice_get, unwrap_or}
 use Rattle.std.specs.List.{list_all}

@@ -10,8 +10,9 @@ use Rattle.world_model.specs.records.Ready.{all_requests_right}
 use Rattle.world_model.specs.Traced.{Traced}
 use Rattle.world_model.specs.Reported.{IsReported}
 
--- Each transaction of a request stands in the journal with the calls, answers, granted draws and settings that its client knows, where the requests of the document
--- are right and no two answers that clients compared have one digest by chance.
+-- Each transaction of a request stands in the journal with the calls, answers, granted draws and
+-- settings that its client knows, where the requests of the document are right and no two answers
+-- that clients compared have one digest by chance.
 abbrev pub RunsAreSame : Type 0
 RunsAreSame =
     (document : Document) (report : Report) (seen : Seen) (t : Traced) (server : Server)

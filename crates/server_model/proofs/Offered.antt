@@ -2,11 +2,13 @@
 
 -- a marked call is answered Committed in no run
 pub use Rattle.server_model.proofs.Marked.{marked_stores_none}
--- a service's store goes on by serial entries that are numbered in order, and each identifier that it blocked is its session's next one
+-- a service's store goes on by serial entries that are numbered in order, and each identifier that
+-- it blocked is its session's next one
 pub use Rattle.server_model.proofs.Services.{service_stores, service_stands}
 -- and each frame is told as it has to be
 pub use Rattle.server_model.proofs.walks.WalkRuns.{runs_told}
--- a frame's entry is of its session, and an entry comes from a call; what was answered Committed or told uncommitted stands
+-- a frame's entry is of its session, and an entry comes from a call; what was answered Committed or
+-- told uncommitted stands
 pub use Rattle.server_model.proofs.Growth.{serve_grows}
 pub use Rattle.server_model.proofs.Stays.{serve_stays}
 pub use Rattle.server_model.proofs.FromItems.{entry_from_item}

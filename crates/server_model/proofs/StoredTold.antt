@@ -1,4 +1,5 @@
--- What is told of a frame is stored: a commit's entry, a line, and the block of an identifier that was not blocked before.
+-- What is told of a frame is stored: a commit's entry, a line, and the block of an identifier that
+-- was not blocked before.
 use Rattle.std.specs.Prelude.{◌≡◌, ℕ, Bool, true, false, List, [], ◌∷◌, ◌++◌}
 use Rattle.std.proofs.Common.{refl, sym, ◌∙◌, ap, ap₂, inl, inr, append_assoc}
 use Rattle.svc_values.specs.declared.draw.Draw.{Draw}

@@ -10,8 +10,8 @@ abbrev pub name_of : Sequence → List ℕ
 name_of sequence = sequence.name
 
 -- What holds of every base that a store gives: the shape names the sequences, the tables are in
--- order and fit the shape, its incarnation can be spelled in eight bytes, no entry is of a later one,
--- each blocked identifier is its session's next one, and at most all incarnations so far are
+-- order and fit the shape, its incarnation can be spelled in eight bytes, no entry is of a later
+-- one, each blocked identifier is its session's next one, and at most all incarnations so far are
 -- forgotten.
 pub record IsSound (base : Base) : Type 0 where
   pub names : base.shape.sequences ≡ map name_of base.sequences

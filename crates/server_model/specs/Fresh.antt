@@ -20,6 +20,7 @@ have_room base walk (item ∷ items) =
     let here = entered walk item in
     is_spelled walk.numbers && have_room base (after base here item (deed_of base here item)) items
 
--- No opening counts identifiers past what they can spell: behind that they would come again. So it is of each run.
+-- No opening counts identifiers past what they can spell: behind that they would come again. So it
+-- is of each run.
 abbrev pub has_room : Base → List Item → List Entry → Bool
 has_room base items entries = have_room base (walk_of base entries) items

@@ -80,7 +80,8 @@ AreNumbered before (entry ∷ entries) = (entry.ltxid ≡ next_ltxid (map commit
 abbrev pub EntryNumbers : Type 0
 EntryNumbers = (base : Base) (history : List Happened) (server : Server) → IsSound base → Runs base history server → AreNumbered base.entries server.core.entries
 
--- The horizon never falls, and no incarnation that is still to come is forgotten: where the server runs, not its own either.
+-- The horizon never falls, and no incarnation that is still to come is forgotten: where the server
+-- runs, not its own either.
 pub record Forgets (base : Base) (server : Server) : Type 0 where
   pub rises : base.horizon ≤ server.core.horizon
   pub within : server.core.horizon ≤ server.core.opening.incarnation + 1
@@ -127,7 +128,8 @@ RunsHaveRoom = (base : Base) (history : List Happened) (server : Server) → IsS
 abbrev pub RunsFreshNew : Type 0
 RunsFreshNew = (base : Base) (history : List Happened) (server : Server) → IsSound base → Runs base history server → stops_last history ≡ true → fresh_new base (items_of history) server.core.entries ≡ true
 
--- And it lies in what the source has set aside of its sequence, of which there is no less than at the start.
+-- And it lies in what the source has set aside of its sequence, of which there is no less than at
+-- the start.
 abbrev pub RunsSetAside : Type 0
 RunsSetAside = (base : Base) (history : List Happened) (server : Server) → IsSound base → Runs base history server → stops_last history ≡ true
     → SetAside base.sequences (ends_of server.core.opening) (drawn_anew base (walk_of base server.core.entries) (items_of history))

@@ -40,7 +40,8 @@ settings_behind items session = fold (set_in session) [] items
 
 -- ---- a call that was served twice
 
--- A call of a history that was served: its session and what was served before it, whether it had the mark and what it brought, and its answers and draws.
+-- A call of a history that was served: its session and what was served before it, whether it had
+-- the mark and what it brought, and its answers and draws.
 pub record HasServed (history : List Happened) (replay : Bool) (kept : List Draw) (called : Call) (answers : List Answer) (draws : List Draw) : Type 0 where
   pub before : List Happened
   pub session : SessionId
@@ -54,8 +55,8 @@ abbrev pub AgreesAgain : (history : List Happened) (replay : Bool) (kept : List 
 AgreesAgain history replay kept called answers draws again first second =
     (settings_behind (items_of first.before) first.session ≡ settings_behind (items_of second.before) second.session) ⊎ (ends_unset answers ≡ false)
 
--- Where a call is served again with the mark, brings the draws of its first time, and is answered the same, the granted ones among the draws of
--- both times are the same, in order.
+-- Where a call is served again with the mark, brings the draws of its first time, and is answered
+-- the same, the granted ones among the draws of both times are the same, in order.
 abbrev pub LegalRedraws : Type 0
 LegalRedraws =
     (base : Base) (history : List Happened) (entries : List Entry) (lines : List (List ℕ)) → legal base (items_of history) entries lines ≡ true

@@ -61,8 +61,8 @@ pub record ServiceState : Type 0 where
   -- a call found no memory, and it may only be dropped
   pub is_spent : Bool
 
--- What is seen of a service: its state, and how it came to it. What came before takes no room in it, so it
--- is seen with each past that it may have had.
+-- What is seen of a service: its state, and how it came to it. What came before takes no room in
+-- it, so it is seen with each past that it may have had.
 pub record Seen : Type 0 where
   -- the moment at which it was made
   pub start : Base

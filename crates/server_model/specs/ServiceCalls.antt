@@ -154,14 +154,15 @@ abbrev pub AddsLine : Store → Call → Store → Type 0
 AddsLine old (call.Alter line) new = new.alerts ≡ old.alerts ++ line ∷ []
 AddsLine old called new = Unit {0}
 
--- What is told is stored: of an answer Committed one entry was added, of a line that was answered the line, and of an identifier that
--- is told uncommitted, and was not blocked before, the block.
+-- What is told is stored: of an answer Committed one entry was added, of a line that was answered
+-- the line, and of an identifier that is told uncommitted, and was not blocked before, the block.
 abbrev pub StoresTold : Store → Up → Telling → Store → Type 0
 StoresTold old (up.Call replay kept called) (Says (down.Reply answers draws x)) new = (ends_committed answers ≡ true → (entry : Entry) × (new.entries ≡ old.entries ++ entry ∷ [])) × AddsLine old called new
 StoresTold old (up.Outcome x) (Says (down.OutcomeIs false completed)) new = is_blocked old.blocked x ≡ false → new.blocked ≡ old.blocked ++ x ∷ []
 StoresTold old _ _ new = Unit {0}
 
--- an identifier may have been blocked: it was told uncommitted, or nothing was told since the store was stopped
+-- an identifier may have been blocked: it was told uncommitted, or nothing was told since the store
+-- was stopped
 abbrev pub may_block : Telling → Bool
 may_block (Says (down.OutcomeIs false completed)) = true
 may_block Stopped = true
@@ -234,7 +235,8 @@ pub record SameLists (old new : Store) : Type 0 where
   pub blocked : new.blocked ≡ old.blocked
   pub alerts : new.alerts ≡ old.alerts
 
--- an opening of the next incarnation, which has made no session; the horizon is the wanted one where that is greater
+-- an opening of the next incarnation, which has made no session; the horizon is the wanted one
+-- where that is greater
 pub record Opened (old : Seen) (below : ℕ) (new : Seen) : Type 0 where
   pub keeps : KeepsOpening old new
   pub is_up : (new.state.is_up ≡ true) × (new.state.is_opened ≡ true)

@@ -1,5 +1,5 @@
--- Values that lie in what is set aside of their sequences: an opening draws behind that, so it draws none of them again.
--- Here is what contracts and proofs say of it besides.
+-- Values that lie in what is set aside of their sequences: an opening draws behind that, so it
+-- draws none of them again. Here is what contracts and proofs say of it besides.
 use Rattle.std.specs.Prelude.{ℕ, ℤ, List, Option}
 use Rattle.std.specs.Option.{option_map}
 use Rattle.mutable_values.specs.Sources.{Opening, sequence_of}

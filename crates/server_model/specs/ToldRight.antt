@@ -86,8 +86,8 @@ same_outcome (down.OutcomeIs a m) (down.OutcomeIs b n) = same_bool a b && same_b
 same_outcome (down.OutcomeRefused a m) (down.OutcomeRefused b n) = same_ahead a b && (m == n)
 same_outcome _ _ = false
 
--- the frame that tells the outcome by the table, on the entries so far, where nothing is forgotten. Whether an uncommitted
--- identifier was blocked before makes no difference
+-- the frame that tells the outcome by the table, on the entries so far, where nothing is forgotten.
+-- Whether an uncommitted identifier was blocked before makes no difference
 abbrev pub outcome_on : Walk → Ltxid → Down
 outcome_on walk x = down_of (verdict_of (book_of 0 (map committed_of walk.stored) walk.blocked) x)
 

@@ -4,8 +4,8 @@ ghost use Rattle.std.specs.Prelude.{◌≡◌};
 use svc_values::NoMemory;
 use thiserror::Error;
 
-/// Why a call of a session or of a service has no answer. After either the session or the service may
-/// only be dropped, but that a service which was stopped may be crashed and opened again.
+/// Why a call of a session or of a service has no answer. After either the session or the service
+/// may only be dropped, but that a service which was stopped may be crashed and opened again.
 #[derive(Clone, Copy, Debug, PartialEq, Eq, Error)]
 pub enum ServeFault {
     /// There was no memory.

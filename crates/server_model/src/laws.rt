@@ -19,8 +19,8 @@ pub fn runs_serial()
     ensures { RunsSerial }
 {}
 
-/// The entries of each session are numbered in order, and each blocked identifier stays its session's
-/// next one: no identifier is both blocked and an entry's.
+/// The entries of each session are numbered in order, and each blocked identifier stays its
+/// session's next one: no identifier is both blocked and an entry's.
 pub fn runs_number()
     ensures numbers { EntryNumbers }
     ensures stand { RunsStand }
@@ -28,8 +28,8 @@ pub fn runs_number()
 {}
 
 /// Every entry comes from a call of its session, answered or stopped. A commit that was answered is
-/// stored, and an identifier that was told uncommitted is blocked, in this run and in each that goes on
-/// from it.
+/// stored, and an identifier that was told uncommitted is blocked, in this run and in each that
+/// goes on from it.
 pub fn runs_store()
     ensures entries { EntryFromItem }
     ensures answers { AnswersStand }
@@ -41,16 +41,16 @@ pub fn marked_calls_store_none()
     ensures { MarkedStoresNone }
 {}
 
-/// A Hello and a Reply carry their session's next identifier, and outcomes are told by the table, each at
-/// the moment at which it is told.
+/// A Hello and a Reply carry their session's next identifier, and outcomes are told by the table,
+/// each at the moment at which it is told.
 pub fn runs_tell()
     ensures next { TellsNext }
     ensures outcomes { TellsOutcomes }
     ensures asks { TellsAsks }
 {}
 
-/// The alerts that a store gained in a run are the lines that were answered, in order, and some of those
-/// that were stopped.
+/// The alerts that a store gained in a run are the lines that were answered, in order, and some of
+/// those that were stopped.
 pub fn runs_alert()
     ensures { RunsAlerts }
 {}
@@ -62,21 +62,21 @@ pub fn runs_told()
 {}
 
 /// What was served in a run is legal, as a walk over it judges that knows the items and the entries
-/// alone: each call is answered and stored as it means, draws what comes next, and is answered Blocked
-/// only where its commit would meet a block.
+/// alone: each call is answered and stored as it means, draws what comes next, and is answered
+/// Blocked only where its commit would meet a block.
 pub fn runs_legal()
     ensures { RunsLegal }
 {}
 
-/// A run counts no more identifiers in an opening than can be spelled, since its source gives none where it
-/// has no room.
+/// A run counts no more identifiers in an opening than can be spelled, since its source gives none
+/// where it has no room.
 pub fn runs_have_room()
     ensures { RunsHaveRoom }
 {}
 
-/// A call that is served again with the mark, brings the draws of its first time, and is answered the same
-/// draws the granted ones of these, in order, where both times it ran in the same settings or it was not
-/// refused for want of one.
+/// A call that is served again with the mark, brings the draws of its first time, and is answered
+/// the same draws the granted ones of these, in order, where both times it ran in the same settings
+/// or it was not refused for want of one.
 pub fn marked_calls_redraw()
     ensures legal { LegalRedraws }
     ensures runs { RunsRedraw }
@@ -87,8 +87,8 @@ pub fn runs_fresh_new()
     ensures { RunsFreshNew }
 {}
 
-/// What was drawn anew in a run lies in what its source has set aside, so no later opening draws it again; and nothing that was set aside
-/// before is given back.
+/// What was drawn anew in a run lies in what its source has set aside, so no later opening draws it
+/// again; and nothing that was set aside before is given back.
 pub fn runs_set_aside()
     ensures { RunsSetAside }
 {}
@@ -108,19 +108,21 @@ pub fn runs_stopped()
     ensures { RunsStopped }
 {}
 
-/// Whatever has a history of the plain server has a store that goes on by serial entries, numbered in
-/// order, none of them blocked.
+/// Whatever has a history of the plain server has a store that goes on by serial entries, numbered
+/// in order, none of them blocked.
 pub fn service_stores()
     ensures { ServiceStores }
 {}
 
-/// Each identifier that such a store has blocked is still its session's next one, in what it held before too.
+/// Each identifier that such a store has blocked is still its session's next one, in what it held
+/// before too.
 pub fn service_stands()
     ensures { ServiceStands }
 {}
 
-/// Whatever has such a history serves right, too, where nothing of an opening was served behind a stop:
-/// what was served is legal, what was drawn anew is drawn once, and each frame is told as it has to be.
+/// Whatever has such a history serves right, too, where nothing of an opening was served behind a
+/// stop: what was served is legal, what was drawn anew is drawn once, and each frame is told as it
+/// has to be.
 pub fn service_runs()
     ensures { ServiceRuns }
 {}

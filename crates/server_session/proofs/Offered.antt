@@ -1,7 +1,7 @@
 -- Lemmas on this crate's words that the crates above cite.
 
--- What a crash leaves behind a stop is a front of the step's records: the plain server may have been
--- stopped with it.
+-- What a crash leaves behind a stop is a front of the step's records: the plain server may have
+-- been stopped with it.
 pub use Rattle.server_session.proofs.Fronts.{stopped_leaves, telling_leaves}
 -- a front of one record is none of it or all, and what a crash leaves behind a stop is a front
 pub use Rattle.server_session.proofs.Gaining.{grown_left}

@@ -5,8 +5,8 @@ use Rattle.disk_model.specs.Disk.{DiskState, Meanwhile, Lowered, LoweredByLess, 
 use Rattle.commit_log.specs.declared.records.Record.{Record}
 use Rattle.commit_log.specs.Growth.{HasAdded, IsGrown}
 
--- These records were added, in order, each in four writes and syncs, and without a fault. A crash at any
--- moment leaves a front of them.
+-- These records were added, in order, each in four writes and syncs, and without a fault. A crash
+-- at any moment leaves a front of them.
 pub record HasGained (records : List Record) (old new : DiskState) : Type 0 where
   pub added : HasAdded old.now.seen records new.now.seen
   pub moments : Meanwhile old new (IsGrown old.now.seen records)
@@ -19,8 +19,8 @@ pub record HasGained (records : List Record) (old new : DiskState) : Type 0 wher
 abbrev pub IsLeftOf : List ℕ → List Record → Record → List ℕ → Type 0
 IsLeftOf old records last image = HasAdded old records image ⊎ HasAdded old (records ++ last ∷ []) image
 
--- These records were added, and in the one behind them the disk failed: in a quiet one since a stop was
--- reached. A crash now leaves all of the first, and the last one or not.
+-- These records were added, and in the one behind them the disk failed: in a quiet one since a stop
+-- was reached. A crash now leaves all of the first, and the last one or not.
 pub record HasHalted (records : List Record) (last : Record) (old new : DiskState) : Type 0 where
   pub left : (image : List ℕ) → MayLeave new.now image → IsLeftOf old.now.seen records last image
   pub moments : Meanwhile old new (IsGrown old.now.seen (records ++ last ∷ []))

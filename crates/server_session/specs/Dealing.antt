@@ -1,4 +1,5 @@
--- What one draw of a call does to the source, to the draws that are kept for a replay, and to the log.
+-- What one draw of a call does to the source, to the draws that are kept for a replay, and to the
+-- log.
 use Rattle.std.specs.Prelude.{◌≡◌, ◌≢◌, ◌≤◌, ℕ, ℤ, true, IsTrue, IsFalse, List, [], ◌∷◌, ◌++◌, length, map, take, Some, Result, Ok, Err}
 use Rattle.disk_model.specs.Disk.{DiskState, Meanwhile}
 use Rattle.svc_values.specs.declared.draw.Draw.{Draw}
@@ -31,8 +32,8 @@ pub record AtDesk : Type 0 where
   pub log : Log
   pub disk : DiskState
 
--- The log goes on with its disk, and the source is that of its journal. No two of its sequences have one
--- name, and none gave a value past its reservation.
+-- The log goes on with its disk, and the source is that of its journal. No two of its sequences
+-- have one name, and none gave a value past its reservation.
 pub record IsPrepared (opening : Opening) (log : Log) (disk : DiskState) : Type 0 where
   pub ready : CanLog log disk
   pub journal : Journal
@@ -94,8 +95,8 @@ pub record HaltsAtFront (now : ℕ) (before : AtDesk) (given : List Draw) (store
   pub source : (journal : Journal) → IsSourceOf before.opening journal → IsSourceOf opening (with_reserved journal stored)
 
 -- These were given, one after the other, with the reservations that had to be stored first: at most
--- one for each value of a sequence. The source goes on beside any journal that it was the source of,
--- and the store may have stopped behind any of the reservations, or before all.
+-- one for each value of a sequence. The source goes on beside any journal that it was the source
+-- of, and the store may have stopped behind any of the reservations, or before all.
 pub record HasDealt (now : ℕ) (before : AtDesk) (given : List Draw) (after : AtDesk) : Type 0 where
   pub reservations : List Reservation
   pub few : length reservations ≤ sequences_drawn given
@@ -105,7 +106,8 @@ pub record HasDealt (now : ℕ) (before : AtDesk) (given : List Draw) (after : A
   pub halts : (count : ℕ) → count ≤ length reservations → reservations ≢ [] → HaltsAtFront now before given (take count reservations)
   pub prepared : IsPrepared after.opening after.log after.disk
 
--- The store was stopped at the reservation that a value of a sequence asked for. The source is as it was.
+-- The store was stopped at the reservation that a value of a sequence asked for. The source is as
+-- it was.
 pub record HasHaltedAt (now : ℕ) (before : AtDesk) (asked : DrawKind) (after : AtDesk) : Type 0 where
   pub name : List ℕ
   pub upto : ℤ

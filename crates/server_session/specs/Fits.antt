@@ -38,9 +38,9 @@ pub record IsSourceOf (source : Opening) (journal : Journal) : Type 0 where
   pub incarnation : source.incarnation ≡ journal.incarnation
   pub sequences : map sequence_in source.sequences ≡ map (sequence_of journal) journal.base.sequences
 
--- The log is live and nothing is pending on its disk, which reads as a journal. The tables, the book and
--- the source are those of this journal, whose incarnation is not forgotten. No two sequences of the source
--- have one name, and none gave a value past its reservation.
+-- The log is live and nothing is pending on its disk, which reads as a journal. The tables, the
+-- book and the source are those of this journal, whose incarnation is not forgotten. No two
+-- sequences of the source have one name, and none gave a value past its reservation.
 pub record Fits (core : Core) (disk : DiskState) : Type 0 where
   pub log : CanLog core.log disk
   pub journal : Journal

@@ -1,5 +1,5 @@
--- What a stop leaves of a core: its log ends behind the first records of whatever a crash then leaves, and all
--- else of it is of the journal that these come to.
+-- What a stop leaves of a core: its log ends behind the first records of whatever a crash then
+-- leaves, and all else of it is of the journal that these come to.
 use Rattle.std.specs.Prelude.{◌≡◌, ℕ, true, List, Ok}
 use Rattle.disk_model.specs.Moment.{MayLeave}
 use Rattle.disk_model.specs.Disk.{DiskState}

@@ -18,7 +18,8 @@ pub record IsStored (plain : Plain) (journal : Journal) : Type 0 where
   pub tables : committed plain ≡ (tables_of journal).rows
   pub source : IsSourceOf plain.opening journal
 
--- the journal that the disk reads as does, and values come from the same source under the same grants
+-- the journal that the disk reads as does, and values come from the same source under the same
+-- grants
 pub record IsPlain (plain : Plain) (core : Core) (disk : DiskState) : Type 0 where
   pub stored : IfOk (journal_of disk.now.seen) (IsStored plain)
   pub opening : plain.opening ≡ core.source

@@ -19,7 +19,8 @@ use Rattle.server_model.specs.declared.fault.ServeFault.TheVariants as fault
 use Rattle.server_session.specs.Dealing.{AtDesk, HasDealt, HasHaltedAt}
 use Rattle.server_session.specs.Serving.{HasLacked}
 
--- What a run is over: the committed tables, the session's settings and transaction, and the statements.
+-- What a run is over: the committed tables, the session's settings and transaction, and the
+-- statements.
 pub record Ground : Type 0 where
   pub tables : Stored
   pub settings : NamedValues
@@ -30,8 +31,8 @@ pub record Ground : Type 0 where
 abbrev pub left_on : Ground → List (List ℕ) → List Draw → Option (List Draw)
 left_on ground names draws = option_map (λ meant. meant.rest) (meaning ground.tables names ground.settings ground.txn ground.statements draws)
 
--- The statements ran: the draws were dealt, and the transaction has what they did. Where each place that it
--- had read had what was read there, each that it has read now has.
+-- The statements ran: the draws were dealt, and the transaction has what they did. Where each place
+-- that it had read had what was read there, each that it has read now has.
 pub record HasRunOver (now : ℕ) (ground : Ground) (before : AtDesk) (ran : Ran) (txn : Transaction) (after : AtDesk) : Type 0 where
   pub dealt : HasDealt now before ran.draws after
   pub run : HasRun ground.tables (names_of before.opening.sequences) ground.settings ground.txn ground.statements ran.answers ran.draws txn
@@ -48,7 +49,8 @@ pub record HasHaltedOver (now : ℕ) (ground : Ground) (before after : AtDesk) :
   pub halted : HasHaltedAt now between (kind_drawn next) after
   pub asks : AreAsked (left_on ground (names_of before.opening.sequences)) (given ++ next ∷ more)
 
--- How many records a run adds: at most one for each value of a sequence, and the one in which it ends.
+-- How many records a run adds: at most one for each value of a sequence, and the one in which it
+-- ends.
 abbrev pub RunsOver : ℕ → Ground → ℕ → AtDesk → Result Ran ServeFault → Transaction → AtDesk → Type 0
 RunsOver now ground most before (Ok ran) txn after = HasRunOver now ground before ran txn after
 RunsOver now ground most before (Err fault.NoMemory) txn after = HasLacked most before.disk after.disk

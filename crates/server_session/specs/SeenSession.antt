@@ -6,9 +6,9 @@ use Rattle.stmt_meaning.specs.meaning.Reads.{Read}
 use Rattle.table_txn.specs.Transactions.{Transaction, empty}
 use Rattle.server_model.specs.Sessions.{Life, New, Ended, Sess}
 
--- `ltxid` is the session's next identifier, and `at_start` are the settings before the first call of
--- its transaction. `since` is how many commits the core had applied when the transaction began to read,
--- where it has read anything.
+-- `ltxid` is the session's next identifier, and `at_start` are the settings before the first call
+-- of its transaction. `since` is how many commits the core had applied when the transaction began
+-- to read, where it has read anything.
 pub record SeenSession : Type 0 where
   pub ltxid : Ltxid
   pub life : Life
@@ -17,7 +17,8 @@ pub record SeenSession : Type 0 where
   pub txn : Transaction
   pub since : Option ℕ
 
--- the settings before a transaction's first call, where a call has changed them, and else those of now
+-- the settings before a transaction's first call, where a call has changed them, and else those of
+-- now
 abbrev pub started_with : Option NamedValues → NamedValues → NamedValues
 started_with None now = now
 started_with (Some earlier) now = earlier

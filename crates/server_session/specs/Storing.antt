@@ -56,8 +56,8 @@ StopsTelling x core disk records =
     (plain : Plain) → IsPlain plain core disk → (image : List ℕ) → IsGrown disk.now.seen records image → (after : Plain) × (IfOk (journal_of image) (IsStored after) × Outcomes plain x after Stopped)
 
 -- An identifier's outcome by the book. Where it is to be blocked that is stored, and no session is
--- at another number. Where it was stored, it may as well have been stopped, with the block or without
--- it.
+-- at another number. Where it was stored, it may as well have been stopped, with the block or
+-- without it.
 pub record HasTold (x : Ltxid) (told : Verdict) (core : Core) (disk : DiskState) (later : Core) (end : DiskState) : Type 0 where
   pub verdict : told ≡ verdict_of (sessions_in core.book) x
   pub records : List Record

@@ -24,7 +24,8 @@ impl Session {
     }
 
     /// A place that was read and has something else committed now; `None` exactly where there is no
-    /// such place. Where none has committed since the transaction began to read, nothing is compared.
+    /// such place. Where none has committed since the transaction began to read, nothing is
+    /// compared.
     pub(crate) fn conflicts(&self, core: &Core) -> Option<&Place>
         requires { Belongs core.now self.now }
         ensures { (reads : List Read) → AreReadings self.now.txn.readings reads → IsConflict reads core.now.tables.rows (option_copied result) }

@@ -52,7 +52,8 @@ impl Session {
         }
     }
 
-    /// Runs the statements of a work call, and commits where that is asked for and none was refused.
+    /// Runs the statements of a work call, and commits where that is asked for and none was
+    /// refused.
     fn work<D: Disk>(
         &mut self,
         core: &mut Core,

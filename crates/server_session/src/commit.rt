@@ -29,8 +29,8 @@ use svc_values::{
 };
 use table_txn::Txn;
 
-/// The answers of statements, and that of a commit behind them where one is asked for and none of them
-/// was refused.
+/// The answers of statements, and that of a commit behind them where one is asked for and none of
+/// them was refused.
 pub(crate) fn closed(mut answers: Answers, commit: bool) -> Result<Answers, NoMemory>
     ensures { IfOk result (λ all. all ≡ closed_by commit answers) }
 {
@@ -78,8 +78,8 @@ fn counted(commits: u64) -> u64
     commits.saturating_add(1)
 }
 
-/// Stores an entry. The tables and the book have it once its record is written, so a stop leaves both
-/// as the records before it have them.
+/// Stores an entry. The tables and the book have it once its record is written, so a stop leaves
+/// both as the records before it have them.
 fn store_entry<D: Disk>(core: &mut Core, disk: &mut D, entry: &Entry) -> Result<(), ServeFault>
     requires fits { Fits core.old (D.state disk.old) }
     requires made { IsMadeEntry entry.now }
@@ -96,9 +96,9 @@ fn store_entry<D: Disk>(core: &mut Core, disk: &mut D, entry: &Entry) -> Result<
 }
 
 impl Session {
-    /// Commits the session's transaction, of which this call with these answers is the last. A replay
-    /// makes no commit, a blocked identifier ends the session, and a place that was read and has
-    /// changed makes a conflict; else the transaction is stored.
+    /// Commits the session's transaction, of which this call with these answers is the last. A
+    /// replay makes no commit, a blocked identifier ends the session, and a place that was read and
+    /// has changed makes a conflict; else the transaction is stored.
     pub(crate) fn commit<D: Disk>(
         &mut self,
         core: &mut Core,
@@ -170,8 +170,8 @@ impl Session {
         }))
     }
 
-    /// The transaction as it is to be stored, with this call last, moved out: the session then has an
-    /// empty one.
+    /// The transaction as it is to be stored, with this call last, moved out: the session then has
+    /// an empty one.
     fn take_entry(
         &mut self,
         call: &Call,

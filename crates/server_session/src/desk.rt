@@ -87,8 +87,8 @@ fn draw_value<D: Disk>(
     }
 }
 
-/// What the source answers to a draw, of a kind that is there. Where it has no room for another value
-/// there is no memory.
+/// What the source answers to a draw, of a kind that is there. Where it has no room for another
+/// value there is no memory.
 fn ask(
     alloc: Global,
     kind: &DrawKind,

@@ -37,8 +37,8 @@ pub(crate) fn brought(
     }
 }
 
-/// Runs statements, with draws from the source and the kept ones, at a tick. Where the transaction is
-/// known to be alone, what it read before is not compared.
+/// Runs statements, with draws from the source and the kept ones, at a tick. Where the transaction
+/// is known to be alone, what it read before is not compared.
 pub(crate) fn run_over<D: Disk>(
     txn: &mut Txn,
     is_alone: bool,

@@ -14,12 +14,13 @@ use server_model::ServeFault;
 use svc_values::{Call, Down, Up};
 
 impl Session {
-    /// Serves one frame at a tick, and gives the frame that answers it: none for Begin, End and Close.
+    /// Serves one frame at a tick, and gives the frame that answers it: none for Begin, End and
+    /// Close.
     ///
     /// Values that are drawn, blocks, lines and commits are stored before they are told. As long as
     /// its answer is not out, a frame that stored something may be taken as one that was stopped,
-    /// behind any of its records or before all. After a fault the session has ended. Frames without a
-    /// call cost no more than the settings that they carry, and an outcome the logarithm of the
+    /// behind any of its records or before all. After a fault the session has ended. Frames without
+    /// a call cost no more than the settings that they carry, and an outcome the logarithm of the
     /// sessions.
     pub fn serve<D: Disk>(
         &mut self,

@@ -24,7 +24,8 @@ pub struct Session {
     /// The settings before the transaction's first call, where a call has changed them.
     pub(crate) earlier: Option<Settings>,
     pub(crate) txn: Txn,
-    /// How many commits were applied when the transaction began to read, where it has read anything.
+    /// How many commits were applied when the transaction began to read, where it has read
+    /// anything.
     pub(crate) since: Option<u64>,
     pub(crate) alloc: Global,
 }
@@ -88,7 +89,8 @@ impl Session {
         Down::Hello { ltxid: self.ltxid }
     }
 
-    /// Begins a request with these settings: what the session has done and not committed is given up.
+    /// Begins a request with these settings: what the session has done and not committed is given
+    /// up.
     pub(crate) fn begin(&mut self, settings: &Settings) -> Result<(), NoMemory>
         ensures { OnOk result (self.new ≡ begun_so self.old Begun settings.now) }
     {

@@ -10,8 +10,8 @@ use table_store::Tables;
 #[derive(Drop)]
 pub struct Core {
     pub tables: Tables,
-    /// How many commits were applied to the tables since they were opened. The largest number stands
-    /// for all above it.
+    /// How many commits were applied to the tables since they were opened. The largest number
+    /// stands for all above it.
     pub commits: u64,
     pub book: Book,
     pub source: Source,

@@ -1,4 +1,5 @@
--- What is said of an answer of a service. Of one for want of memory nothing is: the service may only be dropped then.
+-- What is said of an answer of a service. Of one for want of memory nothing is: the service may
+-- only be dropped then.
 use Rattle.std.specs.Prelude.{List, map, Option, Result, Ok, Err}
 use Rattle.svc_values.specs.declared.answer.Answer.{Answer}
 use Rattle.svc_values.specs.declared.draw.Draw.{Draw}

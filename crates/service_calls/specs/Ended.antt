@@ -7,8 +7,8 @@ use Rattle.commit_log.specs.meaning.Journals.{journal_of}
 use Rattle.server_model.specs.Core.{tables_with}
 use Rattle.service_calls.specs.declared.ended.Ended.{Ended}
 
--- The bytes are those of a journal, and this is what it says: what was recorded behind its base, the tables that the base
--- declares, and their rows, those of the base with what the entries wrote.
+-- The bytes are those of a journal, and this is what it says: what was recorded behind its base,
+-- the tables that the base declares, and their rows, those of the base with what the entries wrote.
 pub record IsEndOf (bytes : List ℕ) (ended : Ended) : Type 0 where
   pub journal : Journal
   pub reads : journal_of bytes ≡ Ok journal

@@ -40,7 +40,8 @@ pub trait Service {
     /// What a crash may leave of its store.
     ghost leaves: { Self → Store → Type 0 };
 
-    /// What may be seen of it: its state, with where it began and the frames that were served since.
+    /// What may be seen of it: its state, with where it began and the frames that were served
+    /// since.
     ghost sees: { Self → Seen → Type 0 };
 
     /// Whether it serves.
@@ -143,9 +144,9 @@ pub trait Service {
         ensures unwritten { NotMemory result (bytes self.new ≡ bytes self.old) }
         ensures looked { Ends result (λ journal. Goes (sees self.old) (sees self.new) Looked) (Goes (sees self.old) (sees self.new) StoppedLook) };
 
-    /// What the store holds, at the end of the service. It writes nothing. Where the service has its
-    /// tables, these are handed out, and only the records behind the base are read; else the whole
-    /// store is.
+    /// What the store holds, at the end of the service. It writes nothing. Where the service has
+    /// its tables, these are handed out, and only the records behind the base are read; else the
+    /// whole store is.
     fn into_ended(self, alloc: Global) -> Result<Ended, ServeFault>
         requires live { (state self).is_spent ≡ false }
         ensures told { IfOk result (IsEndOf (bytes self)) }

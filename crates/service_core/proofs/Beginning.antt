@@ -1,4 +1,5 @@
--- What a service begins with is such as a service may begin with: its tables are in order and fit, and it is what a journal keeps to.
+-- What a service begins with is such as a service may begin with: its tables are in order and fit,
+-- and it is what a journal keeps to.
 use Rattle.std.proofs.Common.{◌≡◌, ◌∙◌, ℕ, Bool, true, false, refl, ap, List, [], ◌∷◌, map, arith}
 use Rattle.std.specs.Prelude.{if◌then◌else◌}
 use Rattle.std.specs.List.{list_all, flat_map}

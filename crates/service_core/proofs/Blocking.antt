@@ -1,4 +1,5 @@
--- What an outcome that is told leaves of the plain server and of the store beside it: a block more, or nothing.
+-- What an outcome that is told leaves of the plain server and of the store beside it: a block more,
+-- or nothing.
 use Rattle.std.proofs.Common.{◌≡◌, ◌∙◌, ◌≤◌, ℕ, refl, sym, ap, List, [], ◌∷◌, ◌++◌, length, inl, inr, append_assoc, arith}
 use Rattle.std.specs.Prelude.{◌⊎◌, Ok}
 use Rattle.redo_store.specs.meaning.Records.{records_of}

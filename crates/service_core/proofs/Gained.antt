@@ -204,7 +204,8 @@ stands_beside core image journal reads is =
     (λ i. record { incarnation = is.source.incarnation i; horizon = is.horizon i; entries = is.entries i; blocked = is.blocked i; alerts = is.alerts i; records = record_count (records_of image) }) in
     beside ∙ sym (store_is image journal reads)
 
--- what is told is stored, and no more is blocked, between two images that plain servers stand beside
+-- what is told is stored, and no more is blocked, between two images that plain servers stand
+-- beside
 module _ (core after : Plain) (old image : List ℕ) (journal later : Journal) (reads : journal_of old ≡ Ok journal) (reads_later : journal_of image ≡ Ok later) (was : IsStored core journal) (is : IsStored after later) where
   abbrev n : ℕ
   n = record_count (records_of old)

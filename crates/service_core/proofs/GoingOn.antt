@@ -1,4 +1,5 @@
--- What a journal that was read keeps is what an opening asks of it, and what an opening makes fits its disk.
+-- What a journal that was read keeps is what an opening asks of it, and what an opening makes fits
+-- its disk.
 use Rattle.std.proofs.Common.{◌≡◌, ◌∙◌, ◌+◌, ◌-◌, ◌^◌, ◌≤◌, ◌&&◌, ℕ, ℤ, true, false, refl, sym, ap, subst, List, [], ◌∷◌, map, length, IsTrue, arith}
 use Rattle.std.proofs.lemmas.Bool.Decides.{nat_tests}
 use Rattle.std.proofs.lemmas.Int.{ints}

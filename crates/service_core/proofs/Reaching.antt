@@ -1,4 +1,5 @@
--- What an opening that was stopped has stored: nothing, its horizon, or its incarnation behind that.
+-- What an opening that was stopped has stored: nothing, its horizon, or its incarnation behind
+-- that.
 use Rattle.std.proofs.Common.{◌≡◌, ◌∙◌, ◌+◌, ◌≤◌, ℕ, zero, suc, Bool, true, false, refl, sym, ap, subst, inl, inr, List, [], ◌∷◌, ◌++◌, length, length-append, take, fold, arith}
 use Rattle.std.specs.Prelude.{◌⊎◌, max, Result, Ok, Err, if◌then◌else◌}
 use Rattle.disk_model.specs.Moment.{MayLeave}

@@ -36,7 +36,8 @@ use Rattle.service_core.specs.InnerHonest.{store_is}
 
 -- ---- a plain server's core
 
--- one stands beside every core that fits its disk: as if all had been there when the service was made
+-- one stands beside every core that fits its disk: as if all had been there when the service was
+-- made
 plain_of : Core → Journal → Plain
 plain_of core journal = record {
   base = record { shape = shape_of journal.base; sequences = []; grants = core.grants; tables = start_of journal.base; entries = []; blocked = []; alerts = []; incarnation = 0; horizon = 0 };

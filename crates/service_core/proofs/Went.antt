@@ -1,4 +1,5 @@
--- Calls that are run from outside: the session that is made for them, and what stands beside it throughout.
+-- Calls that are run from outside: the session that is made for them, and what stands beside it
+-- throughout.
 use Rattle.std.proofs.Common.{◌≡◌, ◌∙◌, ◌+◌, ℕ, refl, sym, ap, List, [], arith}
 use Rattle.std.specs.Prelude.{Some, Ok}
 use Rattle.disk_model.specs.Disk.{DiskState}

@@ -1,5 +1,5 @@
--- What is seen of a service is honest: its history is one of the plain server and ends with the store, and its bytes say what
--- the store holds.
+-- What is seen of a service is honest: its history is one of the plain server and ends with the
+-- store, and its bytes say what the store holds.
 use Rattle.std.proofs.Common.{◌≡◌, ◌∙◌, ℕ, Bool, true, false, refl, sym, ap, subst, List, ◌++◌}
 use Rattle.std.specs.Prelude.{Option, Some, None, Result, Ok, IfOk}
 use Rattle.disk_model.specs.Disk.{DiskState}

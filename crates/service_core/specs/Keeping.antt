@@ -1,4 +1,5 @@
--- What is kept of a service that is down: what its sessions shared, true of the first records of its store.
+-- What is kept of a service that is down: what its sessions shared, true of the first records of
+-- its store.
 use Rattle.std.specs.Prelude.{◌≡◌, ◌<◌, ◌-◌, ℕ, Bool, true, false, not, nat_lt, ◌||◌, List, length, Option, Some, None, IsErrOf, Result, Ok, Err}
 use Rattle.disk_model.specs.Moment.{MayLeave}
 use Rattle.disk_model.specs.Disk.{DiskState, IsSettled, OnlyReads}

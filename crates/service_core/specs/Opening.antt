@@ -10,8 +10,8 @@ use Rattle.server_model.specs.meaning.Core.{sequence_at}
 use Rattle.server_session.specs.declared.shared.Core.{Core}
 use Rattle.server_session.specs.Fits.{Fits, sequence_of}
 
--- The bytes are those of a journal in which the next opening has a number, and at most all incarnations so far are to be
--- forgotten.
+-- The bytes are those of a journal in which the next opening has a number, and at most all
+-- incarnations so far are to be forgotten.
 pub record CanOpen (horizon : ℕ) (image : List ℕ) : Type 0 where
   pub journal : Journal
   pub reads : journal_of image ≡ Ok journal
@@ -26,8 +26,8 @@ source_of journal = record { incarnation = journal.incarnation; identifiers = 0;
 abbrev pub stop_of : ℕ → List ℕ → ℕ
 stop_of horizon image = 4 * length (first_of_opening horizon (so_far_of image)) + 4
 
--- The store was opened: the journal is the old one with this opening. What its sessions share is what this journal says, and
--- nothing was drawn yet.
+-- The store was opened: the journal is the old one with this opening. What its sessions share is
+-- what this journal says, and nothing was drawn yet.
 pub record HasOpened (horizon : ℕ) (grants : Grants) (old : DiskState) (core : Core) (new : DiskState) : Type 0 where
   pub fits : Fits core new
   pub opened : with_opening horizon (journal_of old.now.seen) ≡ Ok fits.journal

@@ -67,7 +67,8 @@ pub record Opens (horizon : ℕ) (answer : Result (Unit {0}) RedoFault) (old new
 abbrev pub leaves_room : SeqState → Bool
 leaves_room sequence = int_lt sequence.upto (pos (2 ^ 63 - 1))
 
--- the core of the next opening has the same tables and book, and a source that goes on behind the reservations
+-- the core of the next opening has the same tables and book, and a source that goes on behind the
+-- reservations
 pub record IsRenewed (core again : Core) : Type 0 where
   pub tables : again.tables ≡ core.tables
   pub book : sessions_in again.book ≡ sessions_in core.book

@@ -1,9 +1,11 @@
--- What is seen of one service on one store: its state, by its fields and its disk, and how it may have come to it.
+-- What is seen of one service on one store: its state, by its fields and its disk, and how it may
+-- have come to it.
 --
--- Beside the service stands a plain server: while it is up, one whose core has what the journal has, and whose sessions are
--- those of the connections, each with the reads that the session's notes stand for. The plain server may have more
--- sessions, of connections that ended: nothing is served in them any more. While the service is down a plain server stands
--- beside each image that a crash may leave: after a stop the one that the crash chooses had the stopped record, or not.
+-- Beside the service stands a plain server: while it is up, one whose core has what the journal
+-- has, and whose sessions are those of the connections, each with the reads that the session's
+-- notes stand for. The plain server may have more sessions, of connections that ended: nothing is
+-- served in them any more. While the service is down a plain server stands beside each image that a
+-- crash may leave: after a stop the one that the crash chooses had the stopped record, or not.
 use Rattle.std.specs.Prelude.{◌≡◌, ◌+◌, ℕ, Bool, false, List, [], ◌∷◌, ◌++◌, Option, Some, None, is_some, Result, Ok, Err, IfOk}
 use Rattle.disk_model.specs.Moment.{MayLeave}
 use Rattle.disk_model.specs.Disk.{DiskState}
@@ -59,7 +61,8 @@ state_of disk core held notes = record {
 
 -- ---- the plain server beside it
 
--- A session of a connection is one of the plain server's, which read what the session's notes stand for.
+-- A session of a connection is one of the plain server's, which read what the session's notes stand
+-- for.
 pub record Attends (sessions : List Sess) (session : Session) : Type 0 where
   pub reads : List Read
   pub noted : AreReadings session.txn.readings reads
@@ -87,7 +90,8 @@ pub record Came (start : Base) (history : List Happened) (Stands : Server → Ty
   pub is_base : server.core.base ≡ start
   pub stands : Stands server
 
--- Down: whatever a crash leaves, and what a read gives, a run has come to it. Up: a run has come to where it stands.
+-- Down: whatever a crash leaves, and what a read gives, a run has come to it. Up: a run has come to
+-- where it stands.
 abbrev pub Stands : Grants → DiskState → Option Core → Held → Notes → Base → List Happened → Type 0
 Stands grants disk None held notes start history = (image : List ℕ) → MayLeave disk.now image → Came start history (StandsDown grants notes.is_settled image)
 Stands grants disk (Some core) held notes start history = Came start history (StandsUp disk core held notes.sessions)

@@ -1,5 +1,5 @@
--- What a second store asks of a service: what each call leaves of the service itself, whoever sees it, the records that the
--- second store lacks, and a service that is taken for stopped.
+-- What a second store asks of a service: what each call leaves of the service itself, whoever sees
+-- it, the records that the second store lacks, and a service that is taken for stopped.
 use Rattle.std.specs.Prelude.{◌≡◌, ◌+◌, ℕ, true, false, IsTrue, List, [], ◌++◌, length, Option, Some, None, is_some, Ok}
 use Rattle.disk_model.specs.Moment.{MayLeave}
 use Rattle.disk_model.specs.Disk.{DiskState, IsSettled, LoweredByLess, OnlyReads, with_fault}
@@ -52,7 +52,8 @@ pub record Fell (old new : Within) : Type 0 where
   pub down : is_some new.core ≡ false
   pub settled : new.notes.is_settled ≡ true
 
--- A call that stores was answered: these records were added, each in four device calls, and without a fault.
+-- A call that stores was answered: these records were added, each in four device calls, and without
+-- a fault.
 pub record GrewBy (old new : Within) : Type 0 where
   pub counts : CountsOne old new
   pub records : List Record
@@ -60,7 +61,8 @@ pub record GrewBy (old new : Within) : Type 0 where
   pub up : is_some new.core ≡ true
   pub settled : new.notes.is_settled ≡ true
 
--- Its disk failed in it: whatever a crash then leaves has the old records, and some that the call adds.
+-- Its disk failed in it: whatever a crash then leaves has the old records, and some that the call
+-- adds.
 pub record Broke (old new : Within) : Type 0 where
   pub counts : CountsOne old new
   pub left : (image : List ℕ) → MayLeave new.disk.now image → (added : List Record) × HasAdded old.disk.now.seen added image

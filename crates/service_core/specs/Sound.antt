@@ -1,5 +1,6 @@
--- What a service keeps to, whatever came before: while it is up, what its sessions share fits its disk, and its sessions
--- are of this opening; while it is down, each image that a crash may leave is that of a journal.
+-- What a service keeps to, whatever came before: while it is up, what its sessions share fits its
+-- disk, and its sessions are of this opening; while it is down, each image that a crash may leave
+-- is that of a journal.
 use Rattle.std.specs.Prelude.{◌≡◌, ◌+◌, ◌<◌, ◌≤◌, ◌^◌, ℕ, true, false, List, [], Option, Some, None, Ok}
 use Rattle.disk_model.specs.Moment.{MayLeave}
 use Rattle.disk_model.specs.Disk.{DiskState, IsSettled}
@@ -21,7 +22,8 @@ use Rattle.service_core.specs.Within.{Within}
 abbrev pub HasRoom : ℕ → Notes → Type 0
 HasRoom count notes = count ≤ 2 ^ 62 + notes.calls
 
--- A call has one fault at most, and so has the reading for a second store, which comes once behind a call.
+-- A call has one fault at most, and so has the reading for a second store, which comes once behind
+-- a call.
 abbrev pub HasFaultRoom : ℕ → Notes → Type 0
 HasFaultRoom count notes = (count ≤ 2 ^ 62 + (notes.calls + notes.reads)) × (notes.reads ≤ notes.calls)
 

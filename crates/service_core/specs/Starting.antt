@@ -15,7 +15,8 @@ use Rattle.service_core.specs.declared.notes.Notes.{Notes}
 use Rattle.service_core.specs.Within.{Within}
 use Rattle.service_core.specs.Seeing.{state_in}
 
--- The disk is settled, under no stop, and reads as a journal. Its faults and the journal's incarnation leave room for all that may come.
+-- The disk is settled, under no stop, and reads as a journal. Its faults and the journal's
+-- incarnation leave room for all that may come.
 pub record CanBegin (disk : DiskState) : Type 0 where
   pub settled : IsSettled disk
   pub stop : disk.stop ≡ None

@@ -1,5 +1,5 @@
--- Frames that a session serves one after the other, apart from the connections. Where there was no memory, the disk has not
--- failed since the first of them.
+-- Frames that a session serves one after the other, apart from the connections. Where there was no
+-- memory, the disk has not failed since the first of them.
 use Rattle.std.specs.Prelude.{◌≡◌, ◌+◌, ℕ, false, IsTrue, List, [], ◌∷◌, ◌++◌, map, Option, Some, None, Result, Ok, Err}
 use Rattle.disk_model.specs.Disk.{DiskState}
 use Rattle.svc_values.specs.declared.call.Call.{Call}

@@ -1,4 +1,5 @@
--- A call that counts as stopped before its answer, whatever came of it: what may be seen of the service then.
+-- A call that counts as stopped before its answer, whatever came of it: what may be seen of the
+-- service then.
 use Rattle.std.specs.Prelude.{◌≡◌, ◌≢◌, ◌+◌, ℕ, false, List, [], ◌∷◌, ◌++◌, All, Result, Ok, Err}
 use Rattle.disk_model.specs.Moment.{MayLeave}
 use Rattle.redo_store.specs.meaning.Records.{records_of}
@@ -25,9 +26,9 @@ pub record LiesBetween (old image new : List ℕ) : Type 0 where
   pub image_is : records_of image ≡ Ok (records ++ some)
   pub new_is : records_of new ≡ Ok (records ++ some ++ more)
 
--- What may be seen of a service whose last call, made on `old`, counts as stopped before its answer: a plain server that is not
--- running has come so far, wherever a store may stand between what this one held at the call's start and what a crash may leave
--- of it now.
+-- What may be seen of a service whose last call, made on `old`, counts as stopped before its
+-- answer: a plain server that is not running has come so far, wherever a store may stand between
+-- what this one held at the call's start and what a crash may leave of it now.
 pub record IsHaltedAs (old new : Within) (seen : Seen) : Type 0 where
   pub live : new.notes.is_spent ≡ false
   pub state_is : seen.state ≡ state_in (halted new)

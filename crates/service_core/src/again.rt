@@ -18,11 +18,11 @@ use server_session::Core;
 use std::alloc::Global;
 
 impl Resting {
-    /// Adds the records of an opening to the store, behind all that stand there: the horizon, where it
-    /// rises or is the first, and then the incarnation. A stop leaves what it knows by then.
+    /// Adds the records of an opening to the store, behind all that stand there: the horizon, where
+    /// it rises or is the first, and then the incarnation. A stop leaves what it knows by then.
     ///
-    /// It takes the memory for these records, and for those behind the ones that it knew. The cost is
-    /// theirs, and where the horizon rises the number of sessions that the book knows.
+    /// It takes the memory for these records, and for those behind the ones that it knew. The cost
+    /// is theirs, and where the horizon rises the number of sessions that the book knows.
     pub(crate) fn open<D: Disk>(
         &mut self,
         alloc: Global,
@@ -84,7 +84,8 @@ impl Resting {
     }
 }
 
-/// What the sessions of the next opening share. It takes no memory, and costs the number of sequences.
+/// What the sessions of the next opening share. It takes no memory, and costs the number of
+/// sequences.
 pub(crate) fn renewed(core: Core) -> Core
     requires few { core.source.incarnation < 2 ^ 63 }
     requires sequences { IsTrue (are_sequences core.source.sequences) }

@@ -19,8 +19,9 @@ use service_calls::Ended;
 use std::alloc::Global;
 
 impl<D: StopDisk + Drop> OneService<D> {
-    /// What the store holds at the end, and the disk. The tables are those that the sessions shared,
-    /// where these are kept. What else the service has in memory goes before the records are read.
+    /// What the store holds at the end, and the disk. The tables are those that the sessions
+    /// shared, where these are kept. What else the service has in memory goes before the records
+    /// are read.
     pub fn read_at_end(self, alloc: Global) -> (Result<Ended, ServeFault>, D)
         requires live { self.notes.is_spent ≡ false }
         ensures told { IfOk result.0 (IsEndOf (bytes_in self)) }

@@ -23,8 +23,8 @@ use svc_values::NoMemory;
 use table_store::IndexOf;
 
 impl<D: StopDisk> OneService<D> {
-    /// A service on the store of this disk, which grants these kinds of draws. It is down, and no call
-    /// was made on it. It takes no memory.
+    /// A service on the store of this disk, which grants these kinds of draws. It is down, and no
+    /// call was made on it. It takes no memory.
     pub fn new(alloc: Global, disk: D, grants: Grants) -> Self
         requires { CanBegin (D.state disk) }
         ensures made { result ≡ made_on (D.state disk) grants }
@@ -34,8 +34,8 @@ impl<D: StopDisk> OneService<D> {
         OneService::indexed(alloc, disk, grants, Vec::new(alloc))
     }
 
-    /// The same with tables that are indexed by these columns at each opening. It takes no memory, and no
-    /// answer of the service tells whether it has indexes.
+    /// The same with tables that are indexed by these columns at each opening. It takes no memory,
+    /// and no answer of the service tells whether it has indexes.
     pub fn indexed(alloc: Global, disk: D, grants: Grants, indexes: Vec<IndexOf>) -> Self
         requires begins { CanBegin (D.state disk) }
         requires indexes { FitBase indexes.items (D.state disk).now.seen }
@@ -86,9 +86,10 @@ impl<D: StopDisk> OneService<D> {
 }
 
 impl<D: StopDisk + Drop> OneService<D> {
-    /// A service like `indexed` on a store that was made or read just now, of which this was found. What its sessions
-    /// share is made of it here, so that the first opening reads nothing. It takes the time and the
-    /// memory of the tables, n log n for n rows and entries, and the rows are moved.
+    /// A service like `indexed` on a store that was made or read just now, of which this was found.
+    /// What its sessions share is made of it here, so that the first opening reads nothing. It
+    /// takes the time and the memory of the tables, n log n for n rows and entries, and the rows
+    /// are moved.
     pub fn known(
         alloc: Global,
         disk: D,

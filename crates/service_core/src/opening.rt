@@ -29,9 +29,9 @@ use table_store::IndexOf;
 /// Opens the store of a disk for the next incarnation, with the outcomes of all incarnations below
 /// `horizon` forgotten: what its sessions share.
 ///
-/// What is kept of it goes on, at the cost of the records behind those that it knows and of the number
-/// of sequences. With nothing kept the whole store is read, n log n for n rows and entries, and no
-/// entry is kept. A stop in the records that the opening adds leaves what was read.
+/// What is kept of it goes on, at the cost of the records behind those that it knows and of the
+/// number of sequences. With nothing kept the whole store is read, n log n for n rows and entries,
+/// and no entry is kept. A stop in the records that the opening adds leaves what was read.
 pub(crate) fn open<D: Disk>(
     alloc: Global,
     disk: &mut D,
@@ -47,11 +47,12 @@ pub(crate) fn open<D: Disk>(
     ensures opened { IfOk result (λ core. HasOpened horizon grants (D.state disk.old) core (D.state disk.new)) }
     ensures kept { IsErrOf result ServeFault.Stopped → IfSome resting.new (RestsBy grants (D.state disk.new)) }
 
-    // A crash at any moment of the call leaves the old records, or these with the horizon, if it is stored, or with
-    // all that the opening adds.
+    // A crash at any moment of the call leaves the old records, or these with the horizon, if it is
+    // stored, or with all that the opening adds.
     ensures any_moment { let old = (D.state disk.old).now.seen in Meanwhile (D.state disk.old) (D.state disk.new) (IsGrown old (opening_of horizon (so_far_of old))) }
 
-    // It is stopped only under a stop that does not let its device calls pass, or by a fault of the disk.
+    // It is stopped only under a stop that does not let its device calls pass, or by a fault of the
+    // disk.
     ensures stop { IsErrOf result ServeFault.Stopped → LoweredByLess (stop_of horizon (D.state disk.old).now.seen) (D.state disk.old).stop (D.state disk.new).stop }
     ensures cause { Caused (IsErrOf result ServeFault.Stopped) (D.state disk.old) (D.state disk.new) }
 {

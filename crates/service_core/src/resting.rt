@@ -55,8 +55,8 @@ impl Resting {
         !self.has_horizon || self.core.book.horizon() < horizon
     }
 
-    /// Reads the record behind those that it knows, and takes over what it says. False where there is
-    /// none more.
+    /// Reads the record behind those that it knows, and takes over what it says. False where there
+    /// is none more.
     fn read_on<D: Disk>(&mut self, alloc: Global, disk: &mut D) -> Result<bool, LogFault>
         requires rests { Rests (D.state disk.old).now.seen self.old }
         requires journal { (last : Held) × (journal_of (D.state disk.old).now.seen ≡ Ok last) }

@@ -77,7 +77,8 @@ impl<D: StopDisk> OneService<D> {
         }
     }
 
-    /// Takes its last call for one that was stopped before its answer: it is down, as behind a stop.
+    /// Takes its last call for one that was stopped before its answer: it is down, as behind a
+    /// stop.
     pub fn unanswer(&mut self)
         requires live { self.old.notes.is_spent ≡ false }
         ensures { self.new ≡ halted self.old }
@@ -87,8 +88,8 @@ impl<D: StopDisk> OneService<D> {
         self.notes.is_settled = false;
     }
 
-    /// Goes on over another disk, down as behind a stop, and gives back the one that it had. A crash
-    /// is to come next.
+    /// Goes on over another disk, down as behind a stop, and gives back the one that it had. A
+    /// crash is to come next.
     pub fn take_over(&mut self, disk: D) -> D
         requires live { self.old.notes.is_spent ≡ false }
         requires room { HasFaultRoom (D.state disk).faults self.old.notes }

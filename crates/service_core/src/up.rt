@@ -16,8 +16,8 @@ use std::alloc::Global;
 
 impl<D: StopDisk> OneService<D> {
     /// Opens the store for the next incarnation, and forgets the outcomes of all incarnations below
-    /// `horizon`. The cost is that of `open`: where it was open before, that of the records since the
-    /// last ones that it knows.
+    /// `horizon`. The cost is that of `open`: where it was open before, that of the records since
+    /// the last ones that it knows.
     pub fn reopen(&mut self, alloc: Global, horizon: u64) -> Result<(), ServeFault>
         requires live { self.old.notes.is_spent ≡ false }
         requires few { self.old.notes.calls < 2 ^ 48 }

@@ -1,4 +1,5 @@
--- What the machine does at each event and at each step of a client, by what is noted; and what stands at a place of a list.
+-- What the machine does at each event and at each step of a client, by what is noted; and what
+-- stands at a place of a list.
 pub mod ClientsMove
 pub mod Clock
 pub mod CourseNow

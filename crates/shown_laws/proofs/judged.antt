@@ -1,4 +1,5 @@
--- What holds of the report of a whole run: its parts are those of the requests, and each line of `Whole` holds.
+-- What holds of the report of a whole run: its parts are those of the requests, and each line of
+-- `Whole` holds.
 pub mod AcquirersTold
 pub mod CausedRuns
 pub mod NoneLeft

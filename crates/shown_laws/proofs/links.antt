@@ -1,4 +1,5 @@
--- What is told of each connection, event by event, and that no connection is closed that a request in course held.
+-- What is told of each connection, event by event, and that no connection is closed that a request
+-- in course held.
 pub mod AcquiredTold
 pub mod ConnectionsTold
 pub mod CrashesTold

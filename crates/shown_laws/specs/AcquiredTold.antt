@@ -1,4 +1,5 @@
--- By whom the session of each connection that is told was acquired: the last step before that was lent it, or took its Hello.
+-- By whom the session of each connection that is told was acquired: the last step before that was
+-- lent it, or took its Hello.
 use Rattle.std.specs.Prelude.{◌≡◌, ◌==◌, ◌&&◌, ℕ, Bool, false, is_some, if◌then◌else◌, List, fold, Option, Some, None}
 use Rattle.std.specs.Option.{option_map_or, option_or}
 use Rattle.outage_schedule.specs.declared.item.Served.{Served}

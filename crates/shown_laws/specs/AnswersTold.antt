@@ -13,8 +13,8 @@ use Rattle.shown_clauses.specs.meaning.Showings.{Shown, shown_calls, says_comple
 use Rattle.shown_laws.specs.PartsTold.{HoldsOfParts}
 use Rattle.shown_laws.specs.ReportsTold.{HoldsOfReports, of_parts}
 
--- A reply is of the script's call at its place, by a session of the report. For an outcome the report has one that says committed and completed
--- of that identifier.
+-- A reply is of the script's call at its place, by a session of the report. For an outcome the
+-- report has one that says committed and completed of that identifier.
 abbrev pub is_answered : RequestReport → Shown → Item → Bool
 is_answered copy one (item.Call replay call answers draws) = same_call one.call call && list_any (same_session one.showing.session) copy.sessions
 is_answered copy one (item.Outcome x result) = list_any (says_completed x) copy.outcomes
@@ -29,7 +29,8 @@ CallsAreAnswered = HoldsOfParts calls_answered
 abbrev pub ReportsAnswerCalls : Type 0
 ReportsAnswerCalls = HoldsOfReports (of_parts calls_answered)
 
--- A call that an outcome showed is a lone commit, and the identifier is one under which its transaction was tried.
+-- A call that an outcome showed is a lone commit, and the identifier is one under which its
+-- transaction was tried.
 abbrev pub is_lone : Shown → Item → Bool
 is_lone one (item.Outcome x result) = is_lone_commit one.call && holds one.tried x
 is_lone one _ = true

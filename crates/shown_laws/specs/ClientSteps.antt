@@ -30,8 +30,9 @@ use Rattle.shown_laws.specs.Connections.{TellsLink}
 
 -- REPLIES -----------------------------------------------------------------------------------------
 
--- A reply that is taken, as it is told: the item is that of a frame which this connection's session answered with this reply, and the frame
--- is the one that the request sent last there and awaited the reply to.
+-- A reply that is taken, as it is told: the item is that of a frame which this connection's session
+-- answered with this reply, and the frame is the one that the request sent last there and awaited
+-- the reply to.
 pub record TellsReply (owner : Owner) (phase : Phase) (link : Link) (frame : Down) (served : Served) : Type 0 where
   pub one : Handled
   pub before : List Handled
@@ -49,8 +50,8 @@ pub record TellsReply (owner : Owner) (phase : Phase) (link : Link) (frame : Dow
   pub awaited : IsTrue (is_awaited phase sent)
   pub session : link.session ≡ Some served.session
 
--- The connection whose outcome is taken, as it is told: that of the session of the identifier. The request lost it, held this identifier on
--- it, and goes by the event that is told to have ended it.
+-- The connection whose outcome is taken, as it is told: that of the session of the identifier. The
+-- request lost it, held this identifier on it, and goes by the event that is told to have ended it.
 pub record TellsLost (t : Traced) (course : Course) (x : Ltxid) (told : Option Seen) : Type 0 where
   pub wanted : Wanted
   pub wants : wanted_in course.phase ≡ Some wanted
@@ -90,7 +91,8 @@ after_now t doing input = heard t.setting.terms (t.machine.event + 1) t.machine.
 abbrev pub ended_at : Link → ℕ
 ended_at link = unwrap_or link.ended 0
 
--- Behind a reply the connection is gone in the same event, where it had ended and the request goes on.
+-- Behind a reply the connection is gone in the same event, where it had ended and the request goes
+-- on.
 pub data GoneBehind (t : Traced) (doing : Doing) (link : Link) (frame : Down) : List Step → Type 0 where
   GoesOn : link.is_open ≡ true → GoneBehind t doing link frame []
   IsOver : link.is_open ≡ false → ((now_at t doing (Took frame link.is_open)).done.act.hold ≡ hold.Keep → ⊥) → GoneBehind t doing link frame []

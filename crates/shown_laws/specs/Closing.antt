@@ -1,4 +1,5 @@
--- No connection that a request in course held was closed: those that it lost were cut, or ended by a crash or a block.
+-- No connection that a request in course held was closed: those that it lost were cut, or ended by
+-- a crash or a block.
 use Rattle.std.specs.Prelude.{◌≡◌, ◌⊎◌, ℕ, ◌==◌, false, IsTrue, List, Some}
 use Rattle.std.specs.List.{list_any}
 use Rattle.outage_schedule.specs.declared.document.Document.{Document}
@@ -16,7 +17,8 @@ use Rattle.world_model.specs.records.Ready.{all_requests_right}
 use Rattle.world_model.specs.Traced.{Traced}
 use Rattle.world_model.specs.Words.{held_in}
 
--- A connection that it held is there and no Close was sent on it; it is the one that the request has, or not open any more.
+-- A connection that it held is there and no Close was sent on it; it is the one that the request
+-- has, or not open any more.
 pub record IsUnclosed (links : List Link) (doing : Doing) (number : ℕ) : Type 0 where
   pub link : Link
   pub there : link_at links number ≡ Some link

@@ -27,9 +27,10 @@ replies_in answers = map (λ one. one.reply) answers
 abbrev pub items_in : List Answer → List Served
 items_in answers = map (λ one. one.served) answers
 
--- The answers of a connection are those that were taken, and then those whose items are told as replies that were not taken yet. The replies
--- that may still be taken stand in front of these: the others were lost where the connection ended, and none was while it is open. The
--- answer to a frame that was served last before a crash is told as none.
+-- The answers of a connection are those that were taken, and then those whose items are told as
+-- replies that were not taken yet. The replies that may still be taken stand in front of these: the
+-- others were lost where the connection ended, and none was while it is open. The answer to a frame
+-- that was served last before a crash is told as none.
 pub record TellsReplies (link : Link) (told : List Served) : Type 0 where
   pub gone : List Answer
   pub waiting : List Answer
@@ -44,8 +45,9 @@ pub record TellsReplies (link : Link) (told : List Served) : Type 0 where
 
 -- ENDS --------------------------------------------------------------------------------------------
 
--- The event that is told to have ended a connection is the one that did. A Close is not told as an end, so of a connection on which one was
--- sent nothing is said; nor of one that ended before its Connect was served, from which no reply comes.
+-- The event that is told to have ended a connection is the one that did. A Close is not told as an
+-- end, so of a connection on which one was sent nothing is said; nor of one that ended before its
+-- Connect was served, from which no reply comes.
 pub data TellsEnd (link : Link) : ℕ → Type 0 where
   IsOpen : link.is_open ≡ true → link.ended ≡ None → is_closed link ≡ false → TellsEnd link 0
   HasEnded : (event : ℕ) → 0 < event → link.is_open ≡ false → link.ended ≡ Some event → is_closed link ≡ false → TellsEnd link event

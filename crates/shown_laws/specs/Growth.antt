@@ -18,7 +18,8 @@ use Rattle.shown_laws.specs.Telling.{events_told, seen_told, steps_told, ticks_t
 abbrev pub next_told : Machine → Note → List Served → Happening
 next_told m note items = event_told m.event m.tick note items
 
--- One event more is told behind those before it, with the number and the tick that the machine gives it, and what they come to grows by it.
+-- One event more is told behind those before it, with the number and the tick that the machine
+-- gives it, and what they come to grows by it.
 pub record GrowsBy (notes : List Note) (items : List Served) (m : Machine) (note : Note) (more : List Served) : Type 0 where
   pub events : events_told (notes ++ note ∷ []) (items ++ more) ≡ events_told notes items ++ next_told m note more ∷ []
   pub seen : seen_told (notes ++ note ∷ []) (items ++ more) ≡ after_happening (seen_told notes items) (next_told m note more)

@@ -1,4 +1,5 @@
--- A turn of a connection is right for the request that held the connection and whose calls it served.
+-- A turn of a connection is right for the request that held the connection and whose calls it
+-- served.
 use Rattle.std.specs.Prelude.{◌≡◌, ◌==◌, ℕ, IsTrue, List, ◌++◌, map, slice_get, Some}
 use Rattle.std.specs.List.{list_all, list_any}
 use Rattle.outage_schedule.specs.declared.document.Document.{Document}
@@ -20,7 +21,8 @@ use Rattle.shown_laws.specs.Submitted.{submission_so_far}
 use Rattle.shown_laws.specs.TurnSent.{sent_since}
 use Rattle.shown_laws.specs.TurnsServed.{calls_served}
 
--- what its session had served at some time, on a connection that a request held, where the calls since the last Begin are this request's
+-- what its session had served at some time, on a connection that a request held, where the calls
+-- since the last Begin are this request's
 pub record IsHeldTurn (t : Traced) (number : ℕ) (course : Course) (served : List Handled) (turn : Turn) : Type 0 where
   pub link : Link
   pub there : link_at t.machine.links number ≡ Some link

@@ -48,8 +48,8 @@ CallsAreIdentified =
     → IsTrue (all_requests_right document) → IsReported document report seen t server → client_at t.machine.clients client ≡ Some own
     → TellsIdentified t.setting (is_identified document report) client own (steps_of client (steps_told report.notes report.served))
 
--- Each call of a report has the identifier of the item that showed it: this line of `Whole` holds of each part of a client that is at no request,
--- at the end of a whole run.
+-- Each call of a report has the identifier of the item that showed it: this line of `Whole` holds
+-- of each part of a client that is at no request, at the end of a whole run.
 abbrev pub IdentifiersAreStored : Type 0
 IdentifiersAreStored =
     (document : Document) (report : Report) (seen : Seen) (t : Traced) (server : Server) (client : ℕ) (own : Client)

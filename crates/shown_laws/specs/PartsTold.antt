@@ -1,4 +1,5 @@
--- The parts in which the steps of a client are cut are its requests', each from its first session on.
+-- The parts in which the steps of a client are cut are its requests', each from its first session
+-- on.
 use Rattle.std.specs.Prelude.{◌≡◌, ℕ, Bool, true, false, IsTrue, List, [], ◌∷◌, ◌++◌, map, Some, None, is_some}
 use Rattle.std.specs.List.{list_all, list_any}
 use Rattle.outage_schedule.specs.declared.document.Document.{Document}
@@ -47,7 +48,8 @@ pub record Split (steps : List Step) : Type 0 where
   pub quiet : OfEach IsQuiet before
   pub opens : Opens own
 
--- A part has the steps of its request from the first session on, and behind them quiet ones, which are of later requests.
+-- A part has the steps of its request from the first session on, and behind them quiet ones, which
+-- are of later requests.
 pub record IsPartOf (steps : List Step) (part : Part) : Type 0 where
   pub before : List Step
   pub own : List Step
@@ -80,7 +82,8 @@ SessionsAreAcquired = HoldsOfParts has_its_sessions
 abbrev pub OutcomesAreTaken : Type 0
 OutcomesAreTaken = HoldsOfParts has_its_outcomes
 
--- The calls of its report are those that the replies which they took showed, in order and with the same answers and draws.
+-- The calls of its report are those that the replies which they took showed, in order and with the
+-- same answers and draws.
 abbrev pub CallsAreShown : Type 0
 CallsAreShown = HoldsOfParts has_its_showings
 

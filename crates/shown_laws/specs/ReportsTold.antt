@@ -1,4 +1,5 @@
--- What the report of a whole run says of the parts of its clients, and of the steps and the reports themselves.
+-- What the report of a whole run says of the parts of its clients, and of the steps and the reports
+-- themselves.
 use Rattle.std.specs.Prelude.{◌+◌, ◌&&◌, ℕ, Bool, true, IsTrue, List, [], ◌∷◌}
 use Rattle.std.specs.List.{list_all}
 use Rattle.outage_schedule.specs.declared.document.Document.{Document}
@@ -33,7 +34,8 @@ of_parts test document report = are_parts test 1 (steps report) (submissions_by_
 abbrev pub ReportsListSessions : Type 0
 ReportsListSessions = HoldsOfReports (of_parts has_its_sessions)
 
--- The calls of each report are those that the replies which its steps took showed, in order and with the same answers and draws.
+-- The calls of each report are those that the replies which its steps took showed, in order and
+-- with the same answers and draws.
 abbrev pub ReportsListShowings : Type 0
 ReportsListShowings = HoldsOfReports (of_parts has_its_showings)
 
@@ -45,6 +47,7 @@ ReportsListOutcomes = HoldsOfReports outcomes_taken
 abbrev pub ReportsTakeReplies : Type 0
 ReportsTakeReplies = HoldsOfReports (λ document report. are_taken (steps report))
 
--- The reports of each client are the copies of its requests, in the order of its script; each shows all calls of its request, or failed and shows fewer.
+-- The reports of each client are the copies of its requests, in the order of its script; each shows
+-- all calls of its request, or failed and shows fewer.
 abbrev pub ReportsAreOrdered : Type 0
 ReportsAreOrdered = HoldsOfReports has_its_reports

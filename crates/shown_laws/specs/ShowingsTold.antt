@@ -9,8 +9,9 @@ use Rattle.outage_schedule.specs.declared.item.Served.{Served}
 use Rattle.outage_schedule.specs.declared.note.AskResult.TheVariants as told
 use Rattle.world_model.specs.meaning.Serving.{identifier}
 
--- It has the answers and draws of a call that was served without the mark, and the identifier of that session with its commits; or it is shown
--- with Committed and no draws, by an outcome that says committed and completed.
+-- It has the answers and draws of a call that was served without the mark, and the identifier of
+-- that session with its commits; or it is shown with Committed and no draws, by an outcome that
+-- says committed and completed.
 pub data ShownBy (shown : Shown) (served : Served) : Type 0 where
   ByReply : (call : Call) (commits : ℕ) → served.item ≡ item.Call false call shown.answers shown.draws → shown.ltxid ≡ identifier served.session commits → ShownBy shown served
   ByOutcome : (x : Ltxid) → served.item ≡ item.Outcome x (told.Committed true) → shown.answers ≡ answer.Committed ∷ [] → shown.draws ≡ [] → ShownBy shown served

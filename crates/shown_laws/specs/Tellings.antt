@@ -38,8 +38,8 @@ pub data Begins (t : Traced) (own : Client) (doing : Doing) : List Step → List
   WasThere : own.now ≡ Some doing → Begins t own doing doing.steps []
   BeginsNow : (request : Request) → own.now ≡ None → own.next ≡ Some request → doing ≡ begun t.setting.terms (t.machine.event + 1) t.machine.tick request → Begins t own doing [] (now_at t (unbegun request) Start ∷ [])
 
--- One step of a request of this client, as it is told: in the state of the machine before its event the client is at this request, and what is
--- told is of this kind.
+-- One step of a request of this client, as it is told: in the state of the machine before its event
+-- the client is at this request, and what is told is of this kind.
 pub record TellsStep (setting : Setting) (client place : ℕ) (request : Request) (steps : List Step) (one : Telling) : Type 0 where
   pub t : Traced
   pub inv : Invariant t
@@ -85,7 +85,8 @@ abbrev pub FollowsFrom : List Request → List RequestReport → List Past → T
 FollowsFrom script before [] = Unit {0}
 FollowsFrom script before (past ∷ others) = (next_of script before ≡ Some past.request) × FollowsFrom script (before ++ past.report ∷ []) others
 
--- A client follows its script: with each request, and with the next one, which is the one in course if one is.
+-- A client follows its script: with each request, and with the next one, which is the one in course
+-- if one is.
 pub record IsScripted (script : List Request) (own : Client) : Type 0 where
   pub past : FollowsFrom script [] own.past
   pub next : own.next ≡ next_of script (reports_of own.past)

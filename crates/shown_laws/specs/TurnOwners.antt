@@ -1,4 +1,5 @@
--- Whose turn it is that a session serves: the request that sent its Begin is the one that acquired the session last before.
+-- Whose turn it is that a session serves: the request that sent its Begin is the one that acquired
+-- the session last before.
 use Rattle.std.specs.Prelude.{◌≡◌, ◌==◌, ◌&&◌, ℕ, Bool, true, false, IsTrue, List, [], ◌∷◌, map, fold, slice_get, Option, Some, None, option_map}
 use Rattle.std.specs.List.{list_any}
 use Rattle.std.specs.Option.{option_map_or}
@@ -63,7 +64,8 @@ said_of link = record { last = last_owner link.sent; held = link.held }
 abbrev pub said_at : ℕ → List Link → Option Said
 said_at number links = option_map said_of (link_at links number)
 
--- Its session was acquired by a step of the request that sent last on it, or by none, and then no identifier was taken.
+-- Its session was acquired by a step of the request that sent last on it, or by none, and then no
+-- identifier was taken.
 pub data Tied (clients : List Client) : Option Said → Option Acquired → Type 0 where
   Unopened : Tied clients None None
   Unheard : (said : Said) → said.held ≡ None → Tied clients (Some said) None
@@ -109,7 +111,8 @@ RunsTellOwners =
 
 -- WHOLE RUNS --------------------------------------------------------------------------------------
 
--- A turn is of a request that has the step by which its session was acquired, and it is right for it once this is over.
+-- A turn is of a request that has the step by which its session was acquired, and it is right for
+-- it once this is over.
 pub record IsOwned (clients : List Client) (turn : Turn) : Type 0 where
   pub acquired : Acquired
   pub has : turn.acquired ≡ Some acquired

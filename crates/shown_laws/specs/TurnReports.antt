@@ -1,4 +1,5 @@
--- What the report of a whole run says of the turns of its sessions: whose they are, and that each is right for its request.
+-- What the report of a whole run says of the turns of its sessions: whose they are, and that each
+-- is right for its request.
 use Rattle.std.specs.Prelude.{◌+◌, ◌&&◌, ℕ, Bool, true, List, [], ◌∷◌, length}
 use Rattle.std.specs.List.{list_all}
 use Rattle.outage_schedule.specs.declared.document.Document.{Document}

@@ -28,8 +28,9 @@ abbrev pub marks_stand_first : List Marked → Bool
 marks_stand_first [] = true
 marks_stand_first (first ∷ more) = if first.replay then marks_stand_first more else list_all (λ one. not one.replay) more
 
--- A turn is right that served calls of a row: the call without the mark that comes first can be the call of its index, and those with the mark
--- are the ones before it since the last that was shown as decided.
+-- A turn is right that served calls of a row: the call without the mark that comes first can be the
+-- call of its index, and those with the mark are the ones before it since the last that was shown
+-- as decided.
 abbrev pub RowsMakeTurnsRight : Type 0
 RowsMakeTurnsRight =
     (course : Course) (current : Bool) (calls : List Sent) (turn : Turn)

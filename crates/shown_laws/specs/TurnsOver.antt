@@ -15,7 +15,8 @@ use Rattle.world_model.specs.Traced.{Traced}
 use Rattle.shown_laws.specs.Telling.{seen_told}
 use Rattle.shown_laws.specs.TurnsServed.{calls_served, served_in}
 
--- A turn that was: its calls are those that the session of a connection had served since a Begin when it served the next one.
+-- A turn that was: its calls are those that the session of a connection had served since a Begin
+-- when it served the next one.
 pub record WasTurn (links : List Link) (turn : Turn) : Type 0 where
   pub number : ℕ
   pub before : List Handled

@@ -1,4 +1,5 @@
--- Each turn that is told is right for a request that held its connection, wherever a run has come to.
+-- Each turn that is told is right for a request that held its connection, wherever a run has come
+-- to.
 use Rattle.std.specs.Prelude.{◌≡◌, ◌==◌, ℕ, IsTrue, List, [], ◌∷◌, reverse, slice_get, Some}
 use Rattle.std.specs.List.{list_any}
 use Rattle.outage_schedule.specs.declared.document.Document.{Document}
@@ -17,7 +18,8 @@ use Rattle.world_model.specs.Words.{held_in}
 use Rattle.shown_laws.specs.Telling.{seen_told}
 use Rattle.shown_laws.specs.Submitted.{submission_so_far}
 
--- It served no call, or those of a request that held the connection of this number, for which it is right.
+-- It served no call, or those of a request that held the connection of this number, for which it is
+-- right.
 pub data RightFor (t : Traced) (number : ℕ) (turn : Turn) : Type 0 where
   ServesNone : reverse turn.calls ≡ [] → RightFor t number turn
   ServesOwn : (course : Course) (place : ℕ) → slice_get (courses_of t) place ≡ Some course → IsTrue (list_any (λ other. other == number) (held_in course.steps)) → IsTrue (is_turn_right (submission_so_far course) turn) → RightFor t number turn

@@ -46,7 +46,8 @@ calls_told one = option_map (λ turn. turn.calls) one.turn
 abbrev pub told_at : ℕ → List Seen → Option (List Marked)
 told_at number told = option_map_or calls_told (link_of number told) None
 
--- The turn that is told of each connection has the calls that its session served since its last Begin, and none is told where none was served.
+-- The turn that is told of each connection has the calls that its session served since its last
+-- Begin, and none is told where none was served.
 abbrev pub TellsTurns : List Link → List Seen → Type 0
 TellsTurns links told = (number : ℕ) → told_at number told ≡ served_at number links
 

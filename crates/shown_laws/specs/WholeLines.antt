@@ -1,4 +1,5 @@
--- `Whole` is its lines: those on the reports and the steps, those on the parts of each client, and those on whose turns sessions served.
+-- `Whole` is its lines: those on the reports and the steps, those on the parts of each client, and
+-- those on whose turns sessions served.
 use Rattle.std.specs.Prelude.{IsTrue}
 use Rattle.outage_schedule.specs.declared.document.Document.{Document}
 use Rattle.outage_schedule.specs.declared.report.Report.{Report}

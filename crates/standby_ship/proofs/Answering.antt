@@ -1,4 +1,5 @@
--- A pair behind a call of its first store's service that was answered, once the second store has come as far.
+-- A pair behind a call of its first store's service that was answered, once the second store has
+-- come as far.
 use Rattle.std.proofs.Common.{◌≡◌, ◌≢◌, ◌∙◌, ◌+◌, ◌*◌, ◌<◌, ◌≤◌, ◌^◌, ℕ, Bool, true, false, refl, sym, ap, subst, List, [], ◌∷◌, length, arith}
 use Rattle.std.specs.Prelude.{◌&&◌, Option, Some, None, is_some}
 use Rattle.disk_model.specs.Disk.{DiskState, Lowered}

@@ -1,4 +1,5 @@
--- A store that is read has a first record; and what was added behind it, as fronts and as stores between.
+-- A store that is read has a first record; and what was added behind it, as fronts and as stores
+-- between.
 use Rattle.std.proofs.Common.{◌≡◌, ◌∙◌, ◌+◌, ℕ, Bool, true, false, refl, sym, ap, List, [], ◌∷◌, ◌++◌, length, map, fold, append-nil, length-append}
 use Rattle.std.proofs.lemmas.List.{length-map}
 use Rattle.std.specs.Prelude.{Option, Some, None, is_some, Result, Ok, Err}

@@ -1,4 +1,5 @@
--- What a stop leaves of both stores: in the first store's call, and as the second one was shipped to.
+-- What a stop leaves of both stores: in the first store's call, and as the second one was shipped
+-- to.
 use Rattle.std.proofs.Common.{◌≡◌, ◌≢◌, ◌∙◌, ◌+◌, ◌*◌, ◌<◌, ◌≤◌, ◌^◌, ℕ, Bool, true, false, refl, sym, ap, subst, List, [], length, arith}
 use Rattle.std.proofs.Math.Nat.{min-eq_left}
 use Rattle.std.specs.Prelude.{Option, Some, None, is_some}

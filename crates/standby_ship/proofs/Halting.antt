@@ -1,5 +1,6 @@
--- A pair behind a call that was stopped before its answer, whichever disk has failed: each store stands somewhere between what
--- the first one held at the call's start and what a crash may leave of it now.
+-- A pair behind a call that was stopped before its answer, whichever disk has failed: each store
+-- stands somewhere between what the first one held at the call's start and what a crash may leave
+-- of it now.
 use Rattle.std.proofs.Common.{◌≡◌, ◌≢◌, inl, inr, ◌∙◌, ◌+◌, ◌*◌, ◌<◌, ℕ, Bool, true, false, refl, sym, subst, List, arith}
 use Rattle.std.specs.Prelude.{◌&&◌, Option, Some, None}
 use Rattle.disk_model.specs.Moment.{DiskMoment, MayLeave}

@@ -1,4 +1,5 @@
--- What each call of a pair that stores leaves of the pair: it is sound, and its store has the base that it had.
+-- What each call of a pair that stores leaves of the pair: it is sound, and its store has the base
+-- that it had.
 use Rattle.std.proofs.Common.{◌≡◌, ◌∙◌, ◌<◌, ◌^◌, ℕ, true, false, sym, ap, subst, List}
 use Rattle.std.specs.Prelude.{Option, Some, None, is_some}
 use Rattle.disk_model.specs.Moment.{DiskMoment}

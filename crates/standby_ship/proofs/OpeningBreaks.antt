@@ -1,4 +1,5 @@
--- An opening that was stopped: in the first store's call, and as the second one was walked or shipped to.
+-- An opening that was stopped: in the first store's call, and as the second one was walked or
+-- shipped to.
 use Rattle.std.proofs.Common.{◌≡◌, ◌≢◌, ◌∙◌, ◌+◌, ◌*◌, ◌<◌, ◌^◌, ℕ, true, false, refl, sym, ap, subst, List, [], ◌∷◌, length, arith}
 use Rattle.std.specs.Prelude.{Option, Some, None, is_some}
 use Rattle.disk_model.specs.Moment.{DiskMoment, MayLeave}

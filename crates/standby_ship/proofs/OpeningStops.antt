@@ -1,6 +1,6 @@
--- A pair whose opening was stopped, whichever disk has failed. Where it was opened before, since its last crash, each store stands
--- somewhere between what the first one held at the start and what a crash may leave of it now. Else the second store may lack
--- more, and no failover may come.
+-- A pair whose opening was stopped, whichever disk has failed. Where it was opened before, since
+-- its last crash, each store stands somewhere between what the first one held at the start and what
+-- a crash may leave of it now. Else the second store may lack more, and no failover may come.
 use Rattle.std.proofs.Common.{◌≡◌, inl, inr, ◌∙◌, ◌+◌, ◌<◌, ℕ, true, false, refl, sym, ap, subst, List, [], arith}
 use Rattle.std.specs.Prelude.{◌&&◌, Option, Some, None}
 use Rattle.disk_model.specs.Moment.{DiskMoment, MayLeave}

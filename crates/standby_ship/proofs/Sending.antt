@@ -30,7 +30,8 @@ pub are_behind : (primary : Within) (store : Redo) (from place : ℕ) (payloads 
 are_behind primary store from place payloads is_from is_place are =
     subst (λ (n : ℕ). AreBehind (count_of store) n (bytes_in primary) payloads) is_place (subst (λ (n : ℕ). AreBehind n place (bytes_in primary) payloads) is_from are)
 
--- `begun` is the second disk under the stop that the first one leaves, and `shown` what was appended there.
+-- `begun` is the second disk under the stop that the first one leaves, and `shown` what was
+-- appended there.
 module _ (primary new : Within) (store later : Redo) (disk begun end : DiskState) (payloads shown : List (Vec ℕ Global)) (sound : IsSoundWithin primary) (lags : Lags primary (open_at store disk)) (ready : CanAppend store disk)
     (are : AreBehind (count_of store) (tail_of store) (bytes_in primary) (items_of payloads)) (is_new : new ≡ read_once primary) (is_begun : begun ≡ record disk { stop = new.disk.stop }) (is_shown : shown ≡ payloads) (Fault : Type 0) (cause : Caused Fault begun end) (differ : count_of store ≢ count_in primary) (reads_now : MayLeave end.now end.now.seen) where
   same_seen : begun.now.seen ≡ disk.now.seen

@@ -1,4 +1,5 @@
--- A second store takes the place of the first: what it holds is the first records of the first store, and is seen by the same history.
+-- A second store takes the place of the first: what it holds is the first records of the first
+-- store, and is seen by the same history.
 use Rattle.std.proofs.Common.{◌≡◌, ◌≢◌, ◌⊎◌, inl, inr, ◌∙◌, ◌≤◌, ℕ, Bool, true, false, refl, sym, ap, subst, List, [], append-nil}
 use Rattle.std.specs.Prelude.{Option, Some, None, Result, IfOk}
 use Rattle.disk_model.specs.Moment.{MayLeave}
@@ -29,7 +30,8 @@ use Rattle.standby_ship.proofs.Going.{seen_of}
 
 -- ---- what the first store holds
 
--- It reads as a journal. A service that is down may have left it, and of one that is up nothing is pending.
+-- It reads as a journal. A service that is down may have left it, and of one that is up nothing is
+-- pending.
 record HoldsNow (disk : DiskState) (notes : Notes) : Type 0 where
   left : MayLeave disk.now disk.now.seen ⊎ (notes.is_settled ≡ true)
   base : Begun

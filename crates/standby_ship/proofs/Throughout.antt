@@ -1,4 +1,5 @@
--- What is done to the first store's service is done to the pair, once it was shipped, and once it was stopped.
+-- What is done to the first store's service is done to the pair, once it was shipped, and once it
+-- was stopped.
 use Rattle.std.proofs.Common.{◌≡◌, ℕ, true, false, sym, subst, List}
 use Rattle.std.specs.Prelude.{Option, is_some}
 use Rattle.server_model.specs.meaning.Base.{Base}

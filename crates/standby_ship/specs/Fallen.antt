@@ -39,7 +39,8 @@ abbrev pub MayTakeOver : Within → Option Second → Type 0
 MayTakeOver primary None = Unit {0}
 MayTakeOver primary (Some second) = MayGoOn primary second
 
--- With a second store that is the service's, and the first one's disk is the lost one. With none nothing is done.
+-- With a second store that is the service's, and the first one's disk is the lost one. With none
+-- nothing is done.
 pub record IsTakenOver (old new : Within) (second : Second) (later : Option Second) (lost : Option DiskState) : Type 0 where
   pub primary : new ≡ taken old second.disk
   pub none : later ≡ None

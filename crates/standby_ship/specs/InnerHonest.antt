@@ -1,5 +1,5 @@
--- What is seen of a pair is honest: its history is one of the plain server and ends with the first store, and its bytes say what
--- that store holds.
+-- What is seen of a pair is honest: its history is one of the plain server and ends with the first
+-- store, and its bytes say what that store holds.
 use Rattle.std.proofs.Common.{refl, sym, subst}
 use Rattle.server_model.specs.Seen.{ServiceState, Seen}
 use Rattle.service_calls.specs.Kept.{IsHonest}

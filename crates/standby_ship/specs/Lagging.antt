@@ -18,7 +18,8 @@ lacked_in primary second = count_in primary - record_count (records_of second.di
 abbrev pub open_at : Redo → DiskState → Second
 open_at store disk = record { disk = disk; store = Some store }
 
--- The first store's service is up behind a call that was answered, and the second store has the first of its records.
+-- The first store's service is up behind a call that was answered, and the second store has the
+-- first of its records.
 pub record Lags (primary : Within) (second : Second) : Type 0 where
   pub up : is_some primary.core ≡ true
   pub live : primary.notes.is_spent ≡ false

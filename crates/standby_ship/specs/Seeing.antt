@@ -1,8 +1,9 @@
 -- What is seen of a pair.
 --
--- Its history is one of the plain server as far as the first store has come, and, where a failover may come, as far as the second
--- has. While it serves, and where nothing is pending, both have come equally far. Behind a stop no answer is out: every frame of
--- the stopped call is one without an answer, and each store has come as far in it as it may.
+-- Its history is one of the plain server as far as the first store has come, and, where a failover
+-- may come, as far as the second has. While it serves, and where nothing is pending, both have come
+-- equally far. Behind a stop no answer is out: every frame of the stopped call is one without an
+-- answer, and each store has come as far in it as it may.
 use Rattle.std.specs.Prelude.{◌≡◌, ◌⊎◌, ℕ, true, false, List, Option, Some, None}
 use Rattle.disk_model.specs.Moment.{MayLeave}
 use Rattle.server_model.specs.meaning.Base.{Base}
@@ -30,8 +31,9 @@ abbrev pub SecondLeaves : Twin → Option Second → Store → Type 0
 SecondLeaves pair None store = ⊥
 SecondLeaves pair (Some second) store = (pair.is_opened ≡ true) × Leaves second.disk store
 
--- What a crash that may come now may leave. One that takes the first store away comes only where it was opened since the last
--- crash: behind an opening that was stopped the second store may lack what was answered, and no crash may take the first away.
+-- What a crash that may come now may leave. One that takes the first store away comes only where it
+-- was opened since the last crash: behind an opening that was stopped the second store may lack
+-- what was answered, and no crash may take the first away.
 abbrev pub LeavesPair : Twin → Store → Type 0
 LeavesPair pair store = LeavesIn pair.primary store ⊎ SecondLeaves pair pair.second store
 

@@ -30,7 +30,8 @@ pub record HasSomeLasts (payloads : List (List ℕ)) (old image : List ℕ) : Ty
 abbrev pub with_reads : ℕ → Within → Within
 with_reads reads service = record service { notes = record service.notes { reads = reads } }
 
--- No record is missing any more, and the second store is open. The first disk was read once at most, and neither failed.
+-- No record is missing any more, and the second store is open. The first disk was read once at
+-- most, and neither failed.
 pub record IsCaughtUp (old new : Within) (before after : Second) : Type 0 where
   pub reads : ℕ
   pub primary : new ≡ with_reads reads old
@@ -41,16 +42,17 @@ pub record IsCaughtUp (old new : Within) (before after : Second) : Type 0 where
   pub faults : after.disk.faults ≡ before.disk.faults
   pub quiet : after.disk.quiet ≡ before.disk.quiet
 
--- Each record that the second store lacked was appended there, in its four device calls, under what the first disk's stop still let
--- pass. Where it lacked none it was not called.
+-- Each record that the second store lacked was appended there, in its four device calls, under what
+-- the first disk's stop still let pass. Where it lacked none it was not called.
 pub record HasShipped (old new : Within) (before after : Second) : Type 0 where
   pub caught_up : IsCaughtUp old new before after
   pub none : lacked_in old before ≡ 0 → after ≡ before
   pub under : lacked_in old before ≢ 0 → Lowered (4 * lacked_in old before) old.disk.stop after.disk.stop
 
--- A disk failed in it: the first one as it was read, or the second; in quiet ones only under a stop of fewer device calls than so
--- many records take. The first store holds what it held; of the second a crash leaves what it had and some of what it lacked, in
--- order. The service is down, as behind a stop.
+-- A disk failed in it: the first one as it was read, or the second; in quiet ones only under a stop
+-- of fewer device calls than so many records take. The first store holds what it held; of the
+-- second a crash leaves what it had and some of what it lacked, in order. The service is down, as
+-- behind a stop.
 pub record HasBroken (most : ℕ) (old new : Within) (before after : Second) : Type 0 where
   pub reads : ℕ
   pub down : new ≡ taken (with_reads reads old) new.disk

@@ -36,7 +36,8 @@ pub record IsBeside (pair : Twin) (second : Second) : Type 0 where
   pub faults : HasFaultRoom second.disk.faults pair.primary.notes
   -- nothing is pending on it where nothing is on the first one
   pub settled : pair.primary.notes.is_settled ≡ true → IsSettled second.disk
-  -- None is missing where it was opened and nothing is pending: no reply is out that the second store has not.
+  -- None is missing where it was opened and nothing is pending: no reply is out that the second
+  -- store has not.
   pub even : pair.is_opened ≡ true → pair.primary.notes.is_settled ≡ true → IsEven pair.primary second
   pub ready : is_some pair.primary.core ≡ true → MayShip second
   -- no disk was lost yet

@@ -11,7 +11,8 @@ pub record Second : Type 0 where
   pub disk : DiskState
   pub store : Option Redo
 
--- `lost` is the disk of the first store behind a failover. It is never called again: its count of faults stays in the pair's.
+-- `lost` is the disk of the first store behind a failover. It is never called again: its count of
+-- faults stays in the pair's.
 pub record Twin : Type 0 where
   pub primary : Within
   pub second : Option Second
@@ -35,8 +36,9 @@ disk_in (Some second) = Some second.disk
 abbrev pub per_record_in : Option Second → ℕ
 per_record_in second = if is_some second then 8 else 4
 
--- The state is that of the first store's service, but for what both stores have a part in. Its stop is the first disk's, and the
--- number of its crashes with the pick and the stop of the last one is the first service's, which goes on behind a failover.
+-- The state is that of the first store's service, but for what both stores have a part in. Its stop
+-- is the first disk's, and the number of its crashes with the pick and the stop of the last one is
+-- the first service's, which goes on behind a failover.
 abbrev pub state_in : Twin → ServiceState
 state_in pair = record (state_of_one pair.primary) {
   is_opened = pair.is_opened;

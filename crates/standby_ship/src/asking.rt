@@ -16,8 +16,8 @@ use std::alloc::Global;
 use svc_values::Ltxid;
 
 impl<D: StopDisk> Pair<D> {
-    /// Tells the outcome of an identifier. One that may still commit is blocked first, in both stores,
-    /// and told as blocked.
+    /// Tells the outcome of an identifier. One that may still commit is blocked first, in both
+    /// stores, and told as blocked.
     pub(crate) fn tell(&mut self, alloc: Global, x: &Ltxid) -> Result<Verdict, ServeFault>
         requires live { self.old.is_spent ≡ false }
         requires few { (state_in self.old).calls < 2 ^ 48 }

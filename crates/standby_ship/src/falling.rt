@@ -29,8 +29,8 @@ fn fall_second<D: StopDisk>(second: &mut Option<SecondStore<D>>, pick: u8)
     }
 }
 
-/// Lets the service go on over the second store, where there is one, and keeps the first one's disk.
-/// A crash is to come next.
+/// Lets the service go on over the second store, where there is one, and keeps the first one's
+/// disk. A crash is to come next.
 fn take_over<D: StopDisk + Drop>(
     primary: &mut OneService<D>,
     second: &mut Option<SecondStore<D>>,
@@ -46,9 +46,9 @@ fn take_over<D: StopDisk + Drop>(
 }
 
 impl<D: StopDisk + Drop> Pair<D> {
-    /// Ends it as a crash does: all connections end, and of what a stopped call stored each disk leaves
-    /// what the pick's remainder by 4 says. A pick whose remainder by 8 is 4 or more takes the first
-    /// store away for good, and the second is the only one then.
+    /// Ends it as a crash does: all connections end, and of what a stopped call stored each disk
+    /// leaves what the pick's remainder by 4 says. A pick whose remainder by 8 is 4 or more takes
+    /// the first store away for good, and the second is the only one then.
     pub(crate) fn fall(&mut self, pick: u8)
         requires live { self.old.is_spent ≡ false }
         requires few { (state_in self.old).calls < 2 ^ 48 }

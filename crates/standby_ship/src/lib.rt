@@ -1,4 +1,5 @@
-//! A pair of stores as one service: what the first store's service adds is in the second store before it is answered.
+//! A pair of stores as one service: what the first store's service adds is in the second store
+//! before it is answered.
 #![tactic(auto)]
 
 mod asking;

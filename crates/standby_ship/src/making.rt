@@ -21,8 +21,8 @@ use svc_values::NoMemory;
 use table_store::IndexOf;
 
 impl<D: StopDisk> Pair<D> {
-    /// A pair on the stores of these disks, which have the same records. It is down, and no call was
-    /// made on it. It takes no memory.
+    /// A pair on the stores of these disks, which have the same records. It is down, and no call
+    /// was made on it. It takes no memory.
     pub fn new(alloc: Global, primary: D, second: D, grants: Grants) -> Self
         requires primary { CanBegin (D.state primary) }
         requires second { CanBegin (D.state second) }
@@ -34,8 +34,8 @@ impl<D: StopDisk> Pair<D> {
         Pair::indexed(alloc, primary, second, grants, Vec::new(alloc))
     }
 
-    /// The same with tables that are indexed by these columns at each opening. It takes no memory, and
-    /// no answer of the pair tells whether it has indexes.
+    /// The same with tables that are indexed by these columns at each opening. It takes no memory,
+    /// and no answer of the pair tells whether it has indexes.
     pub fn indexed(
         alloc: Global,
         primary: D,
@@ -75,8 +75,9 @@ impl<D: StopDisk> Pair<D> {
 }
 
 impl<D: StopDisk + Drop> Pair<D> {
-    /// A pair like `indexed` where the first store was made or read just now, and this was found of it: the first
-    /// opening does not read it. It takes the memory that the service of the first store takes.
+    /// A pair like `indexed` where the first store was made or read just now, and this was found of
+    /// it: the first opening does not read it. It takes the memory that the service of the first
+    /// store takes.
     pub fn known(
         alloc: Global,
         primary: D,

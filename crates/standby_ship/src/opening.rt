@@ -102,8 +102,9 @@ fn bring_up<D: StopDisk>(
 }
 
 impl<D: StopDisk> Pair<D> {
-    /// Opens both stores for the next incarnation, and forgets the outcomes of all incarnations below
-    /// `horizon`. What the second store lacks is appended there first. The cost is linear in both.
+    /// Opens both stores for the next incarnation, and forgets the outcomes of all incarnations
+    /// below `horizon`. What the second store lacks is appended there first. The cost is linear in
+    /// both.
     pub(crate) fn reopen(&mut self, alloc: Global, horizon: u64) -> Result<(), ServeFault>
         requires live { self.old.is_spent ≡ false }
         requires few { (state_in self.old).calls < 2 ^ 48 }

@@ -17,8 +17,8 @@ use std::alloc::Global;
 use svc_values::Call;
 
 impl<D: StopDisk> Pair<D> {
-    /// Runs calls in a session of their own, up to the first that is answered Blocked. They are told
-    /// once what they stored is in both stores.
+    /// Runs calls in a session of their own, up to the first that is answered Blocked. They are
+    /// told once what they stored is in both stores.
     pub(crate) fn run_outside(
         &mut self,
         alloc: Global,

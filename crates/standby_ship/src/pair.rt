@@ -100,8 +100,8 @@ impl<D: StopDisk> Pair<D> {
         self.primary.keeps_to_it();
     }
 
-    /// Sets a stop on both disks together, or takes it away: what the first disk leaves of it is the
-    /// second's when records are shipped.
+    /// Sets a stop on both disks together, or takes it away: what the first disk leaves of it is
+    /// the second's when records are shipped.
     pub(crate) fn set_stop(&mut self, calls: Option<u64>)
         requires live { self.old.is_spent ≡ false }
         requires few { (state_in self.old).calls < 2 ^ 48 }

@@ -17,8 +17,8 @@ use std::alloc::Global;
 use svc_values::{Down, Up};
 
 impl<D: StopDisk> Pair<D> {
-    /// Serves one frame of a living connection, by its session: the one that it has, or the next. It
-    /// is answered once what it stored is in both stores.
+    /// Serves one frame of a living connection, by its session: the one that it has, or the next.
+    /// It is answered once what it stored is in both stores.
     pub(crate) fn serve_frame(
         &mut self,
         alloc: Global,

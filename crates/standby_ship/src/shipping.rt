@@ -66,9 +66,9 @@ fn ship_to<D: StopDisk>(
     }
 }
 
-/// Appends to the second store what it lacks of the first one's records, under what the first disk's
-/// stop still lets pass. Where it lacks none, neither disk is called. Where a disk fails in it the
-/// service is down, as behind a stop. Time and memory grow with what is lacked alone.
+/// Appends to the second store what it lacks of the first one's records, under what the first
+/// disk's stop still lets pass. Where it lacks none, neither disk is called. Where a disk fails in
+/// it the service is down, as behind a stop. Time and memory grow with what is lacked alone.
 pub fn ship<D: StopDisk>(
     alloc: Global,
     primary: &mut OneService<D>,

@@ -1,4 +1,5 @@
--- Equal answers tell the same draws: with the same settings, and with others where no statement was refused for want of one.
+-- Equal answers tell the same draws: with the same settings, and with others where no statement was
+-- refused for want of one.
 use Rattle.std.proofs.Common.{◌≡◌, inl, inr, ℕ, Bool, true, false, cond, List, [], ◌∷◌, ◌++◌, length, map, refl, sym, ap, ◌∙◌, subst, take, append-nil}
 use Rattle.std.specs.Option.{option_map_or}
 use Rattle.std.specs.Prelude.{Option, Some, None, Result, Ok, Err, flat_map}

@@ -27,7 +27,8 @@ use Rattle.stmt_meaning.proofs.DrawOrder.{kind_is, no_need, onward}
 
 -- ---- operands
 
--- reading these draws uses exactly those that are asked for, whether it comes to a value or a refusal
+-- reading these draws uses exactly those that are asked for, whether it comes to a value or a
+-- refusal
 abbrev Exact : {A : Type 0} → List DrawKind → List Draw → Reading A → Type 0
 Exact asked draws None = Unit {0}
 Exact asked draws (Some (come, rest)) = UsesInOrder asked draws rest false

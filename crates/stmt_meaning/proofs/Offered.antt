@@ -2,7 +2,8 @@
 
 -- a scan that was shown rows one after the other
 pub use Rattle.stmt_meaning.proofs.ScanLaws.{scanned-append, last_answer-scanned}
--- one statement that ran, from what reading its operands came to; and with more draws behind those that it takes
+-- one statement that ran, from what reading its operands came to; and with more draws behind those
+-- that it takes
 pub use Rattle.stmt_meaning.proofs.OneRun.{ran_plan, ran_refused, ended_plan, lacks_work, lacks_behind, mean1-more}
 -- statements that ran one after the other
 pub use Rattle.stmt_meaning.proofs.Running.{RanSoFar, left_is, ran_none, ran_ended, ran_on, ran_refusal, ran_all, ran_drew}

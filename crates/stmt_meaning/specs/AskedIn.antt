@@ -1,4 +1,5 @@
--- Which draws a call asks for as far as it is answered, in its settings: told from its text alone, with no row and no drawn value.
+-- Which draws a call asks for as far as it is answered, in its settings: told from its text alone,
+-- with no row and no drawn value.
 use Rattle.std.specs.Prelude.{ℕ, Bool, true, false, List, [], ◌∷◌, flat_map, take, Result, Ok, Err}
 use Rattle.svc_values.specs.declared.answer.Answer.{Answer}
 use Rattle.svc_values.specs.declared.answer.Answer.TheVariants as answer

@@ -9,7 +9,8 @@ use Rattle.stmt_meaning.specs.Asked.{kind_drawn, UsesInOrder}
 use Rattle.stmt_meaning.specs.AskedIn.{asked_while, ends_unset}
 use Rattle.stmt_meaning.specs.meaning.Meaning.{Meant, mean}
 
--- A call takes exactly the draws that its statements ask for in its settings, up to the last that has an answer.
+-- A call takes exactly the draws that its statements ask for in its settings, up to the last that
+-- has an answer.
 abbrev pub CallsDrawAsAnswered : Type 0
 CallsDrawAsAnswered =
     (shape : Shape) (tables : List PlainRow) (settings : NamedValues) (asked : Call) (draws : List Draw) (meant : Meant) → mean shape tables settings asked draws ≡ Some meant
@@ -19,8 +20,9 @@ CallsDrawAsAnswered =
 abbrev pub SettingsAgree : NamedValues → NamedValues → Meant → Meant → Type 0
 SettingsAgree settings others meant other = (settings ≡ others) ⊎ ((ends_unset meant.answers ≡ false) × (ends_unset other.answers ≡ false))
 
--- So where a call has as many answers on other tables, it takes draws of the same kinds and names, in order.
--- (With other settings a statement may be refused for want of a setting before or behind one of its draws, and both times with the same answer.)
+-- So where a call has as many answers on other tables, it takes draws of the same kinds and names,
+-- in order. (With other settings a statement may be refused for want of a setting before or behind
+-- one of its draws, and both times with the same answer.)
 abbrev pub AnswersTellDraws : Type 0
 AnswersTellDraws =
     (shape : Shape) (tables other_tables : List PlainRow) (settings others : NamedValues) (asked : Call) (draws again : List Draw) (meant other : Meant)

@@ -19,7 +19,8 @@ abbrev pub IsPlanned : Result Plan PlanFault → Result Plan StatementFault → 
 IsPlanned (Ok asked) planned = planned ≡ Ok asked
 IsPlanned (Err e) planned = IsRefusedAs e planned
 
--- Statements did this: their answers, the rows after them where none was refused, and how many draws they used.
+-- Statements did this: their answers, the rows after them where none was refused, and how many
+-- draws they used.
 pub record HaveDone (done : AllDone) (tables : List PlainRow) (draws : List Draw) (answers : List Answer) (rows : List PlainRow) (used : ℕ) (is_refused : Bool) : Type 0 where
   pub answered : answers ≡ done.answers
   pub refusal : is_refused ≡ done.refused

@@ -7,7 +7,8 @@ use Rattle.stmt_meaning.specs.meaning.Operands.{Reading}
 use Rattle.stmt_meaning.specs.declared.stop.Stop.{Stop}
 use Rattle.stmt_meaning.specs.declared.stop.Stop.TheVariants as stop
 
--- Reading came to a value or a fault of the statement: it took exactly some draws, which the source gave one after the other, and they are put behind those before.
+-- Reading came to a value or a fault of the statement: it took exactly some draws, which the source
+-- gave one after the other, and they are put behind those before.
 pub record ReadsAll {S A : Type 0} (drew : S → Drew → S → Type 0) (read : List Draw → Reading A) (old : S) (before : List Draw) (outcome : Result A StatementFault) (new : S) (after : List Draw) : Type 0 where
   pub given : List Draw
   pub drew_all : DrewAll drew old given new

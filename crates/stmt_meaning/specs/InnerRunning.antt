@@ -13,7 +13,8 @@ use Rattle.stmt_meaning.specs.Drawing.{Drew, DrewAll}
 use Rattle.stmt_meaning.specs.Listed.{Listing, TakesFirst}
 use Rattle.stmt_meaning.specs.meaning.Meaning.{OneDone, mean1, statements_done, is_refusal}
 
--- One statement that ran: it used exactly the draws that it was given, which are put behind those before.
+-- One statement that ran: it used exactly the draws that it was given, which are put behind those
+-- before.
 pub record RanOne {S : Type 0} (drew : S → Drew → S → Type 0) (shape : Shape) (rows : List PlainRow) (settings : NamedValues) (statement : Statement) (old : S) (before : List Draw) (one : OneDone) (new : S) (after : List Draw) : Type 0 where
   pub given : List Draw
   pub drew_all : DrewAll drew old given new

@@ -37,19 +37,22 @@ abbrev pub StatementsReadOnePlace : Type 0
 StatementsReadOnePlace =
     (shape : Shape) (tables : List PlainRow) (settings : NamedValues) (asked : Statement) (draws : List Draw) (one : OneDone) → mean1 shape tables settings asked draws ≡ Some one → length one.reads ≤ 1
 
--- What a statement answers, writes, reads and draws depends on the rows at that place alone: where other tables have the same rows there, it does the same.
+-- What a statement answers, writes, reads and draws depends on the rows at that place alone: where
+-- other tables have the same rows there, it does the same.
 abbrev pub StatementsAreLocal : Type 0
 StatementsAreLocal =
     (shape : Shape) (a b : List PlainRow) (settings : NamedValues) (asked : Statement) (draws : List Draw) (one : OneDone) → mean1 shape a settings asked draws ≡ Some one → AgreeAt a b one.reads
     → mean1 shape b settings asked draws ≡ Some one
 
--- And so does a call, by the places that its statements read: it leaves the other tables with the same writes.
+-- And so does a call, by the places that its statements read: it leaves the other tables with the
+-- same writes.
 abbrev pub CallsAreLocal : Type 0
 CallsAreLocal =
     (shape : Shape) (a b : List PlainRow) (settings : NamedValues) (asked : Call) (draws : List Draw) (meant : Meant) → AreTables a → AreTables b → mean shape a settings asked draws ≡ Some meant → AgreeAt a b meant.reads
     → mean shape b settings asked draws ≡ Some (record meant { tables = with_writes b meant.writes })
 
--- A call takes the draws that its operands ask for, in order, up to the statement that is refused, if one is.
+-- A call takes the draws that its operands ask for, in order, up to the statement that is refused,
+-- if one is.
 abbrev pub CallsDrawInOrder : Type 0
 CallsDrawInOrder =
     (shape : Shape) (tables : List PlainRow) (settings : NamedValues) (asked : Call) (draws : List Draw) (meant : Meant) → mean shape tables settings asked draws ≡ Some meant
@@ -70,13 +73,15 @@ abbrev pub CallsLeaveWrites : Type 0
 CallsLeaveWrites =
     (shape : Shape) (tables : List PlainRow) (settings : NamedValues) (asked : Call) (draws : List Draw) (meant : Meant) → mean shape tables settings asked draws ≡ Some meant → meant.tables ≡ with_writes tables meant.writes
 
--- The tables after a call are in order and fit what is declared, where those before it do, and its writes fit as well.
+-- The tables after a call are in order and fit what is declared, where those before it do, and its
+-- writes fit as well.
 abbrev pub CallsKeepTables : Type 0
 CallsKeepTables =
     (shape : Shape) (tables : List PlainRow) (settings : NamedValues) (asked : Call) (draws : List Draw) (meant : Meant) → mean shape tables settings asked draws ≡ Some meant → IsBase shape tables
     → IsBase shape meant.tables × (writes_fit shape.schemas meant.writes ≡ true)
 
--- the answers of statements, and that of a commit behind them where one is asked for and none of them was refused
+-- the answers of statements, and that of a commit behind them where one is asked for and none of
+-- them was refused
 abbrev pub closed_by : Bool → List Answer → List Answer
 closed_by commit answers = if commit && not (ends_refused answers) then answers ++ answer.Committed ∷ [] else answers
 

@@ -13,7 +13,8 @@ pub record Listing : Type 0 where
   pub names : List (List ℕ)
   pub draws : List Draw
 
--- A draw is the first of the list, and is taken off. Where there was no memory, or the first draw is not the one that is asked for, the list is as it was.
+-- A draw is the first of the list, and is taken off. Where there was no memory, or the first draw
+-- is not the one that is asked for, the list is as it was.
 abbrev pub TakesFirst : Listing → Drew → Listing → Type 0
 TakesFirst old (Gave given) new = (old.draws ≡ given ∷ new.draws) × (new.names ≡ old.names)
 TakesFirst old (Lacked asked) new = new ≡ old

@@ -18,7 +18,8 @@ HasChanged now read = (rows_at now read.at ≡ read.found) → ⊥
 abbrev pub ReadsDiffer : List Read → List PlainRow → Type 0
 ReadsDiffer reads now = (read : Read) × (Contains reads read × HasChanged now read)
 
--- A transaction with these reads conflicts with the tables of now exactly where one of its places has other rows now than it had at the read. The answer is such a place.
+-- A transaction with these reads conflicts with the tables of now exactly where one of its places
+-- has other rows now than it had at the read. The answer is such a place.
 abbrev pub IsConflict : List Read → List PlainRow → Option Place → Type 0
 IsConflict reads now None = ReadsStand reads now
 IsConflict reads now (Some at) = (read : Read) × (Contains reads read × ((read.at ≡ at) × HasChanged now read))

@@ -16,8 +16,9 @@ pub record CallAt : Type 0 where
   pub committed : List PlainRow
   pub piece : Piece
 
--- The calls in order, each on the tables committed at its moment with the transaction's own earlier writes over them.
--- `own` and `settings` are those before the first call, `own_after` and `settings_after` those after the last.
+-- The calls in order, each on the tables committed at its moment with the transaction's own earlier
+-- writes over them. `own` and `settings` are those before the first call, `own_after` and
+-- `settings_after` those after the last.
 abbrev pub RanAt : Shape → NamedValues → List Write → List CallAt → NamedValues → List Write → Type 0
 RanAt shape settings own [] settings_after own_after = (settings_after ≡ settings) × (own_after ≡ own)
 RanAt shape settings own (moment ∷ moments) settings_after own_after =
@@ -28,7 +29,8 @@ abbrev pub reads_then : List PlainRow → (Meant → List Read) → Option Meant
 reads_then committed behind None = []
 reads_then committed behind (Some meant) = reads_at committed meant.reads ++ behind meant
 
--- What the calls read, in order: each place with what was committed there at its call's moment, whatever the transaction's own writes say.
+-- What the calls read, in order: each place with what was committed there at its call's moment,
+-- whatever the transaction's own writes say.
 abbrev pub reads_of : Shape → NamedValues → List Write → List CallAt → List Read
 reads_of shape settings own [] = []
 reads_of shape settings own (moment ∷ moments) =

@@ -29,14 +29,16 @@ SerialLeavesOne = (shape : Shape) (start : List PlainRow) (entries : List Entry)
 abbrev pub SerialIsTested : Type 0
 SerialIsTested = (shape : Shape) (start : List PlainRow) (entries : List Entry) (after : List PlainRow) → (serial_after shape start entries ≡ Some after) ↔ Serial shape start entries after
 
--- A transaction goes on by one call: its writes come behind those before, and what it read behind what was read.
+-- A transaction goes on by one call: its writes come behind those before, and what it read behind
+-- what was read.
 abbrev pub RunsGoOn : Type 0
 RunsGoOn =
     (shape : Shape) (settings settings_after : NamedValues) (own own_after : List Write) (moments : List CallAt) (last : CallAt) (meant : Meant)
     → RanAt shape settings own moments settings_after own_after → Replays shape (with_writes last.committed own_after) settings_after last.piece meant
     → RanAt shape settings own (moments ++ last ∷ []) meant.settings (own_after ++ meant.writes) × (reads_of shape settings own (moments ++ last ∷ []) ≡ reads_of shape settings own moments ++ reads_at last.committed meant.reads)
 
--- Where each place that its calls read has the rows now that were found there, a transaction runs the same on the tables of now: with the same answers, draws and writes.
+-- Where each place that its calls read has the rows now that were found there, a transaction runs
+-- the same on the tables of now: with the same answers, draws and writes.
 abbrev pub UnchangedRunSame : Type 0
 UnchangedRunSame =
     (shape : Shape) (now : List PlainRow) (settings settings_after : NamedValues) (own own_after : List Write) (moments : List CallAt) → AreTables now → AreOrdered moments

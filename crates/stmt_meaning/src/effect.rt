@@ -122,8 +122,8 @@ pub fn shown(alloc: Global, value: Value) -> Result<Answer, NoMemory>
 }
 
 /// What is answered and written at the row of a key, from the row that stands there, if any. An
-/// insert over a row is refused, and a change of none changes nothing. Nothing of the row is kept but
-/// copies.
+/// insert over a row is refused, and a change of none changes nothing. Nothing of the row is kept
+/// but copies.
 pub fn row_effect(
     alloc: Global,
     table: Name,

@@ -26,8 +26,8 @@ fn is_row_of(schema: &Schema, key: &Value, row: &Row) -> bool
     schema.fits(row) && has_key(row, key)
 }
 
-/// Whether a write names a declared table and a key of its first column's kind, and its row, if it has
-/// one, is a row of that table and key.
+/// Whether a write names a declared table and a key of its first column's kind, and its row, if it
+/// has one, is a row of that table and key.
 pub fn write_fits(shape: &Shape, write: &Write) -> bool
     ensures { result ≡ write_fits_def shape.now.schemas write.now }
 {

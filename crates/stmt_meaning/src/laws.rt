@@ -25,8 +25,9 @@ pub fn calls_draw_in_order()
     ensures few { CallsDrawFewSequences }
 {}
 
-/// A call takes exactly the draws that its statements ask for in its settings, up to the last that has an
-/// answer. So where it is answered as often on other tables, it takes draws of the same kinds and names.
+/// A call takes exactly the draws that its statements ask for in its settings, up to the last that
+/// has an answer. So where it is answered as often on other tables, it takes draws of the same
+/// kinds and names.
 pub fn answers_tell_draws()
     ensures exact { CallsDrawAsAnswered }
     ensures same { AnswersTellDraws }

@@ -9,8 +9,8 @@ use std::alloc::Global;
 use std::marker::Model;
 use svc_values::{Draw, DrawKind, Draws, Names, is_of_kind, is_there};
 
-/// Draws that are given in the order in which they are asked for, beside the names of the sequences.
-/// It is seen as these two lists.
+/// Draws that are given in the order in which they are asked for, beside the names of the
+/// sequences. It is seen as these two lists.
 #[derive(Drop)]
 pub struct ListDraws {
     names: Names,
@@ -71,9 +71,9 @@ impl DrawFrom for ListDraws {
     ghost drew = { TakesFirst };
 
     /// The first draw of the list, taken off, where it is of the kind and name. `NoSequence` comes
-    /// exactly where a sequence is asked for that is not among the names, and else `Stopped` exactly
-    /// where the first draw is another one, or none is left. Both leave the list as it was. It takes
-    /// no memory, and is linear in the names alone.
+    /// exactly where a sequence is asked for that is not among the names, and else `Stopped`
+    /// exactly where the first draw is another one, or none is left. Both leave the list as it was.
+    /// It takes no memory, and is linear in the names alone.
     fn draw(&mut self, alloc: Global, kind: &DrawKind) -> Result<Draw, DrawFromFault>
         ensures answer { result ≡ listed self.old.names self.old.draws kind.now }
         ensures drawn { HasDrawn self.old.names TakesFirst self.old kind.now result self.new }

@@ -17,8 +17,8 @@ use svc_values::{
 };
 use thiserror::Error;
 
-/// What a call did on plain tables: its answers, the tables and settings after it, and how many of the
-/// given draws it took, from the first on.
+/// What a call did on plain tables: its answers, the tables and settings after it, and how many of
+/// the given draws it took, from the first on.
 #[derive(Drop)]
 pub struct PlainRun {
     pub answers: Answers,
@@ -161,9 +161,9 @@ fn with_setting(
 
 /// Runs a call on tables, with draws that are given. Tables stand in order, and their rows fit the
 /// shape: each stands in one of its tables, has a value of its kind for each column, and its key
-/// first. So they do again after the call. A refused call leaves the tables as they are. `DrawsDiffer`
-/// tells that the draws do not begin with those that the call asks for. Linear in the rows for each of
-/// at most eight statements.
+/// first. So they do again after the call. A refused call leaves the tables as they are.
+/// `DrawsDiffer` tells that the draws do not begin with those that the call asks for. Linear in the
+/// rows for each of at most eight statements.
 pub fn plain_call(
     alloc: Global,
     shape: &Shape,

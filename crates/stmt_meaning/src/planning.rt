@@ -191,8 +191,8 @@ fn count_plan(table: &Name) -> Plan
     }
 }
 
-/// The plan of a statement, from where it works and the values of its operands in their order, or the
-/// fault of their number or kinds.
+/// The plan of a statement, from where it works and the values of its operands in their order, or
+/// the fault of their number or kinds.
 pub fn plan_for(
     alloc: Global,
     target: &Target,

@@ -14,8 +14,8 @@ use svc_values::{
 /// The rows that a select keeps, before they are an answer.
 type Met = Limited<Row, 32>;
 
-/// A select, a count or a sum on its way over the rows of a table: what it has found in those that it
-/// was shown so far. A select keeps no more than 32 rows.
+/// A select, a count or a sum on its way over the rows of a table: what it has found in those that
+/// it was shown so far. A select keeps no more than 32 rows.
 #[derive(Drop)]
 pub enum Scan {
     Select {

@@ -6,8 +6,8 @@ ghost use Rattle.stmt_meaning.specs.InnerSeen.{aim_seen};
 
 use svc_values::{Column, Name, Schema, Statement, StatementFault, schema_of};
 
-/// Where a statement works: the columns of its table, and the place of the column that it names, from
-/// 0, or 0 where it names none.
+/// Where a statement works: the columns of its table, and the place of the column that it names,
+/// from 0, or 0 where it names none.
 #[derive(Clone, Copy)]
 pub struct Target<'a> {
     pub columns: &'a [Column],
@@ -50,9 +50,9 @@ fn in_column<'a>(
     }
 }
 
-/// Where a statement works, or the fault of its names: a table or a column that is not there, and an
-/// update of the key. No operand is read yet. A `Show` works nowhere. Linear in the tables and in the
-/// columns of the one.
+/// Where a statement works, or the fault of its names: a table or a column that is not there, and
+/// an update of the key. No operand is read yet. A `Show` works nowhere. Linear in the tables and
+/// in the columns of the one.
 pub fn target_of<'a>(
     schemas: &'a [Schema],
     statement: &Statement,

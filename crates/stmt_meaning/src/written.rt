@@ -57,8 +57,8 @@ fn put_row(rows: &mut Vec<PlainRow>, row: PlainRow) -> Result<(), NoMemory>
     Ok(())
 }
 
-/// Does a write: its row goes in the place of the one with its table and key, if any, or that one is
-/// taken away. Linear in the rows. Where memory runs out the rows are as they were.
+/// Does a write: its row goes in the place of the one with its table and key, if any, or that one
+/// is taken away. Linear in the rows. Where memory runs out the rows are as they were.
 pub fn put_write(rows: &mut Vec<PlainRow>, write: Write) -> Result<(), NoMemory>
     ensures ok { OnOk result (rows.new.items ≡ with_write rows.old.items write) }
     ensures err { OnErr result (rows.new.items ≡ rows.old.items) }

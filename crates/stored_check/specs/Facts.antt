@@ -1,4 +1,5 @@
--- What a journal says to a question: which entries there are, what is blocked, and how far sessions and the horizon have come.
+-- What a journal says to a question: which entries there are, what is blocked, and how far sessions
+-- and the horizon have come.
 use Rattle.std.specs.Prelude.{ℕ, ◌&&◌, ◌||◌, Bool, true, not, nat_lt, Option, is_some, is_none}
 use Rattle.std.specs.List.{list_all}
 use Rattle.std.specs.Option.{option_map_or}

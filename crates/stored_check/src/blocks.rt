@@ -18,8 +18,8 @@ use report_moments::{Moment, What};
 use std::alloc::Global;
 use svc_values::{Ltxid, NoMemory};
 
-/// An identifier that was answered uncommitted, or that a crashed item carries: then it may have been
-/// blocked or not.
+/// An identifier that was answered uncommitted, or that a crashed item carries: then it may have
+/// been blocked or not.
 #[derive(Clone, Copy)]
 pub(crate) struct AnsweredAt {
     pub(crate) ltxid: Ltxid,
@@ -118,8 +118,8 @@ pub(crate) fn first_unanswered(
     Ok(first_other(&ids, blocked))
 }
 
-/// The blocks of a run on the way over the answers: the identifiers that are blocked, those of so many
-/// that come next, and the place among them at which an answer came first that they have not.
+/// The blocks of a run on the way over the answers: the identifiers that are blocked, those of so
+/// many that come next, and the place among them at which an answer came first that they have not.
 #[derive(Drop)]
 pub(crate) struct Blocking<'a> {
     done: Ids,
@@ -182,8 +182,8 @@ impl Blocking<'_> {
         Ok(())
     }
 
-    /// The first place that is wrong: one at which an answer was left out, or that of one that did not
-    /// come.
+    /// The first place that is wrong: one at which an answer was left out, or that of one that did
+    /// not come.
     fn fault(&self) -> Option<usize>
         ensures { (blocks : Blocks) → IsAt self.now blocks → is_none result ≡ is_done_def blocks }
     {
@@ -197,8 +197,8 @@ impl Blocking<'_> {
     }
 }
 
-/// The place of the first block that does not stand in the order of the answers, each once, behind those
-/// that were there. It may be the end of them. n log n.
+/// The place of the first block that does not stand in the order of the answers, each once, behind
+/// those that were there. It may be the end of them. n log n.
 pub(crate) fn first_disordered(
     done: Ids,
     answered: &[AnsweredAt],

@@ -9,8 +9,8 @@ use std::alloc::Global;
 use std::marker::Model;
 use svc_values::{Entry, KeyMap, Ltxid, NoMemory};
 
-/// Whether the first entry of each identifier is completed, seen as a list of keys and marks. Each look
-/// takes the logarithm of their number.
+/// Whether the first entry of each identifier is completed, seen as a list of keys and marks. Each
+/// look takes the logarithm of their number.
 #[derive(Drop)]
 pub(crate) struct Completed {
     marks: KeyMap<Key, bool>,

@@ -1,5 +1,5 @@
-//! Judge of what a report tells as stored: outcomes, answers, the horizon, blocks and the image, beside
-//! the journal.
+//! Judge of what a report tells as stored: outcomes, answers, the horizon, blocks and the image,
+//! beside the journal.
 #![tactic(auto)]
 
 mod answers;

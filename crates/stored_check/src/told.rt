@@ -100,8 +100,8 @@ fn is_told_in(next: u64, mark: Option<bool>, number: u64, answer: &AskResult) ->
     says_server_ahead(answer, next)
 }
 
-/// Whether it is the outcome of an identifier, by the horizon, the number of its session's commits and
-/// whether its entry is completed.
+/// Whether it is the outcome of an identifier, by the horizon, the number of its session's commits
+/// and whether its entry is completed.
 pub(crate) fn is_told(
     horizon: u128,
     next: u64,

@@ -1,4 +1,5 @@
--- The orders of values and of places are total, and tell exactly what differs. The derived comparisons of values are their order and their test.
+-- The orders of values and of places are total, and tell exactly what differs. The derived
+-- comparisons of values are their order and their test.
 use Rattle.std.proofs.Common.{◌≡◌, ℕ, ℤ, pos, Bool, true, false, List, [], ap, refl, sym, ◌∙◌}
 use Rattle.std.proofs.Math.Path.{fun_ext}
 use Rattle.std.specs.Prelude.{◌&&◌}

@@ -1,5 +1,5 @@
--- Plain tables: a list of rows, each with its table and key, in the order of table and key. No table and key stands twice.
--- Here is what contracts and proofs say of it besides.
+-- Plain tables: a list of rows, each with its table and key, in the order of table and key. No
+-- table and key stands twice. Here is what contracts and proofs say of it besides.
 use Rattle.std.specs.Prelude.{◌≡◌, true, List, [], ◌∷◌}
 use Rattle.std.specs.Ordering.{nat_cmp, ordering_then}
 use Rattle.std.specs.declared.cmp.Ordering.{Ordering}
@@ -15,7 +15,8 @@ use Rattle.svc_values.specs.meaning.Tables.{comes_before, rows_at}
 abbrev pub row_cmp : PlainRow → PlainRow → Ordering
 row_cmp a b = ordering_then (slice_cmp nat_cmp a.table b.table) (value_cmp a.key b.key)
 
--- how two places stand in their order: rows before tables, rows by key and then by table, tables by name
+-- how two places stand in their order: rows before tables, rows by key and then by table, tables by
+-- name
 abbrev pub place_cmp : Place → Place → Ordering
 place_cmp (place.Row a k) (place.Row b l) = ordering_then (value_cmp k l) (slice_cmp nat_cmp a b)
 place_cmp (place.Row a k) (place.Table b) = Less

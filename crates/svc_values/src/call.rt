@@ -44,8 +44,8 @@ pub enum CallFault {
 }
 
 impl Call {
-    /// A work call: `Empty` exactly with neither a statement nor a commit, `TooMany` exactly with eight
-    /// statements and a commit. It takes no memory.
+    /// A work call: `Empty` exactly with neither a statement nor a commit, `TooMany` exactly with
+    /// eight statements and a commit. It takes no memory.
     pub fn work(statements: Statements, commit: bool) -> Result<Call, CallFault>
         ensures made { IfOk result (λ call. call ≡ Call.Work statements commit) }
         ensures empty { IsErrOf result CallFault.Empty ↔ (length statements ≡ 0) × (commit ≡ false) }

@@ -17,8 +17,8 @@ pub enum DrawKind {
     Id,
 }
 
-/// A value that was drawn. A clock draw is a number of ticks. An identifier is the incarnation and a
-/// counter from 1 in that incarnation, each as 8 bytes, most significant first.
+/// A value that was drawn. A clock draw is a number of ticks. An identifier is the incarnation and
+/// a counter from 1 in that incarnation, each as 8 bytes, most significant first.
 #[derive(PartialEq, Eq, Drop)]
 pub enum Draw {
     Seq { name: Name, value: i64 },

@@ -38,8 +38,8 @@ pub enum Ahead {
 }
 
 /// A frame to the client. The `next` of an `OutcomeRefused` is the session's next number, and the
-/// horizon where the identifier is forgotten. The cause of a `Refused` is 1 for bytes that are no frame and 2 for a
-/// frame out of order.
+/// horizon where the identifier is forgotten. The cause of a `Refused` is 1 for bytes that are no
+/// frame and 2 for a frame out of order.
 #[derive(PartialEq, Eq, Drop)]
 pub enum Down {
     Hello {

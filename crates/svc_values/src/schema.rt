@@ -97,8 +97,8 @@ pub fn schema_of<'a>(schemas: &'a [Schema], table: &Name) -> Option<&'a Schema>
 }
 
 impl Schema {
-    /// A table's declaration: `Empty` exactly without a column, `SameName` exactly where two columns
-    /// have one name. It takes no memory.
+    /// A table's declaration: `Empty` exactly without a column, `SameName` exactly where two
+    /// columns have one name. It takes no memory.
     pub fn new(name: Name, columns: Columns) -> Result<Schema, SchemaFault>
         ensures made { IfOk result (λ schema. schema ≡ record { name = name; columns = columns }) }
         ensures empty { IsErrOf result SchemaFault.Empty ↔ (columns ≡ []) }

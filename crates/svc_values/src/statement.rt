@@ -90,8 +90,8 @@ fn meets(test: Test, order: Ordering) -> bool
     }
 }
 
-/// Whether the value that stands in a column, if any, meets the test against the given one. Linear in
-/// the shorter value.
+/// Whether the value that stands in a column, if any, meets the test against the given one. Linear
+/// in the shorter value.
 pub fn value_meets(test: Test, value: &Value, there: Option<&Value>) -> bool
     ensures { result ≡ value_meets_def test value.now (option_copied there.entry) }
 {

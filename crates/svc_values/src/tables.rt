@@ -21,9 +21,9 @@ pub struct PlainRow {
 /// All rows of a service, in the order of table and key, without a limit.
 pub type PlainTables = Listed<PlainRow>;
 
-/// Where a statement reads: one row, there or not, or a whole table. Rows come before tables, by key
-/// and then by table, and tables by name: keys differ where tables seldom do, so that places are
-/// mostly told apart by their keys alone.
+/// Where a statement reads: one row, there or not, or a whole table. Rows come before tables, by
+/// key and then by table, and tables by name: keys differ where tables seldom do, so that places
+/// are mostly told apart by their keys alone.
 #[derive(PartialEq, Eq, Drop)]
 pub enum Place {
     Row { table: Name, key: Value },

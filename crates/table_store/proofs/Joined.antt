@@ -29,7 +29,8 @@ over below made all so_far (entry ∷ rest) q =
           | inr other ↦ rw other (so_far k)
         ]
 
--- a map of rows by their keys that another one is put over has what the rows have, put over it one after the other
+-- a map of rows by their keys that another one is put over has what the rows have, put over it one
+-- after the other
 pub joined : (there more new : BTreeMap Value (List Value)) (entries : Keyed)
     → ((q : Value) → keyed_of more.entries q ≡ update_all (eq_by_cmp value_cmp) (λ _. None) entries q) → KeysRise more.entries
     → InsertsAll value_cmp there more.entries new

@@ -13,5 +13,6 @@ pub use Rattle.table_store.proofs.Keeps.{fits_one, fits_if_any}
 pub use Rattle.table_store.proofs.Changes.{all_with_write}
 -- between which keys the rows stand that may meet a test
 pub use Rattle.table_store.proofs.Sought.{first_at, firsts_of_fit, in_sought, sought_forward, sought_skips}
--- rows that are picked by a test and by keys: their order, what is found at a key, and how many they are
+-- rows that are picked by a test and by keys: their order, what is found at a key, and how many
+-- they are
 pub use Rattle.table_store.proofs.Picked.{apart_at, meeting_at, no_longer, rise_filter, same_keyed, values_meeting}

@@ -1,4 +1,5 @@
--- Rows that are picked out of a table by a test and by keys: their lookups, their order, and how many.
+-- Rows that are picked out of a table by a test and by keys: their lookups, their order, and how
+-- many.
 use Rattle.std.proofs.Common.{arith, ◌≡◌, inl, inr, ℕ, ◌<◌, ◌≤◌, Bool, true, false, cond, List, [], ◌∷◌, length, nat_lt, refl, sym, ◌∙◌, ap, subst}
 use Rattle.std.specs.Prelude.{Option, Some, None, IsSome, filter, not, slice_get}
 use Rattle.std.specs.List.{AllByRecursion}

@@ -136,7 +136,8 @@ module _ (rows : Keyed) (but : BTreeMap Value ℕ) (column : ℕ) (t : Test) (th
   abbrev pub Met : Pair → Type 0
   Met p = (q : Value) → is_spot_of p.spot q ≡ true → keyed_of (meeting column t than rows) q ≡ keyed_of rows q
 
-  -- what is found is wanted, and what is wanted is found or has its key among the pairs that are left
+  -- what is found is wanted, and what is wanted is found or has its key among the pairs that are
+  -- left
   pub record WalkedTo (left : List Pair) (found : Keyed) : Type 0 where
     pub rise : KeysRise rows
     pub part : (q : Value) (row : List Value) → keyed_of found q ≡ Some row → keyed_of wanted q ≡ Some row

@@ -26,7 +26,8 @@ values_between test.Eq than = (Included than, Included than)
 values_between test.Lt than = (Unbounded, Excluded than)
 values_between test.Ge than = (Included than, Unbounded)
 
--- where the keys begin and end whose rows may meet a test in a column: the first column has the keys
+-- where the keys begin and end whose rows may meet a test in a column: the first column has the
+-- keys
 abbrev pub keys_sought : ℕ → Test → Value → Bound Value × Bound Value
 keys_sought zero compared than = values_between compared than
 keys_sought (suc column) compared than = (Unbounded, Unbounded)

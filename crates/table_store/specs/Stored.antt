@@ -9,7 +9,8 @@ use Rattle.svc_values.specs.Tables.{AreTables}
 use Rattle.svc_values.specs.Fitting.{tables_fit}
 use Rattle.table_store.specs.Rows.{Shelves, IsShelved, all_rows}
 
--- the declarations, in the order in which they were given, and all rows, in the order of table and key
+-- the declarations, in the order in which they were given, and all rows, in the order of table and
+-- key
 pub record Stored : Type 0 where
   pub schemas : List Schema
   pub rows : List PlainRow

@@ -134,8 +134,8 @@ impl ColumnIndex {
         }
     }
 
-    /// The row of a key, if any, gives way to another one, if any. Where both have the same value no
-    /// pair changes. After a refusal some pairs may have changed.
+    /// The row of a key, if any, gives way to another one, if any. Where both have the same value
+    /// no pair changes. After a refusal some pairs may have changed.
     pub(crate) fn change(
         &mut self,
         key: &Value,

@@ -15,8 +15,8 @@ use std::marker::Model;
 use std::rc::Rc;
 use svc_values::{NoMemory, Row, TryCopy, Value};
 
-/// The rows of one table, seen as the list of the keys and their rows in order of key. It shares its
-/// rows with those that were made of it by `share`, and none of them sees a change of another.
+/// The rows of one table, seen as the list of the keys and their rows in order of key. It shares
+/// its rows with those that were made of it by `share`, and none of them sees a change of another.
 #[derive(Drop)]
 pub struct RowMap {
     rows: Rc<BTreeMap<Value, Row>>,
@@ -84,8 +84,8 @@ impl RowMap {
         })
     }
 
-    /// The rows in order of key. They are moved where nobody shares them, and else copied. Linear in
-    /// the rows.
+    /// The rows in order of key. They are moved where nobody shares them, and else copied. Linear
+    /// in the rows.
     pub fn into_rows(self) -> Result<Vec<Row>, NoMemory>
         ensures { IfOk result (λ rows. rows.items ≡ values_of self) }
     {
@@ -117,9 +117,9 @@ impl RowMap {
         Ok(())
     }
 
-    /// Puts each row in the place of that of its key, if any, one after the other. The rows are moved.
-    /// Where there are none yet, it is linear in rows in order of key, and else n log n for n rows.
-    /// After a refusal some of the rows are in.
+    /// Puts each row in the place of that of its key, if any, one after the other. The rows are
+    /// moved. Where there are none yet, it is linear in rows in order of key, and else n log n for
+    /// n rows. After a refusal some of the rows are in.
     pub(crate) fn put_all(&mut self, rows: Vec<Row>) -> Result<(), NoMemory>
         ensures ok { OnOk result ((q : ValueSeen) → keyed_of self.new q ≡ update_all (eq_by_cmp value_cmp) (keyed_of self.old) (map keyed rows.items) q) }
         ensures rising { KeysRise self.new }
@@ -165,7 +165,8 @@ fn exact(row: Row) -> Row
     Row::from_vec(values)
 }
 
-/// The first value of a row: its key. (A row has a value for each column, and a table has a column.)
+/// The first value of a row: its key. (A row has a value for each column, and a table has a
+/// column.)
 fn key_of(alloc: Global, row: &Row) -> Result<Value, NoMemory>
     ensures { IfOk result (λ key. key ≡ key_of_def row.now) }
 {

@@ -37,8 +37,8 @@ pub fn keys_sought(column: usize, test: Test, value: &Value) -> (Bound<&Value>, 
 
 /// Copies of the rows whose value in a column meets the test and whose keys are none of these, by
 /// their keys, unless they are more than 32. In the first column, that of the keys, it takes the
-/// logarithm of the rows and 33 of them at most beside those of these keys, and else it is linear in
-/// the rows.
+/// logarithm of the rows and 33 of them at most beside those of these keys, and else it is linear
+/// in the rows.
 pub(crate) fn found_in(
     alloc: Global,
     rows: &RowMap,
@@ -86,8 +86,8 @@ fn take_row(
     Ok(())
 }
 
-/// The same rows by the index of the column. It takes the logarithm of the rows and 33 of them at most,
-/// beside those of these keys.
+/// The same rows by the index of the column. It takes the logarithm of the rows and 33 of them at
+/// most, beside those of these keys.
 pub(crate) fn found_by(
     alloc: Global,
     index: &ColumnIndex,

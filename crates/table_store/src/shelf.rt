@@ -20,8 +20,9 @@ use std::collections::BTreeMap;
 use std::marker::Model;
 use svc_values::{NoMemory, Row, Test, Value};
 
-/// The rows of one table, seen as the list of the keys and their rows in order of key, with an index of
-/// them for each column that has one. A change that finds no memory for the indexes drops them.
+/// The rows of one table, seen as the list of the keys and their rows in order of key, with an
+/// index of them for each column that has one. A change that finds no memory for the indexes drops
+/// them.
 #[derive(Drop)]
 pub(crate) struct Shelf {
     rows: RowMap,
@@ -97,8 +98,8 @@ impl Shelf {
         &self.rows
     }
 
-    /// The rows in order of key. They are moved where nobody shares them, and else copied. Linear in
-    /// the rows.
+    /// The rows in order of key. They are moved where nobody shares them, and else copied. Linear
+    /// in the rows.
     pub(crate) fn into_rows(self) -> Result<Vec<Row>, NoMemory>
         ensures { IfOk result (λ rows. rows.items ≡ values_of self) }
     {
@@ -116,9 +117,9 @@ impl Shelf {
         Ok(())
     }
 
-    /// Puts each row in the place of that of its key, if any, one after the other. The rows are moved.
-    /// Where there are none yet, it is linear in rows in order of key, and else n log n for n rows.
-    /// The indexes are dropped. After a refusal some of the rows are in.
+    /// Puts each row in the place of that of its key, if any, one after the other. The rows are
+    /// moved. Where there are none yet, it is linear in rows in order of key, and else n log n for
+    /// n rows. The indexes are dropped. After a refusal some of the rows are in.
     pub(crate) fn put_all(&mut self, rows: Vec<Row>) -> Result<(), NoMemory>
         ensures ok { OnOk result ((q : ValueSeen) → keyed_of self.new q ≡ update_all (eq_by_cmp value_cmp) (keyed_of self.old) (map keyed rows.items) q) }
         ensures rising { KeysRise self.new }
@@ -166,10 +167,10 @@ impl Shelf {
         None
     }
 
-    /// Copies of the rows whose value in a column meets the test and whose keys are none of these, by
-    /// their keys, unless they are more than 32. Where the column is the first, that of the keys, or
-    /// is indexed, it takes the logarithm of the rows and 33 of them at most beside those of these
-    /// keys, and else it is linear in the rows.
+    /// Copies of the rows whose value in a column meets the test and whose keys are none of these,
+    /// by their keys, unless they are more than 32. Where the column is the first, that of the
+    /// keys, or is indexed, it takes the logarithm of the rows and 33 of them at most beside those
+    /// of these keys, and else it is linear in the rows.
     fn found(
         &self,
         column: usize,
@@ -186,8 +187,8 @@ impl Shelf {
         }
     }
 
-    /// Copies of the rows whose value in a column meets the test, in order of key, unless they are more
-    /// than 32.
+    /// Copies of the rows whose value in a column meets the test, in order of key, unless they are
+    /// more than 32.
     pub(crate) fn selected(
         &self,
         column: usize,

@@ -61,8 +61,8 @@ pub(crate) fn filled(alloc: Global, tables: Vec<TableRows>) -> Result<Shelves, N
     Ok(shelves)
 }
 
-/// The rows of each declared table in order of key beside its name, taken out of the maps. Linear in
-/// the rows, and quadratic in the tables, which are at most 32.
+/// The rows of each declared table in order of key beside its name, taken out of the maps. Linear
+/// in the rows, and quadratic in the tables, which are at most 32.
 pub(crate) fn emptied(
     alloc: Global,
     shelves: &mut Shelves,

@@ -45,8 +45,8 @@ impl Model for Tables {
 }
 
 impl Tables {
-    /// Tables with these rows, which are moved. It is linear in the rows of a table that come in order
-    /// of key, and else takes n log n for n rows.
+    /// Tables with these rows, which are moved. It is linear in the rows of a table that come in
+    /// order of key, and else takes n log n for n rows.
     pub fn new(alloc: Global, schemas: Schemas, tables: Vec<TableRows>) -> Result<Tables, NoMemory>
         requires fitting { IsTrue (tables_fit schemas (plain tables.items)) }
         requires apart { AreApart (plain tables.items) }
@@ -56,8 +56,9 @@ impl Tables {
         Tables::indexed(alloc, schemas, tables, &[])
     }
 
-    /// The same with an index for each of these columns: beside what `new` takes, n log n for each index
-    /// of a table of n rows. A table whose indexes find no memory at a write has none from then on.
+    /// The same with an index for each of these columns: beside what `new` takes, n log n for each
+    /// index of a table of n rows. A table whose indexes find no memory at a write has none from
+    /// then on.
     pub fn indexed(
         alloc: Global,
         schemas: Schemas,
@@ -79,8 +80,8 @@ impl Tables {
         })
     }
 
-    /// The declaration of a table, `None` exactly where there is no such table. Linear in the tables,
-    /// which are at most 32. It takes no memory.
+    /// The declaration of a table, `None` exactly where there is no such table. Linear in the
+    /// tables, which are at most 32. It takes no memory.
     pub fn schema(&self, table: &Name) -> Option<&Schema>
         ensures { option_copied result ≡ schema_of_def self.now.schemas table.now }
     {
@@ -132,8 +133,8 @@ impl Tables {
         self.shelves.get(table)
     }
 
-    /// The row of a key of a table, `None` exactly where none stands there. It takes the logarithm of
-    /// the number of rows, and no memory.
+    /// The row of a key of a table, `None` exactly where none stands there. It takes the logarithm
+    /// of the number of rows, and no memory.
     pub fn get(&self, table: &Name, key: &Value) -> Option<&Row>
         ensures { rows_at self.now.rows (place.Row table.now key.now) ≡ row_if_any table.now key.now (option_copied result) }
     {
@@ -143,10 +144,10 @@ impl Tables {
         }
     }
 
-    /// Copies of the rows whose value in a column, told by its place from 0, meets the test, in order
-    /// of key, and `None` exactly where more than 32 do. Where the column is the first, that of the
-    /// keys, or is indexed, it takes the logarithm of the rows and 33 of them at most, and else it
-    /// is linear in the rows of the table.
+    /// Copies of the rows whose value in a column, told by its place from 0, meets the test, in
+    /// order of key, and `None` exactly where more than 32 do. Where the column is the first, that
+    /// of the keys, or is indexed, it takes the logarithm of the rows and 33 of them at most, and
+    /// else it is linear in the rows of the table.
     pub fn select(
         &self,
         table: &Name,
@@ -162,8 +163,8 @@ impl Tables {
         }
     }
 
-    /// The same without the rows of these keys, each row with its key. It takes the time of `select`
-    /// and that of these keys.
+    /// The same without the rows of these keys, each row with its key. It takes the time of
+    /// `select` and that of these keys.
     pub fn select_but(
         &self,
         table: &Name,
@@ -180,9 +181,9 @@ impl Tables {
         }
     }
 
-    /// Each declared table in its order, with its rows in order of key. The rows are moved, but those of
-    /// a table are copied where they are shared, or where a later declaration has its name. Linear in
-    /// the rows, and quadratic in the tables, which are at most 32.
+    /// Each declared table in its order, with its rows in order of key. The rows are moved, but
+    /// those of a table are copied where they are shared, or where a later declaration has its
+    /// name. Linear in the rows, and quadratic in the tables, which are at most 32.
     pub fn into_rows(self) -> Result<Vec<TableRows>, NoMemory>
         ensures { IfOk result (λ all. map named all.items ≡ map (named_in self.rows) self.schemas) }
     {

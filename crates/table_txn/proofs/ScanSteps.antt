@@ -162,7 +162,8 @@ module _ (rows : List PlainRow) (writes : List Write) (table : List ℕ) where
           less Equal e = cc
           less Greater e = cc
 
-  -- The keys that are left are in order and from the bound on, and from there on they tell what was written.
+  -- The keys that are left are in order and from the bound on, and from there on they tell what was
+  -- written.
   pub record AreLeft (lo : Bound Value) (left : Left) : Type 0 where
     pub rising : IsStrictlySortedBy value_cmp (keys_of left)
     pub above : AllByRecursion (λ k. from lo k ≡ true) (keys_of left)

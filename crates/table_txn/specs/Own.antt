@@ -48,7 +48,8 @@ place_kept latest table key = place_in (keys_kept latest table) key
 abbrev pub AreLatest : List Write → Latest → Type 0
 AreLatest writes latest = (table : List ℕ) (key : Value) → place_kept latest table key ≡ last_at writes table key
 
--- beside each of the writes behind the first ones stands the place of the one before it of its table and key
+-- beside each of the writes behind the first ones stands the place of the one before it of its
+-- table and key
 abbrev pub AreBeforeFrom : List Write → List Write → List (Option ℕ) → Type 0
 AreBeforeFrom first [] before = Unit {0}
 AreBeforeFrom first (write ∷ writes) [] = ⊥

@@ -21,7 +21,8 @@ found_at at reads = map (λ read. read.found) (filter (λ read. same_place read.
 abbrev pub reading_of : List Reading → Place → Option Reading
 reading_of readings at = find (λ reading. same_place reading.at at) readings
 
--- A place has no reading exactly where nothing was found there. Its reading has what was found first, and is torn exactly where something else was found later.
+-- A place has no reading exactly where nothing was found there. Its reading has what was found
+-- first, and is torn exactly where something else was found later.
 abbrev pub IsReadingOf : Option Reading → List (List PlainRow) → Type 0
 IsReadingOf None [] = Unit {0}
 IsReadingOf None (first ∷ later) = ⊥

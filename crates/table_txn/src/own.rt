@@ -10,7 +10,8 @@ use std::collections::BTreeMap;
 use std::marker::Model;
 use svc_values::{Name, NoMemory, TryCopy, Value, Write, Writes};
 
-/// The writes of a transaction in their order, with the place of the last one of each table and key.
+/// The writes of a transaction in their order, with the place of the last one of each table and
+/// key.
 #[derive(Drop)]
 pub(crate) struct OwnWrites {
     writes: Writes,
@@ -131,8 +132,8 @@ impl OwnWrites {
         self.latest.get(table)
     }
 
-    /// Puts a write last: the logarithm of the number of writes. Where memory is refused they are as
-    /// they were.
+    /// Puts a write last: the logarithm of the number of writes. Where memory is refused they are
+    /// as they were.
     pub(crate) fn put(&mut self, write: Write) -> Result<(), NoMemory>
         ensures ok { OnOk result (self.new ≡ self.old ++ write ∷ []) }
         ensures err { OnErr result (self.new ≡ self.old) }

@@ -92,8 +92,8 @@ impl Readings {
         }
     }
 
-    /// Reads what is committed at a place: the logarithm of the places and of the rows, and for a table
-    /// that was read before, linear in its rows.
+    /// Reads what is committed at a place: the logarithm of the places and of the rows, and for a
+    /// table that was read before, linear in its rows.
     fn add(&mut self, tables: &Tables, at: Place) -> Result<(), NoMemory>
         ensures { OnOk result (HasRead self.old at (rows_at tables.now.rows at) self.new) }
     {
@@ -104,8 +104,9 @@ impl Readings {
         read_as_before(self.alloc, &mut self.places, at, committed)
     }
 
-    /// Reads a place where each one that was read has what it had: the logarithm of the places and of
-    /// the rows, also for a table that was read before. A reading that was there has the same again.
+    /// Reads a place where each one that was read has what it had: the logarithm of the places and
+    /// of the rows, also for a table that was read before. A reading that was there has the same
+    /// again.
     fn add_unchanged(&mut self, tables: &Tables, at: Place) -> Result<(), NoMemory>
         requires { AreUnchanged tables.now.rows self.old }
         ensures { OnOk result (HasRead self.old at (rows_at tables.now.rows at) self.new) }
@@ -142,8 +143,8 @@ impl Readings {
         }
     }
 
-    /// The first place that has another reading, or where something else is committed now. Linear in
-    /// the places, and in the rows of the tables that were read whole. No memory is taken.
+    /// The first place that has another reading, or where something else is committed now. Linear
+    /// in the places, and in the rows of the tables that were read whole. No memory is taken.
     pub(crate) fn first_changed(&self, tables: &Tables) -> Option<&Place>
         ensures first { option_copied result ≡ first_changed tables.now.rows self.now }
         ensures apart { AreApart self.now }

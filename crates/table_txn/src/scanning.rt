@@ -1,4 +1,5 @@
-//! What is asked of all rows of a table: those that are committed, with the transaction's own over them.
+//! What is asked of all rows of a table: those that are committed, with the transaction's own over
+//! them.
 ghost use Rattle.std.specs.Prelude.{◌≡◌, IfOk, IsTrue, Some, None, fold, length, pos, option_to_list, option_and_then};
 ghost use Rattle.std.specs.Map.{values_of};
 ghost use Rattle.std.specs.Option.{option_copied};
@@ -26,8 +27,8 @@ use stmt_meaning::{Scan, TableWork};
 use svc_values::{Answer, Name, NoMemory, Value, Write};
 use table_store::{RowMap, Tables};
 
-/// Shows a scan the committed rows between two keys, up to one that settles it. It takes the logarithm
-/// of the rows to find the first.
+/// Shows a scan the committed rows between two keys, up to one that settles it. It takes the
+/// logarithm of the rows to find the first.
 fn show_between(
     alloc: Global,
     mut scan: Scan,
@@ -63,8 +64,8 @@ fn show_written(alloc: Global, scan: Scan, write: Option<&Write>) -> Result<Scan
     }
 }
 
-/// Shows a scan the committed rows of a table and those that were written, in order of key, up to one
-/// that settles it.
+/// Shows a scan the committed rows of a table and those that were written, in order of key, up to
+/// one that settles it.
 fn show_over(
     alloc: Global,
     mut scan: Scan,
@@ -121,7 +122,8 @@ fn counted(rows: Option<&RowMap>) -> Answer
     }
 }
 
-/// The answer from all rows of a table in which nothing was written. A count goes over none of them.
+/// The answer from all rows of a table in which nothing was written. A count goes over none of
+/// them.
 fn committed_answer(
     alloc: Global,
     tables: &Tables,
@@ -187,9 +189,9 @@ fn answer_over(
     }
 }
 
-/// The answer from all rows of a table, as the transaction sees them. Linear in the committed rows, and
-/// in the transaction's own of that table by the logarithm of the committed ones, up to a row that
-/// settles it; a count where it wrote none takes as long as a lookup.
+/// The answer from all rows of a table, as the transaction sees them. Linear in the committed rows,
+/// and in the transaction's own of that table by the logarithm of the committed ones, up to a row
+/// that settles it; a count where it wrote none takes as long as a lookup.
 pub(crate) fn scan_table(
     alloc: Global,
     tables: &Tables,

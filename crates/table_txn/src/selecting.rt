@@ -1,4 +1,5 @@
-//! A select over all rows of a table: those that are committed, with the transaction's own over them.
+//! A select over all rows of a table: those that are committed, with the transaction's own over
+//! them.
 ghost use Rattle.std.specs.Prelude.{◌≡◌, ◌<◌, ◌≤◌, IfOk, IfSome, IsTrue, OnOk, Some, None, length, nat_lt, option_and_then};
 ghost use Rattle.std.specs.Option.{option_copied, option_map};
 ghost use Rattle.svc_values.specs.declared.value.Value.{Value as Key};
@@ -24,7 +25,8 @@ use table_store::{RowMap, Tables, keys_sought};
 /// The most rows that a select answers.
 const ROW_LIMIT: usize = 32;
 
-/// What a select asks for: the rows whose value in a column, told by its place from 0, meets a test.
+/// What a select asks for: the rows whose value in a column, told by its place from 0, meets a
+/// test.
 #[derive(Drop)]
 pub(crate) struct Sought {
     pub(crate) column: usize,
@@ -95,8 +97,9 @@ fn is_over(found: &RowMap) -> bool
     found.as_map().len() > ROW_LIMIT
 }
 
-/// The answer where the transaction wrote these keys in the table. Beside the committed rows that are
-/// selected it takes the time of these keys; in the first column, that of those that meet the test.
+/// The answer where the transaction wrote these keys in the table. Beside the committed rows that
+/// are selected it takes the time of these keys; in the first column, that of those that meet the
+/// test.
 pub(crate) fn select_over(
     alloc: Global,
     tables: &Tables,

@@ -34,8 +34,8 @@ pub struct Ran {
     pub draws: Draws,
 }
 
-/// A transaction on its way: its calls so far, its own writes, and what it read. It is seen as these
-/// three lists.
+/// A transaction on its way: its calls so far, its own writes, and what it read. It is seen as
+/// these three lists.
 #[derive(Drop)]
 pub struct Txn {
     pieces: Pieces,
@@ -66,8 +66,8 @@ impl Txn {
         }
     }
 
-    /// A transaction with the same writes in which nothing was called or read, so that a call can be
-    /// tried in it. The writes are copied: n log n for n writes.
+    /// A transaction with the same writes in which nothing was called or read, so that a call can
+    /// be tried in it. The writes are copied: n log n for n writes.
     pub fn probe(&self, alloc: Global) -> Result<Txn, NoMemory>
         ensures probe { IfOk result (λ made. made ≡ record { pieces = []; writes = self.now.writes; readings = [] }) }
         ensures no_reads { AreReadings [] [] }
@@ -124,18 +124,20 @@ impl Txn {
 
     /// A place that was read and has something else committed now than at the read, or two reads of
     /// which found different things; `None` exactly where there is no such place. Linear in the
-    /// places that were read, and in the rows of the tables that were read whole. No memory is taken.
+    /// places that were read, and in the rows of the tables that were read whole. No memory is
+    /// taken.
     pub fn conflicts(&self, tables: &Tables) -> Option<&Place>
         ensures { (reads : List Read) → AreReadings self.now.readings reads → IsConflict reads tables.now.rows (option_copied result) }
     {
         self.readings.first_changed(tables)
     }
 
-    /// Runs the statements of a call, each on the committed tables with the transaction's own writes
-    /// over them, up to the first that is refused. A refusal takes the call's writes back; what was
-    /// read and drawn stays so. A statement on one row takes the logarithm of the rows and of the
-    /// transaction's writes; one on a whole table is linear in its rows and in the transaction's own of
-    /// that table. After a fault some of the statements may have run: what is left is to roll back.
+    /// Runs the statements of a call, each on the committed tables with the transaction's own
+    /// writes over them, up to the first that is refused. A refusal takes the call's writes back;
+    /// what was read and drawn stays so. A statement on one row takes the logarithm of the rows and
+    /// of the transaction's writes; one on a whole table is linear in its rows and in the
+    /// transaction's own of that table. After a fault some of the statements may have run: what is
+    /// left is to roll back.
     pub fn run<F: DrawFrom>(
         &mut self,
         tables: &Tables,
@@ -177,8 +179,8 @@ impl Txn {
         self.run_on(tables, settings, statements, draws, true)
     }
 
-    /// Runs the statements on tables in which each place that was read is known to have what it had,
-    /// or is not.
+    /// Runs the statements on tables in which each place that was read is known to have what it
+    /// had, or is not.
     fn run_on<F: DrawFrom>(
         &mut self,
         tables: &Tables,

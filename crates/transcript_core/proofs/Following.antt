@@ -94,7 +94,8 @@ none_ahead : (allowed : ℕ) (reports : List RequestReport) → allowed ≡ 0 �
 none_ahead allowed [] e = refl
 none_ahead allowed (report ∷ reports) e = rw e (none_ahead 0 reports refl)
 
--- the request, of which a copy was reported so where so many more were allowed, is next again or those behind it go on
+-- the request, of which a copy was reported so where so many more were allowed, is next again or
+-- those behind it go on
 abbrev Copied : Request → List Request → ℕ → RequestReport → List RequestReport → Type 0
 Copied request requests allowed copy reports =
     first_of (fold goes (goes (request ∷ requests, allowed) copy) reports)

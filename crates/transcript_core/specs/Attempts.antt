@@ -15,8 +15,9 @@ use Rattle.transcript_core.specs.declared.attempts.Attempt.{Attempt}
 use Rattle.transcript_core.specs.declared.heard.Heard.{Heard}
 use Rattle.transcript_core.specs.declared.heard.Heard.TheVariants as tells
 
--- What is kept: for each transaction that is over, and for the one now, the identifiers tried by all calls but the last one that
--- went out; the identifier held; and that last call, whose reply may still come.
+-- What is kept: for each transaction that is over, and for the one now, the identifiers tried by
+-- all calls but the last one that went out; the identifier held; and that last call, whose reply
+-- may still come.
 pub record Attempts : Type 0 where
   pub over : List (List Ltxid)
   pub now : List Ltxid

@@ -24,8 +24,9 @@ use Rattle.transcript_core.specs.declared.heard.Heard.TheVariants as tells
 use Rattle.transcript_core.specs.Attempts.{Attempts, AreAttempts, none_yet, settled, lists_of}
 use Rattle.transcript_core.specs.Attempts as attempts
 
--- What is kept of the steps: how many calls the request has; the calls shown, the last error, the outcomes and the sessions as they
--- will be reported; the identifier whose outcome the last frame that went out asked for; and what was tried.
+-- What is kept of the steps: how many calls the request has; the calls shown, the last error, the
+-- outcomes and the sessions as they will be reported; the identifier whose outcome the last frame
+-- that went out asked for; and what was tried.
 pub record Draft : Type 0 where
   pub limit : ℕ
   pub calls : List ShownCall

@@ -5,8 +5,8 @@ ghost use Rattle.transcript_core.specs.Hearing.{heard_in, heard_of};
 use client_model::Input;
 use svc_values::{Down, Ltxid, ends_committed};
 
-/// What a request's report is told of an input, beside the call that is shown: it is small, so that the
-/// input itself can be given up to the driver.
+/// What a request's report is told of an input, beside the call that is shown: it is small, so that
+/// the input itself can be given up to the driver.
 #[derive(Clone, Copy)]
 pub enum Heard {
     /// A session was lent, or its Hello was taken.

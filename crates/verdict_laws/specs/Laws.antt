@@ -25,7 +25,8 @@ RunsAreRight = (document : Document) (r : Report) → Headline document r → Is
 abbrev pub pair_value : Data → Data → Data
 pair_value document report = members ((codes "document", document) ∷ (codes "report", report) ∷ [])
 
--- The bytes are one object, which `check` may read: with the JSON value that the first bytes are as its document, and that of the text as its report.
+-- The bytes are one object, which `check` may read: with the JSON value that the first bytes are as
+-- its document, and that of the text as its report.
 pub record IsPairOf (first text bytes : List ℕ) : Type 0 where
   pub document : Data
   pub report : Data
@@ -33,14 +34,15 @@ pub record IsPairOf (first text bytes : List ℕ) : Type 0 where
   pub reads : read text ≡ Some report
   pub pair : json_at check_limit bytes ≡ Ok (pair_value document report)
 
--- What `run` answers to a document, beside that document in one object, is not wrong by any clause, where no two answers that were compared have
--- one digest by chance.
+-- What `run` answers to a document, beside that document in one object, is not wrong by any clause,
+-- where no two answers that were compared have one digest by chance.
 abbrev pub RunsAreNeverDenied : Type 0
 RunsAreNeverDenied =
     (first text bytes : List ℕ) (answer : IsAnswer telling.Report first text) → IsPairOf first text bytes → IsTrue (no_clash answer.document answer.told.report)
     → (one : Clause) (path : List ℕ) → IsWrong bytes one path → ⊥
 
--- It is right, or leaves more in doubt than is tried, where no two answers that were compared have one digest by chance.
+-- It is right, or leaves more in doubt than is tried, where no two answers that were compared have
+-- one digest by chance.
 abbrev pub RunsAreCheckedRight : Type 0
 RunsAreCheckedRight =
     (first text bytes : List ℕ) (answer : IsAnswer telling.Report first text) → IsPairOf first text bytes → IsTrue (no_clash answer.document answer.told.report)

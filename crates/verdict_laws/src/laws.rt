@@ -1,8 +1,9 @@
-//! What `check` says of what `run` prints. Each law is the clause of a function with nothing to run.
+//! What `check` says of what `run` prints. Each law is the clause of a function with nothing to
+//! run.
 ghost use Rattle.verdict_laws.specs.Laws.{RunsAreRight, RunsAreCheckedRight, RunsAreNeverDenied};
 
-/// Of what is shown of a report of which the headline holds, no clause that is judged is false, where no two answers that were compared have one
-/// digest by chance.
+/// Of what is shown of a report of which the headline holds, no clause that is judged is false,
+/// where no two answers that were compared have one digest by chance.
 pub fn runs_are_right()
     ensures { RunsAreRight }
 {
@@ -10,7 +11,8 @@ pub fn runs_are_right()
     stmt_meaning::laws::serial_goes_on();
 }
 
-/// So `check` tells no clause of what `run` prints of a document, beside that document in one object.
+/// So `check` tells no clause of what `run` prints of a document, beside that document in one
+/// object.
 pub fn runs_are_never_denied()
     ensures { RunsAreNeverDenied }
 {

@@ -26,7 +26,8 @@ filter_mapped test (x ∷ xs) = by (test (owned_as x)) refl (filter_mapped test 
 abbrev is_between : ℕ → ℕ → OwnedAt → Bool
 is_between first last one = nat_le first one.event && nat_le one.event last
 
--- Where so many come before the first event, and so many up to the last, those between them are a run.
+-- Where so many come before the first event, and so many up to the last, those between them are a
+-- run.
 run_between : (first last : ℕ) (xs : List OwnedAt) (start end : ℕ)
     → IsPartitionPoint (λ (one : OwnedAt). one.event < first) (λ (one : OwnedAt). first ≤ one.event) xs start
     → IsPartitionPoint (λ (one : OwnedAt). one.event ≤ last) (λ (one : OwnedAt). last < one.event) xs end

@@ -87,8 +87,8 @@ fn fault_of_client(
     )
 }
 
-/// The first fault of all clients, in their order. For each client it is linear in the steps and the
-/// turns of all.
+/// The first fault of all clients, in their order. For each client it is linear in the steps and
+/// the turns of all.
 pub(crate) fn fault_of_clients(
     alloc: Global,
     told: &Told<'_>,

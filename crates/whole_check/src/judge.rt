@@ -102,13 +102,13 @@ fn wrong_place(
     wrong_told(alloc, &told, all.as_slice())
 }
 
-/// Judges `Whole` of a report of a document: `None` exactly where each request was shown its whole script
-/// in order, by what sessions of its own served, or failed. Else it is the place at fault: of the clients,
-/// a client or a request, of a call that was shown, of a note that took nothing, or of the item of a
-/// session that serves nobody or another call than the request's. For a report of size m it takes
-/// m log m, and besides that of the story; for each client all steps and turns; for each turn and each
-/// shown call the calls, sessions and outcomes of its request, which has at most 1,024 calls; and for
-/// each commit that a crash stopped the entries.
+/// Judges `Whole` of a report of a document: `None` exactly where each request was shown its whole
+/// script in order, by what sessions of its own served, or failed. Else it is the place at fault:
+/// of the clients, a client or a request, of a call that was shown, of a note that took nothing, or
+/// of the item of a session that serves nobody or another call than the request's. For a report of
+/// size m it takes m log m, and besides that of the story; for each client all steps and turns; for
+/// each turn and each shown call the calls, sessions and outcomes of its request, which has at most
+/// 1,024 calls; and for each commit that a crash stopped the entries.
 pub fn judge_whole(
     alloc: Global,
     document: &Document,

@@ -1,5 +1,5 @@
-//! Whether each request of a report was shown its whole script in order, by what sessions of its own
-//! served.
+//! Whether each request of a report was shown its whole script in order, by what sessions of its
+//! own served.
 #![tactic(auto)]
 
 mod alike;

@@ -93,8 +93,8 @@ fn has_completed(outcomes: &[Outcome], ltxid: &Ltxid) -> bool
     false
 }
 
-/// Whether the call was served to its request: by one of the request's sessions, or as a lone commit
-/// that an outcome of the request tells of.
+/// Whether the call was served to its request: by one of the request's sessions, or as a lone
+/// commit that an outcome of the request tells of.
 fn is_served(copy: &RequestReport, one: &ShownAt<'_>) -> bool
     ensures { result
         ≡ is_served_def copy.now (shown_as one.now) (shown_as one.now).showing.item }
@@ -151,9 +151,9 @@ fn without_number(numbers: &Numbers, calls: &[ShownAt<'_>]) -> Option<usize>
     None
 }
 
-/// The first of a request's shown calls that is wrong: of those that were shown otherwise than the reply
-/// says, then of those that were not served to the request, then of those with another identifier. The
-/// identifier takes the logarithm of the number of entries.
+/// The first of a request's shown calls that is wrong: of those that were shown otherwise than the
+/// reply says, then of those that were not served to the request, then of those with another
+/// identifier. The identifier takes the logarithm of the number of entries.
 pub(crate) fn wrong_call(
     numbers: &Numbers,
     copy: &RequestReport,

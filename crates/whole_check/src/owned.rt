@@ -112,8 +112,8 @@ fn has_request(left: &Option<Step<'_>>, one: &OwnedAt<'_, '_>) -> bool
     }
 }
 
-/// The event of the first `begin` whose session was acquired by this step or a later one of its client,
-/// if there is one.
+/// The event of the first `begin` whose session was acquired by this step or a later one of its
+/// client, if there is one.
 pub(crate) fn turn_of_no_request(left: &Option<Step<'_>>, owned: &[OwnedAt<'_, '_>]) -> Option<u64>
     ensures { is_none result
         ≡ list_all (has_request_def (option_map step_as left.now)) (map owned_as owned.now) }
@@ -188,8 +188,8 @@ fn last_of<'b, 'a>(steps: &'b [Step<'a>]) -> Option<&'b Step<'a>>
     steps.last()
 }
 
-/// The event of the first call without the mark of the part's turns that are not right, among those of
-/// its client. For each turn of the part it is linear in the part's calls, and else logarithmic.
+/// The event of the first call without the mark of the part's turns that are not right, among those
+/// of its client. For each turn of the part it is linear in the part's calls, and else logarithmic.
 pub(crate) fn wrong_turn(part: &Part<'_>, owned: &[OwnedAt<'_, '_>]) -> Option<u64>
     requires { IsNonDecreasingBy (λ one. one.event) owned.now }
     ensures { is_none result ≡ turns_right (map owned_as owned.now) (part_as part.now) }

@@ -59,9 +59,9 @@ fn fault_of_calls(
     }
 }
 
-/// The first fault of a request with its steps, and with the turns of its client. For each turn of the
-/// request, and for each call that a session served or that an outcome tells of, it is linear in the
-/// request's calls, sessions and outcomes; else m log m.
+/// The first fault of a request with its steps, and with the turns of its client. For each turn of
+/// the request, and for each call that a session served or that an outcome tells of, it is linear
+/// in the request's calls, sessions and outcomes; else m log m.
 pub(crate) fn fault_of_part(
     alloc: Global,
     numbers: &Numbers,

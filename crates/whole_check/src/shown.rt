@@ -9,8 +9,8 @@ use outage_schedule::{Ltxids, RequestReport, Served, ShownCall};
 use std::alloc::Global;
 use svc_values::{Call, Ltxid, NoMemory, ends_transaction};
 
-/// A shown call: the script's call, the identifiers that its transaction tried, what was shown, and the
-/// reply that showed it.
+/// A shown call: the script's call, the identifiers that its transaction tried, what was shown, and
+/// the reply that showed it.
 #[derive(Clone, Copy)]
 pub(crate) struct ShownAt<'a> {
     pub(crate) call: &'a Call,
@@ -40,7 +40,8 @@ fn over_behind(call: &ShownCall, over: usize) -> usize
     over
 }
 
-/// The shown calls of a copy of these calls, by these replies; what has no fellow is left out. Linear.
+/// The shown calls of a copy of these calls, by these replies; what has no fellow is left out.
+/// Linear.
 pub(crate) fn shown_by<'a>(
     alloc: Global,
     script: &'a [Call],

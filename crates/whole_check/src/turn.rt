@@ -58,7 +58,8 @@ fn are_calls(marked: &[Marked<'_>], since: &[Call]) -> bool
     marked.len() == since.len()
 }
 
-/// Whether this call can be the first one without the mark, and those with the mark these before it.
+/// Whether this call can be the first one without the mark, and those with the mark these before
+/// it.
 fn fits_at(first: &Call, marked: &[Marked<'_>], since: &[Call], call: &Call) -> bool
     ensures { result ≡ fits_here first.now (reverse (calls_in (map marked_as marked.now)))
         (reverse since.now) call.now }
@@ -111,7 +112,8 @@ fn fits(first: &Call, marked: &[Marked<'_>], script: &[Call], shown: &[ShownCall
     false
 }
 
-/// Whether the calls with the mark are repeated from the submission, and the others come behind them.
+/// Whether the calls with the mark are repeated from the submission, and the others come behind
+/// them.
 fn begins(submission: &Submission<'_>, marked: &[Marked<'_>], rest: &[Marked<'_>]) -> bool
     ensures { result ≡ begins_with (submission_as submission.now) (map marked_as marked.now)
         (map marked_as rest.now) }
@@ -124,7 +126,8 @@ fn begins(submission: &Submission<'_>, marked: &[Marked<'_>], rest: &[Marked<'_>
     are_unmarked(&rest[1..]) && fits(rest[0].call, marked, script, shown)
 }
 
-/// The event of the turn's first call without the mark, and where there is none that of its `begin`.
+/// The event of the turn's first call without the mark, and where there is none that of its
+/// `begin`.
 pub(crate) fn unmarked_event(turn: &Turn<'_>) -> u64 {
     for one in turn.calls() {
         if !one.replay {

@@ -1,8 +1,8 @@
 //! Work to be timed: canonical bytes and frames in numbers that the words give.
 //!
 //! `answers N` writes N answers and reads them again. `stream N` pushes a stream of frames to the
-//! client, of about N bytes in all and each of 58, byte by byte and asks for a frame after each byte.
-//! `frame N` does the same with one frame of about N bytes. Each prints how many were read.
+//! client, of about N bytes in all and each of 58, byte by byte and asks for a frame after each
+//! byte. `frame N` does the same with one frame of about N bytes. Each prints how many were read.
 #![tactic(auto)]
 
 mod work;

@@ -1,4 +1,5 @@
--- What a change of one connection leaves of those that have fallen, and of those whose session lives.
+-- What a change of one connection leaves of those that have fallen, and of those whose session
+-- lives.
 use Rattle.std.proofs.Common.{◌≡◌, ℕ, zero, suc, ◌+◌, ◌≤◌, Bool, true, false, List, [], ◌∷◌, ◌++◌, Option, Some, length, map, drop, cond, refl, sym, ap, ◌∙◌, subst, inl, inr, arith}
 use Rattle.std.specs.Prelude.{◌⊎◌, slice_get, slice_set, if◌then◌else◌}
 use Rattle.std.specs.BTreeMap.{is_at}
@@ -136,7 +137,8 @@ open_behind (suc many) number (l ∷ links) have =
 
 -- THE LIVING --------------------------------------------------------------------------------------
 
--- with another link at a number, where its own number is among them if its session lives, and those of the others stay
+-- with another link at a number, where its own number is among them if its session lives, and those
+-- of the others stay
 living_changed : (living after : BTreeSet ℕ) (links : List Link) (number : ℕ) (old new : Link) → link_at links number ≡ Some old → (new.is_living ≡ true → contains nat_cmp after number ≡ true)
     → ((other : ℕ) → (other ≡ number → ⊥) → contains nat_cmp living other ≡ true → contains nat_cmp after other ≡ true) → HasLiving living links → HasLiving after (with_link links number new)
 living_changed living after links zero old new there here others has = absurd (let none : ⊥ = cc in none)

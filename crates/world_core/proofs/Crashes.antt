@@ -181,7 +181,8 @@ crashes_served kept sees sees_between sees_later leaves before between after num
     (record { live = crashed.is_spent; quiet = crashed.is_quiet ∙ last.ready.1 ∙ is.ready.quiet; unstopped = crashed.stop.0; opened = up_not_opened new.state crashed.down.0; settled = λ down. crashed.down.1 }) (more_calls seen.state.calls led.0.state.calls new.state.calls last.ready.3 crashed.calls)
     (any_server after (record m { links = map (fallen_link m.event) m.links; pool = fold after_gone m.pool (open_from 1 m.links) }) fallen.server (goes m led.1.1.1.1))
 
--- what a service that is up is like behind the frame that is served last: it may be crashed, with any pick
+-- what a service that is up is like behind the frame that is served last: it may be crashed, with
+-- any pick
 pub record MayFall (old new : ServiceState) : Type 0 where
   pub live : new.is_spent ≡ false
   pub few : new.calls ≤ old.calls + 2

@@ -1,4 +1,5 @@
--- Frames that the service is given: which stand first, who answers them, and what they add to the store.
+-- Frames that the service is given: which stand first, who answers them, and what they add to the
+-- store.
 pub mod Added
 pub mod Answered
 pub mod Blocking

@@ -7,7 +7,8 @@ use Rattle.outage_schedule.specs.declared.event.Event.{Event}
 use Rattle.outage_schedule.specs.declared.event.Event.TheVariants as event
 use Rattle.server_model.specs.meaning.ServiceCalls.{is_failover}
 
--- One of a document with so many clients. Only a crash of a server that is up may take a store away.
+-- One of a document with so many clients. Only a crash of a server that is up may take a store
+-- away.
 abbrev pub IsAllowed : ℕ → Event → Type 0
 IsAllowed clients (event.Go client) = (0 < client) × (client ≤ clients)
 IsAllowed clients (event.UpCrash after pick) = is_failover pick ≡ false

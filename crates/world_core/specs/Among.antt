@@ -23,7 +23,8 @@ use Rattle.world_core.specs.Coursing.{Held, IsFit}
 use Rattle.world_core.specs.Making.{IsAt}
 use Rattle.world_core.specs.Beside.{StandsFor}
 
--- Each client that is held stands for the machine's of its number, by its own script, and the machine has no further ones.
+-- Each client that is held stands for the machine's of its number, by its own script, and the
+-- machine has no further ones.
 pub record StandEach (R : Type 0) (rules : R → Rules) (held : List (Held R)) (t : Traced) : Type 0 where
   pub many : length held ≡ length t.setting.scripts
   pub each : (index : ℕ) (one : Held R) → slice_get held index ≡ Some one → (client : Client) × StandsFor R rules (script_at t.setting (suc index)) (suc index) one t client

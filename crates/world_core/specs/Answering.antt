@@ -62,7 +62,8 @@ result_of (verdict.ServerAhead next) = told.ServerAhead next
 result_of (verdict.ClientAhead next) = told.ClientAhead next
 result_of (verdict.Forgotten horizon) = told.Forgotten horizon
 
--- A frame that was stopped before its reply. Only calls and questions for outcomes are ever stopped.
+-- A frame that was stopped before its reply. Only calls and questions for outcomes are ever
+-- stopped.
 abbrev pub crashed_item : Up → Item
 crashed_item (up.Call replay kept call) = item.CrashedCall replay call
 crashed_item (up.Outcome x) = item.CrashedOutcome x

@@ -1,4 +1,5 @@
--- A client's step as an event of a run: machine and service go on together, and the client stands for what the machine has then.
+-- A client's step as an event of a run: machine and service go on together, and the client stands
+-- for what the machine has then.
 use Rattle.std.specs.Prelude.{◌≡◌, ℕ, false, List, [], Option, Some, None}
 use Rattle.request_bounds.specs.meaning.Rules.{Rules}
 use Rattle.outage_schedule.specs.declared.document.Request.{Request}
@@ -21,8 +22,8 @@ abbrev pub opened_in : GoNote → Option ℕ
 opened_in (go.Open number) = Some number
 opened_in _ = None
 
--- Between two events a client stands for the one of this number. A request in course has begun and is not over: at the start none is,
--- and each step keeps it.
+-- Between two events a client stands for the one of this number. A request in course has begun and
+-- is not over: at the start none is, and each step keeps it.
 pub record StandsFor (R : Type 0) (rules : R → Rules) (script : List Request) (number : ℕ) (held : Held R) (t : Traced) (client : Client) : Type 0 where
   pub scripted : script ≡ script_at t.setting number
   pub there : client_at t.machine.clients number ≡ Some client
@@ -37,8 +38,8 @@ pub record SomeBeside (R : Type 0) (rules : R → Rules) (sees : Seen → Type 0
   pub place : IsAt sees traffic seen traced
   pub stands : StandsFor R rules script number held traced client
 
--- The step was made with this note and serves nothing. The client stands for what the machine has then. The others are as before, and
--- what stood for one does so still.
+-- The step was made with this note and serves nothing. The client stands for what the machine has
+-- then. The others are as before, and what stood for one does so still.
 pub record StepMade (R : Type 0) (rules : R → Rules) (sees_later : Seen → Type 0) (script : List Request) (number : ℕ) (after : Traffic) (held : Held R) (seen : Seen) (t : Traced) (note : Note) : Type 0 where
   pub seen_later : Seen
   pub later : Traced

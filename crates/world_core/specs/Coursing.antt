@@ -22,7 +22,8 @@ use Rattle.world_model.specs.meaning.Clients.{Doing, Client, reports_of, script_
 use Rattle.world_model.specs.meaning.Settings.{Setting}
 use Rattle.world_core.specs.declared.client.Course.{Course}
 
--- A client as it is held: its driver, the request that comes next, the one in course, and the reports of those that are over.
+-- A client as it is held: its driver, the request that comes next, the one in course, and the
+-- reports of those that are over.
 pub record Held (R : Type 0) : Type 0 where
   pub driver : Driving R
   pub next : NextRequest
@@ -58,8 +59,9 @@ IsNow terms talk None None = talk.phase ≡ Idle
 IsNow terms talk (Some course) (Some doing) = IsCourse terms talk course doing
 IsNow _ _ _ _ = ⊥
 
--- beside the request in course: the driver goes by the terms of the run, the reports are those of the past requests, and the next
--- request follows them; `is_lost` where the loss of its connection is the next thing that is heard
+-- beside the request in course: the driver goes by the terms of the run, the reports are those of
+-- the past requests, and the next request follows them; `is_lost` where the loss of its connection
+-- is the next thing that is heard
 pub record IsBeside (R : Type 0) (rules : R → Rules) (setting : Setting) (number tick : ℕ) (is_lost : Bool) (held : Held R) (client : Client) : Type 0 where
   pub terms : terms_in R rules held ≡ setting.terms
   pub past : held.past ≡ reports_of client.past
@@ -84,7 +86,8 @@ pub record Closes (R : Type 0) (script : List Request) (report : RequestReport) 
   pub past : after.past ≡ before.past ++ report ∷ []
   pub next : (reports : List RequestReport) → IsNext script reports before.next → IsNext script (reports ++ report ∷ []) after.next
 
--- the request in course heard the input at this event: what is to be sent, what becomes of its connection, and the client then
+-- the request in course heard the input at this event: what is to be sent, what becomes of its
+-- connection, and the client then
 pub record Hears (R : Type 0) (rules : R → Rules) (setting : Setting) (number event tick : ℕ) (client : Client) (doing : Doing) (input : Input) (frames : List Up) (kept : Hold) (after : Held R) : Type 0 where
   pub send : frames ≡ (step_at setting.terms event tick doing input).done.act.send
   pub hold : kept ≡ (step_at setting.terms event tick doing input).done.act.hold

@@ -69,8 +69,8 @@ abbrev pub Wait : ℕ → ℕ → ℕ → List EndedAt → Type 0
 Wait retention tick least [] = least ≤ tick + retention
 Wait retention tick least (one ∷ ended) = (least ≤ one.tick + retention) × (one.tick < tick) × (one.incarnation ≤ 2 ^ 63) × Wait retention tick (one.tick + retention + 1) ended
 
--- What is held is what the notes of a run told: whatever tick comes, those that were passed and those that were not ask for the horizon
--- that is wanted then.
+-- What is held is what the notes of a run told: whatever tick comes, those that were passed and
+-- those that were not ask for the horizon that is wanted then.
 pub record Tracks (retention : ℕ) (held : Held) (told : Openings) : Type 0 where
   pub kept : (held.retention ≡ retention) × (retention ≤ 2 ^ 62)
   pub tick : told.tick ≡ held.tick

@@ -1,4 +1,5 @@
--- How a connection stands for one of the machine. What the machine remembers beside, as all that was ever sent, no connection holds.
+-- How a connection stands for one of the machine. What the machine remembers beside, as all that
+-- was ever sent, no connection holds.
 use Rattle.std.specs.Prelude.{◌≡◌, ◌⊎◌, ◌&&◌, ℕ, zero, suc, Bool, true, false, List, [], ◌∷◌, map, slice_get, Option, Some, None, IfSome, is_none, is_some}
 use Rattle.std.specs.BTreeSet.{BTreeSet, contains}
 use Rattle.std.specs.List.{AllByRecursion}
@@ -33,8 +34,8 @@ down_frames replies = map (λ one. one.frame) replies
 abbrev pub told_by_frame : Down → Option Ltxid
 told_by_frame frame = told_by (Took frame true)
 
--- It stands as the machine says, and its bytes are those of the frames that may still be served and taken. Frames keep the rules that
--- their sender sees to, and so does the identifier that is held.
+-- It stands as the machine says, and its bytes are those of the frames that may still be served and
+-- taken. Frames keep the rules that their sender sees to, and so does the identifier that is held.
 pub record IsLink (held : Connection) (link : Link) : Type 0 where
   pub is_open : link.is_open ≡ is_none held.ended
   pub ended : link.ended ≡ held.ended
@@ -78,7 +79,8 @@ AreLinks _ _ = ⊥
 
 -- ALL CONNECTIONS ---------------------------------------------------------------------------------
 
--- A crash ended it: its session lives no more, and of what is on its way only replies that a cut let arrive are left.
+-- A crash ended it: its session lives no more, and of what is on its way only replies that a cut
+-- let arrive are left.
 pub record HasFallen (link : Link) : Type 0 where
   pub closed : link.is_open ≡ false
   pub dead : link.is_living ≡ false
@@ -128,7 +130,8 @@ IsFound None None = Unit {0}
 IsFound (Some held) (Some link) = IsLink held link
 IsFound _ _ = ⊥
 
--- the frame that is served next on the connection of this number was taken off, where one may be served
+-- the frame that is served next on the connection of this number was taken off, where one may be
+-- served
 abbrev pub GivesFrontAt : List Link → ℕ → Option Front → Option Up → Connections → Type 0
 GivesFrontAt links number None frame after = (frame ≡ None) × Stand after links
 GivesFrontAt links number (Some front) frame after = (frame ≡ Some front.first.frame) × Stand after (with_link links number (record front.link { up = front.later }))

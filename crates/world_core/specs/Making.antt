@@ -12,8 +12,8 @@ use Rattle.world_model.specs.OneEvent.{OneEvent}
 use Rattle.world_core.specs.declared.traffic.Traffic.{Traffic}
 use Rattle.world_core.specs.Underway.{IsUnderway}
 
--- It may be called, and no call of it is stopped. Where it is up it was opened since its last crash, and where it is down it may be
--- opened.
+-- It may be called, and no call of it is stopped. Where it is up it was opened since its last
+-- crash, and where it is down it may be opened.
 pub record IsReady (state : ServiceState) : Type 0 where
   pub live : state.is_spent ≡ false
   pub quiet : state.is_quiet ≡ true
@@ -21,8 +21,8 @@ pub record IsReady (state : ServiceState) : Type 0 where
   pub opened : state.is_up ≡ true → state.is_opened ≡ true
   pub settled : state.is_up ≡ false → state.is_settled ≡ true
 
--- The service may be seen so, it is ready, this is underway as the machine is, and the machine stands orderly. An event makes at most
--- four calls on the service, and passes at most a tick.
+-- The service may be seen so, it is ready, this is underway as the machine is, and the machine
+-- stands orderly. An event makes at most four calls on the service, and passes at most a tick.
 pub record IsAt (sees : Seen → Type 0) (traffic : Traffic) (seen : Seen) (t : Traced) : Type 0 where
   pub seen_so : sees seen
   pub ready : IsReady seen.state
@@ -36,7 +36,8 @@ pub record IsAt (sees : Seen → Type 0) (traffic : Traffic) (seen : Seen) (t : 
 abbrev pub IsSomewhere : (Seen → Type 0) → Traffic → Type 0
 IsSomewhere sees traffic = (seen : Seen) × ((t : Traced) × IsAt sees traffic seen t)
 
--- The event was made with this note and these items, and machine and service stand behind it. An opening asked for this horizon.
+-- The event was made with this note and these items, and machine and service stand behind it. An
+-- opening asked for this horizon.
 pub record Made (below : ℕ) (seen : Seen) (t : Traced) (sees_later : Seen → Type 0) (after : Traffic) (event : Event) (note : Note) (items : List Served) : Type 0 where
   pub seen_later : Seen
   pub later : Traced
@@ -44,7 +45,8 @@ pub record Made (below : ℕ) (seen : Seen) (t : Traced) (sees_later : Seen → 
   pub forgets : Forgets below note seen.state.store seen_later.state.store
   pub place : IsAt sees_later after seen_later later
 
--- whatever was seen and wherever the machine stood, the event was made, and an opening asked for this horizon
+-- whatever was seen and wherever the machine stood, the event was made, and an opening asked for
+-- this horizon
 abbrev pub MakesBelow : ℕ → (Seen → Type 0) → Traffic → (Seen → Type 0) → Traffic → Event → Note → List Served → Type 0
 MakesBelow below sees before sees_later after event note items = (seen : Seen) (t : Traced) → IsAt sees before seen t → Made below seen t sees_later after event note items
 

@@ -47,8 +47,8 @@ is_going _ = true
 abbrev pub IsGoing : Option Doing → Type 0
 IsGoing now = IsTrue (option_map_or (λ doing. is_going doing.talk.phase) now true)
 
--- The client of this number is in this request at the machine, which wants this; and traffic and client stand for them. `is_lost` as
--- for a client.
+-- The client of this number is in this request at the machine, which wants this; and traffic and
+-- client stand for them. `is_lost` as for a client.
 pub record IsPlaced (R : Type 0) (rules : R → Rules) (script : List Request) (number : ℕ) (wanted : Wants) (is_lost : Bool) (traffic : Traffic) (held : Held R) (setting : Setting) (m : Machine) (client : Client) (doing : Doing) : Type 0 where
   pub scripted : script ≡ script_at setting number
   pub there : client_at m.clients number ≡ Some client

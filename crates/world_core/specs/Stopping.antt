@@ -27,7 +27,8 @@ BegunOpening old below after leaves new = Opened (with_stop old (Some after)) be
 abbrev pub IsSeen : (Seen → Type 0) → Type 0
 IsSeen sees = (seen : Seen) × (sees seen × IsReady seen.state)
 
--- the machine knows of each of these that are blocked: it was told uncommitted, or a stopped frame asked for it
+-- the machine knows of each of these that are blocked: it was told uncommitted, or a stopped frame
+-- asked for it
 abbrev pub AreKnown : Server → List Ltxid → Type 0
 AreKnown server blocked = (x : Ltxid) → is_blocked blocked x ≡ true → (is_blocked server.blocked x || is_blocked server.doubtful x) ≡ true
 

@@ -72,8 +72,8 @@ AreClosable all (number ∷ numbers) = MaySend (connection_at all number) (up.Cl
 abbrev pub all_closed : ℕ → List Link → List ℕ → List Link
 all_closed event links numbers = fold (changed (sends event (closed_by_drain ∷ []))) links numbers
 
--- A frame was served with this reply: its item is written down, and the reply is on its way. A commit that was blocked ends the
--- connection.
+-- A frame was served with this reply: its item is written down, and the reply is on its way. A
+-- commit that was blocked ends the connection.
 pub record IsWritten (held : Traffic) (m : Machine) (number : ℕ) (front : Front) (frame : Up) (reply : Option Down) (served : Served) (after : Traffic) : Type 0 where
   pub event : served.event ≡ m.event
   pub session : served.session ≡ session_served front.link.session reply

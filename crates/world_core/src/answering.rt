@@ -101,7 +101,8 @@ fn ordinary_item(frame: Up, reply: Option<Down>) -> Item
     }
 }
 
-/// What a frame is written down as, by its reply, whose answers and draws are moved. It takes no memory.
+/// What a frame is written down as, by its reply, whose answers and draws are moved. It takes no
+/// memory.
 pub(crate) fn served_item(frame: Up, reply: Option<Down>) -> Item
     ensures { result ≡ served_item_def frame reply }
 {

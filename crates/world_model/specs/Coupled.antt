@@ -1,4 +1,5 @@
--- What a state of the machine and what is seen of the service have in common, at each moment between two events.
+-- What a state of the machine and what is seen of the service have in common, at each moment
+-- between two events.
 use Rattle.std.specs.Prelude.{◌≡◌, ◌⊎◌, ◌||◌, ◌+◌, ◌<◌, ◌≤◌, ℕ, true, false, List, [], length, count_by, fold, Option, Some, None, if◌then◌else◌}
 use Rattle.svc_values.specs.declared.entry.Entry.{Entry}
 use Rattle.svc_values.specs.declared.entry.Ltxid.{Ltxid}
@@ -49,7 +50,8 @@ HasLived history None life = Unit {0}
 abbrev pub IsLater : Server → SessionId → Type 0
 IsLater server session = (server.incarnation < session.incarnation) ⊎ ((server.is_up ≡ true) × ((session.incarnation ≡ server.incarnation) × (server.sessions < session.session)))
 
--- The incarnation is that of the store. While the server is down openings may have been stopped that stored theirs.
+-- The incarnation is that of the store. While the server is down openings may have been stopped
+-- that stored theirs.
 pub record SameServer (server : Server) (seen : Seen) : Type 0 where
   pub is_up : server.is_up ≡ seen.state.is_up
   pub per_record : server.per_record ≡ seen.state.per_record
@@ -65,7 +67,8 @@ pub record Coupled (seen : Seen) (t : Traced) : Type 0 where
   -- the connections that live, with their sessions
   pub living : (number : ℕ) → seen.state.living number ≡ living_of (link_at t.machine.links number)
   pub stored : (number : ℕ) (link : Link) → link_at t.machine.links number ≡ Some link → HasStored seen.state.store.entries (living_of (Some link)) link.commits
-  -- each session that lives is where its frames led it, and one that is made later is not in the history
+  -- each session that lives is where its frames led it, and one that is made later is not in the
+  -- history
   pub lives : (number : ℕ) (link : Link) → link_at t.machine.links number ≡ Some link → HasLived seen.history (living_of (Some link)) (life_of link.served)
   pub later : (session : SessionId) → IsLater t.machine.server session → life_by seen.history session ≡ New
   -- the journal

@@ -17,7 +17,8 @@ abbrev pub StoppedAt : ℕ → List Served → ServiceState → Type 0
 StoppedAt after [] state = Unit {0}
 StoppedAt after (served ∷ items) state = state.last_stop ≡ Some after
 
--- A crash is counted where the server was up, and behind an opening that was begun under a stop. No other event counts one.
+-- A crash is counted where the server was up, and behind an opening that was begun under a stop. No
+-- other event counts one.
 abbrev pub CountsCrash : Event → Note → List Served → ServiceState → ServiceState → Type 0
 CountsCrash (event.Crash connection after pick) (note.Crash named false) items before later = Counted pick before later × StoppedAt after items later
 CountsCrash (event.UpCrash after pick) (note.UpCrash true) items before later = Counted pick before later × (later.last_stop ≡ Some after)

@@ -14,7 +14,8 @@ abbrev pub is_at_server : Place → Bool
 is_at_server AtServer = true
 is_at_server place = false
 
--- The state is orderly, and once the finish has opened the server it is up. (So it may begin wherever a schedule ends.)
+-- The state is orderly, and once the finish has opened the server it is up. (So it may begin
+-- wherever a schedule ends.)
 pub record CanFinish (t : Traced) (place : Place) : Type 0 where
   pub orderly : Orderly t
   pub up : is_at_server place ≡ false → t.machine.server.is_up ≡ true

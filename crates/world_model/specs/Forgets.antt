@@ -1,4 +1,5 @@
--- The horizon that the openings of a run store: the outcomes of all incarnations below it are forgotten.
+-- The horizon that the openings of a run store: the outcomes of all incarnations below it are
+-- forgotten.
 use Rattle.std.specs.Prelude.{◌≡◌, ◌⊎◌, ℕ, true, max, List, fold, Some}
 use Rattle.outage_schedule.specs.declared.document.Document.{Document}
 use Rattle.outage_schedule.specs.declared.note.Note.{Note}
@@ -7,8 +8,8 @@ use Rattle.run_clauses.specs.meaning.Before.{journal_before, was_opened}
 use Rattle.run_clauses.specs.meaning.Horizons.{Openings, first_opening, after_note, wanted_horizon}
 use Rattle.server_model.specs.Seen.{Store}
 
--- An opening raises the horizon to the one that is wanted, where that is greater. One that was stopped did so, or left it as it was; every
--- other event leaves it.
+-- An opening raises the horizon to the one that is wanted, where that is greater. One that was
+-- stopped did so, or left it as it was; every other event leaves it.
 abbrev pub Forgets : ℕ → Note → Store → Store → Type 0
 Forgets below (note.Up (Some incarnation)) old new = new.horizon ≡ max old.horizon below
 Forgets below (note.UpCrash true) old new = (new.horizon ≡ old.horizon) ⊎ (new.horizon ≡ max old.horizon below)

@@ -29,9 +29,10 @@ abbrev pub drawn_outside : Note → List Draw
 drawn_outside (note.Outside (Some ran)) = flat_map (λ run. run.draws) ran.runs
 drawn_outside _ = []
 
--- The incarnation of the store never falls. What the journal gained in the event stands behind what it held: entries come from what happened, and blocks were asked for in it.
--- The crashes that the service counts are those of the events, each with its pick and its stop.
--- What was told of identifiers is told by the table on what the store held before.
+-- The incarnation of the store never falls. What the journal gained in the event stands behind what
+-- it held: entries come from what happened, and blocks were asked for in it. The crashes that the
+-- service counts are those of the events, each with its pick and its stop. What was told of
+-- identifiers is told by the table on what the store held before.
 pub record OneEvent (before : Seen) (old : Traced) (event : Event) (note : Note) (items left : List Served) (after : Seen) (new : Traced) : Type 0 where
   pub follows : follow old.setting old.machine event note items ≡ Some (new.machine, left)
   pub happened : List Happened

@@ -7,7 +7,8 @@ use Rattle.world_model.specs.records.Hold.{Hold}
 use Rattle.world_model.specs.records.Script.{Script}
 use Rattle.world_model.specs.records.Number.{Number}
 
--- What stands on itself: it is kept with nothing of the rest, and is all that serving and sending need.
+-- What stands on itself: it is kept with nothing of the rest, and is all that serving and sending
+-- need.
 pub record Orderly (t : Traced) : Type 0 where
   pub setting : IsOfCalls t.setting
   pub basic : Basic t

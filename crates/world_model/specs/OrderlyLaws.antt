@@ -1,4 +1,5 @@
--- What is orderly is kept: it holds of the start, and of the state behind each event if it held before.
+-- What is orderly is kept: it holds of the start, and of the state behind each event if it held
+-- before.
 use Rattle.std.specs.Prelude.{Bool, IsTrue, List}
 use Rattle.server_model.specs.Seen.{Seen}
 use Rattle.outage_schedule.specs.declared.document.Document.{Document}
@@ -30,7 +31,8 @@ pub record IsKeptOfCalls (test : Traced → Bool) : Type 0 where
   pub at_event : (before after : Seen) (old new : Traced) (event : Event) (note : Note) (items left : List Served)
       → OneEvent before old event note items left after new → Orderly old → IsTrue (test new)
 
--- a test of each state that has a service beside it: of the start of a run, and of the state behind each of its events
+-- a test of each state that has a service beside it: of the start of a run, and of the state behind
+-- each of its events
 abbrev pub IsOfService : (Traced → Bool) → Type 0
 IsOfService test = (seen : Seen) (t : Traced) → Coupled seen t → IsTrue (test t)
 

@@ -94,8 +94,8 @@ links_of t = numbered_from 1 t.machine.links
 
 -- STEPS -------------------------------------------------------------------------------------------
 
--- A call that was sent without the mark: on which connection, under which identifier, the place of the call in its request, and the
--- answers that were taken.
+-- A call that was sent without the mark: on which connection, under which identifier, the place of
+-- the call in its request, and the answers that were taken.
 pub record Sending : Type 0 where
   pub owner : Owner
   pub connection : ℕ
@@ -104,7 +104,8 @@ pub record Sending : Type 0 where
   pub call : Call
   pub taken : Option (List Answer)
 
--- what the steps so far tell: the connection, the identifier held on it, the calls shown, and the sendings, the last one first
+-- what the steps so far tell: the connection, the identifier held on it, the calls shown, and the
+-- sendings, the last one first
 pub record Scan : Type 0 where
   pub owner : Owner
   pub connection : ℕ

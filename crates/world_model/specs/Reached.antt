@@ -30,8 +30,9 @@ traced_start document =
       outside_draws = [];
     }
 
--- The events so far, those of the finish among them, with their notes and all that was served. The store begins with the horizon of the
--- time before event 1, and each opening asks for the one that is wanted then.
+-- The events so far, those of the finish among them, with their notes and all that was served. The
+-- store begins with the horizon of the time before event 1, and each opening asks for the one that
+-- is wanted then.
 pub data Reached (document : Document) : List Event → List Note → List Served → Seen → Traced → Type 0 where
   Begins : (seen : Seen) → seen.start ≡ service_base document → seen.history ≡ [] → seen.state.store.horizon ≡ (journal_before document).horizon → Coupled seen (traced_start document) → Reached document [] [] [] seen (traced_start document)
   GoesOn : (events : List Event) (notes : List Note) (items more : List Served) (before after : Seen) (old new : Traced) (event : Event) (note : Note)

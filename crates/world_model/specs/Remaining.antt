@@ -36,7 +36,8 @@ abbrev pub all_left : List Copies → ℕ
 all_left [] = 0
 all_left (copies ∷ others) = copies_left copies + all_left others
 
--- how many requests of a script may still be submitted, with these over: the one in course is among them
+-- how many requests of a script may still be submitted, with these over: the one in course is among
+-- them
 abbrev pub requests_left : List Request → List Past → ℕ
 requests_left script past = all_left (copies_of script (reports_of past))
 
@@ -50,8 +51,8 @@ on_open links connection = option_map_or (λ link. link.is_open) (option_and_the
 abbrev pub may_serve : List Link → Option ℕ → Bool
 may_serve links connection = is_some (option_and_then (front_at links) connection)
 
--- A request that has taken its step of this round, or cannot take one before a frame is served, takes its next one behind the tick. Where
--- it awaits ticks, that one is counted among them.
+-- A request that has taken its step of this round, or cannot take one before a frame is served,
+-- takes its next one behind the tick. Where it awaits ticks, that one is counted among them.
 abbrev pub doing_rounds : Setting → Machine → Bool → Doing → ℕ
 doing_rounds setting m stepped doing =
     talk_rounds setting.terms m.tick (on_open m.links doing.connection) doing.talk
@@ -87,7 +88,8 @@ abbrev pub links_work : List Link → ℕ
 links_work [] = 0
 links_work (link ∷ links) = link_work link + links_work links
 
--- What is left of the round beside the frames that were sent: a step of each client, which sends two frames at most, and the tick.
+-- What is left of the round beside the frames that were sent: a step of each client, which sends
+-- two frames at most, and the tick.
 abbrev pub round_work : Machine → Place → ℕ
 round_work m (AtClients last) = 3 * (length m.clients - last) + 2
 round_work m AtLinks = 1

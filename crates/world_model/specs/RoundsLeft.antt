@@ -27,13 +27,15 @@ awaits_tick terms now talk _ = false
 abbrev pub replays_left : Terms → Phase → ℕ
 replays_left terms phase = terms.limits.replays - option_map_or (λ track. track.replays) (track_of phase) 0
 
--- the most rounds from the moment at which a call or a replay is used up to the next loss, and on to its outcome: each recorded call, the
--- submitted one, the wait for a try, the connection, its Hello and the outcome
+-- the most rounds from the moment at which a call or a replay is used up to the next loss, and on
+-- to its outcome: each recorded call, the submitted one, the wait for a try, the connection, its
+-- Hello and the outcome
 abbrev pub attempt : Terms → ℕ
 attempt terms = terms.recorded + (terms.limits.delay + 4)
 
--- The rounds in this phase and in those behind it, until a call or a replay is used up. On a connection that has ended the next step is
--- its loss, or leads to it. (In the finish no connection ends but by Blocked, which answers a call.)
+-- The rounds in this phase and in those behind it, until a call or a replay is used up. On a
+-- connection that has ended the next step is its loss, or leads to it. (In the finish no connection
+-- ends but by Blocked, which answers a call.)
 abbrev pub rounds_in : Terms → ℕ → Bool → Option ℕ → Phase → ℕ
 rounds_in terms now opens last Idle = 0
 rounds_in terms now opens last Unbegun = terms.limits.delay + (terms.limits.wait + 8)

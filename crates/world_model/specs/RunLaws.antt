@@ -12,7 +12,8 @@ use Rattle.world_model.specs.Reached.{Reached, IsRun}
 use Rattle.world_model.specs.records.Ready.{all_requests_right}
 use Rattle.world_model.specs.Traced.{Traced}
 
--- A report that has the notes and items of a whole run, and whose clients were shown what the run's were, is one that its events lead to.
+-- A report that has the notes and items of a whole run, and whose clients were shown what the run's
+-- were, is one that its events lead to.
 abbrev pub RunsAreFollowed : Type 0
 RunsAreFollowed =
     (document : Document) (report : Report) (seen : Seen) (t : Traced) → IsRun document report.notes report.served seen t → report.clients ≡ transcripts_of t.machine → IsTrue (followed document report)

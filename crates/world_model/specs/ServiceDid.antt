@@ -1,5 +1,5 @@
--- What a service's history has of an event: the frames that were served then and the identifiers that were asked, in order.
--- Here is what contracts and proofs say of it besides.
+-- What a service's history has of an event: the frames that were served then and the identifiers
+-- that were asked, in order. Here is what contracts and proofs say of it besides.
 use Rattle.std.specs.Prelude.{◌≡◌, ℕ, List, [], ◌∷◌, ◌++◌, Option, Some, if◌then◌else◌}
 use Rattle.outage_schedule.specs.declared.event.Event.{Event}
 use Rattle.outage_schedule.specs.declared.event.Event.TheVariants as event
@@ -19,8 +19,9 @@ abbrev pub front_served : ℕ → Option Front → List Served → List Happened
 front_served now (Some front) (served ∷ items) = ServedFrame served.session now front.first.frame (front_telling front served) ∷ []
 front_served now _ _ = []
 
--- An event that serves a frame has one thing, one that runs calls outside what these did in a session of their own, a question one, and
--- every other event has none. (The machine follows the event, so a frame that is noted stands first.)
+-- An event that serves a frame has one thing, one that runs calls outside what these did in a
+-- session of their own, a question one, and every other event has none. (The machine follows the
+-- event, so a frame that is noted stands first.)
 abbrev pub ServiceDid : Machine → Event → Note → List Served → List Happened → Type 0
 ServiceDid m (event.Serve connection) note items more = more ≡ front_served m.tick (front_at m.links connection) items
 ServiceDid m (event.Crash connection after pick) note items more = more ≡ (if m.server.is_up then front_served m.tick (front_at m.links connection) items else [])

@@ -1,4 +1,5 @@
--- What the invariant speaks of: a state of the machine, the service's journal, and what the proof remembers beside them.
+-- What the invariant speaks of: a state of the machine, the service's journal, and what the proof
+-- remembers beside them.
 use Rattle.std.specs.Prelude.{ℕ, ◌+◌, Bool, true, false, List, [], ◌∷◌, ◌++◌, map, Option, Some, None}
 use Rattle.svc_values.specs.declared.draw.Draw.{Draw}
 use Rattle.svc_values.specs.declared.entry.Ltxid.{Ltxid}
@@ -13,7 +14,8 @@ use Rattle.world_model.specs.meaning.Clients.{Step, Doing, Past, Client}
 use Rattle.run_clauses.specs.meaning.Reports.{report_of}
 use Rattle.world_model.specs.meaning.Machines.{Machine}
 
--- The machine; J, of which so many are the image's; B, the image's blocks included; the sessions of `outside`, and the values that these drew.
+-- The machine; J, of which so many are the image's; B, the image's blocks included; the sessions of
+-- `outside`, and the values that these drew.
 pub record Traced : Type 0 where
   pub setting : Setting
   pub machine : Machine
@@ -23,7 +25,8 @@ pub record Traced : Type 0 where
   pub outside : List SessionId
   pub outside_draws : List Draw
 
--- A request that was submitted: in course, or over. Where it is over, its phase is Idle and it has no connection.
+-- A request that was submitted: in course, or over. Where it is over, its phase is Idle and it has
+-- no connection.
 pub record Course : Type 0 where
   pub owner : Owner
   pub request : Request

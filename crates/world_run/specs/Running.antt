@@ -29,7 +29,8 @@ pub record AreKnown (told : Openings) (incarnation : ℕ) : Type 0 where
   pub running : (one : ℕ) → told.running ≡ Some one → one ≤ incarnation
   pub ended : AllBy incarnation told.ended
 
--- a run so far: its service and the traffic to it, its clients, the openings of its store, and what its events did
+-- a run so far: its service and the traffic to it, its clients, the openings of its store, and what
+-- its events did
 pub record Parts (S R : Type 0) : Type 0 where
   pub service : S
   pub traffic : Traffic
@@ -56,8 +57,8 @@ module _ (S R : Type 0) (sees : S → Seen → Type 0) (rules : R → Rules) (sc
     pub scripted : t.setting.scripts ≡ scripts_of scripts
     pub stand : StandEach R rules parts.clients t
 
-  -- What is seen of the service, and where the machine has come to, in a run with these scripts, whose store was opened so before
-  -- event 1.
+  -- What is seen of the service, and where the machine has come to, in a run with these scripts,
+  -- whose store was opened so before event 1.
   pub record Stands (retention : ℕ) (first : Openings) (parts : Parts S R) (seen : Seen) (t : Traced) : Type 0 where
     pub beside : StandBeside parts seen t
     -- each event has its note
@@ -89,8 +90,8 @@ module _ (S R : Type 0) (sees : S → Seen → Type 0) (rules : R → Rules) (sc
   abbrev pub Leads : Event → Note → List Served → Parts S R → Parts S R → Type 0
   Leads event note items before after = (seen : Seen) (t : Traced) → StandBeside before seen t → IsLed event note items before after seen t
 
-  -- The event was made: machine and service went on by it, with one note more, and the items that it served. An opening forgot what is
-  -- wanted then.
+  -- The event was made: machine and service went on by it, with one note more, and the items that
+  -- it served. An opening forgot what is wanted then.
   pub record GoesOn (retention : ℕ) (first : Openings) (event : Event) (before after : Parts S R) (seen : Seen) (t : Traced) : Type 0 where
     pub seen_later : Seen
     pub later : Traced

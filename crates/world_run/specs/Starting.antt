@@ -15,8 +15,9 @@ use Rattle.world_model.specs.records.Ready.{all_requests_right}
 use Rattle.world_model.specs.meaning.Settings.{rules_of}
 use Rattle.world_run.specs.Running.{Parts, Stands}
 
--- The document has this service and these scripts. The service may be seen as a new one whose store is what stands before event 1; it is
--- stopped by nothing but what a run asks for, and was opened before or not.
+-- The document has this service and these scripts. The service may be seen as a new one whose store
+-- is what stands before event 1; it is stopped by nothing but what a run asks for, and was opened
+-- before or not.
 pub record IsOf (sees : Seen → Type 0) (rules : Rules) (of : ServiceOf) (scripts : List Script) (opened : Bool) (document : Document) (seen : Seen) : Type 0 where
   pub service : document.service ≡ of
   pub clients : document.clients ≡ scripts

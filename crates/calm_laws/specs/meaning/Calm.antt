@@ -1,4 +1,5 @@
--- Calm documents, and what their reports have: every request was shown all its answers, or waited too long for a connection.
+-- Calm documents, and what their reports have: every request was shown all its answers, or waited
+-- too long for a connection.
 use Rattle.std.specs.Prelude.{◌==◌, ◌&&◌, ◌||◌, Bool, true, false, nat_le, is_none, length, Option, Some}
 use Rattle.std.specs.List.{list_all}
 use Rattle.commit_log.specs.declared.journal.Journal.{Journal}
@@ -15,7 +16,8 @@ use Rattle.run_clauses.specs.meaning.Copies.{Copies, are_in_script_order, each_c
 
 -- ---- calm documents
 
--- The event cuts no connection, takes no service down and asks for no outcome: it is no `cut`, `crash`, `failover`, `upcrash` or `ask`.
+-- The event cuts no connection, takes no service down and asks for no outcome: it is no `cut`,
+-- `crash`, `failover`, `upcrash` or `ask`.
 abbrev pub is_calm_event : Event → Bool
 is_calm_event (event.Cut connection up down) = false
 is_calm_event (event.Crash connection after pick) = false
@@ -23,7 +25,8 @@ is_calm_event (event.UpCrash after pick) = false
 is_calm_event (event.Ask ltxid) = false
 is_calm_event _ = true
 
--- Each identifier that is blocked before event 1 is of an incarnation up to the last one, so of no session of the run.
+-- Each identifier that is blocked before event 1 is of an incarnation up to the last one, so of no
+-- session of the run.
 abbrev pub blocks_past : Journal → Bool
 blocks_past before = list_all (λ x. nat_le x.incarnation before.incarnation) before.blocked
 

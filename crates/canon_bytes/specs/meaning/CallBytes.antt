@@ -18,7 +18,8 @@ spell_call (call.Alter line) = 3 ∷ spell_bytes line
 spell_call call.Disable = 4 ∷ []
 spell_call call.Rollback = 5 ∷ []
 
--- behind the tag of a work call; one that is empty or too long is at fault from its tag on, once all of it is read
+-- behind the tag of a work call; one that is empty or too long is at fault from its tag on, once
+-- all of it is read
 unfoldable pub work_at : List ℕ → Result (Call × List ℕ) Fault
 work_at bytes = do
   statements ← statements_at bytes

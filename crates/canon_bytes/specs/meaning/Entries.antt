@@ -1,4 +1,5 @@
--- Identifiers of transactions, and what the journal keeps of a transaction: pieces, writes, entries.
+-- Identifiers of transactions, and what the journal keeps of a transaction: pieces, writes,
+-- entries.
 use Rattle.std.specs.Prelude.{ℕ, ◌^◌, List, ◌++◌, length, Result, Ok, Err, nat_le, if◌then◌else◌}
 use Rattle.svc_values.specs.declared.entry.Ltxid.{Ltxid}
 use Rattle.svc_values.specs.declared.entry.Piece.{Piece}

@@ -1,4 +1,5 @@
--- Reading from left to right up to the first fault. A fault counts the bytes from the byte at fault to the end.
+-- Reading from left to right up to the first fault. A fault counts the bytes from the byte at fault
+-- to the end.
 use Rattle.std.specs.Prelude.{Result, Ok, Err}
 use Rattle.canon_bytes.specs.declared.fault.Fault.{Fault}
 

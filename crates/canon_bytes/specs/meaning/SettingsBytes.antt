@@ -16,7 +16,8 @@ spell_setting setting = spell_bytes setting.0 ++ spell_value setting.1
 abbrev pub spell_settings : NamedValues → List ℕ
 spell_settings settings = spell_list spell_setting settings
 
--- a setting behind the one with this name, if any; a name that does not rise is at fault from its length on
+-- a setting behind the one with this name, if any; a name that does not rise is at fault from its
+-- length on
 unfoldable pub setting_at : Option (List ℕ) → List ℕ → Result ((List ℕ × Value) × List ℕ) Fault
 setting_at before bytes = do
   name ← name_at bytes

@@ -1,4 +1,5 @@
--- Frames to the server: a payload is a tag and the fields, and a frame is the number of its bytes and the payload.
+-- Frames to the server: a payload is a tag and the fields, and a frame is the number of its bytes
+-- and the payload.
 use Rattle.std.specs.Prelude.{ℕ, List, [], ◌∷◌, ◌++◌}
 use Rattle.svc_values.specs.declared.frame.Up.{Up}
 use Rattle.svc_values.specs.declared.frame.Up.TheVariants as up

@@ -1,4 +1,5 @@
--- The bytes of a base: a list of tables, each its name, its columns and its rows, and a list of sequences.
+-- The bytes of a base: a list of tables, each its name, its columns and its rows, and a list of
+-- sequences.
 use Rattle.std.specs.Prelude.{ℕ, List, Result, Ok}
 use Rattle.canon_bytes.specs.meaning.Numbers.{i64_at, bool_at}
 use Rattle.canon_bytes.specs.meaning.TextBytes.{name_at}

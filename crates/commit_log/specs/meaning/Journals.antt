@@ -26,8 +26,8 @@ abbrev pub if_next : Option SoFar → ℕ → (SoFar → Result SoFar ℕ) → R
 if_next None place go_on = Err place
 if_next (Some next) place go_on = go_on next
 
--- Records judged one after the other, the gate of the first at this place: the journal after all of them, or the place of
--- the first that may not come next.
+-- Records judged one after the other, the gate of the first at this place: the journal after all of
+-- them, or the place of the first that may not come next.
 abbrev pub judged : SoFar → ℕ → List (List ℕ) → Result SoFar ℕ
 judged so_far place [] = Ok so_far
 judged so_far place (payload ∷ payloads) = if_next (after_payload so_far payload) place (λ next. judged next (place + 9 + length payload) payloads)

@@ -20,13 +20,14 @@ use Rattle.commit_log.specs.meaning.Bases.{is_base, schemas_of}
 abbrev pub sessions_of : Journal → Sessions
 sessions_of journal = book_of journal.horizon (map committed_of journal.entries) journal.blocked
 
--- A commit may come next in a store that was opened with its incarnation or a later one, where its session is not forgotten, its
--- identifier is its session's next one and is not blocked, and its writes fit the tables.
+-- A commit may come next in a store that was opened with its incarnation or a later one, where its
+-- session is not forgotten, its identifier is its session's next one and is not blocked, and its
+-- writes fit the tables.
 unfoldable pub may_commit : Journal → Entry → Bool
 may_commit journal entry = nat_le entry.ltxid.incarnation journal.incarnation && (may_note (sessions_of journal) entry.ltxid && writes_fit (schemas_of journal.base) entry.writes)
 
--- An identifier may be blocked where its session is not forgotten and it is this session's next one and is not blocked, in whichever
--- incarnation.
+-- An identifier may be blocked where its session is not forgotten and it is this session's next one
+-- and is not blocked, in whichever incarnation.
 abbrev pub may_block : Journal → Ltxid → Bool
 may_block journal x = may_note (sessions_of journal) x
 
@@ -34,7 +35,8 @@ may_block journal x = may_note (sessions_of journal) x
 abbrev pub reservation_size : ℤ
 reservation_size = pos 16
 
--- where the values end that were set aside for a sequence: with its last reservation, and before the first one ahead of its start
+-- where the values end that were set aside for a sequence: with its last reservation, and before
+-- the first one ahead of its start
 abbrev pub end_of : List Reservation → BaseSequence → ℤ
 end_of reservations sequence = fold (λ end reservation. if bytes_eq reservation.name sequence.name then reservation.upto else end) (sequence.start -ℤ pos 1) reservations
 
@@ -46,8 +48,8 @@ is_next_reservation reservations reservation sequence = bytes_eq sequence.name r
 unfoldable pub may_reserve : Journal → Reservation → Bool
 may_reserve journal reservation = list_any (is_next_reservation journal.reserved reservation) journal.base.sequences
 
--- How far a journal has come: no record yet, or a journal, whether the store was opened in it, and whether a horizon was stored.
--- (A journal in which none was stored has the horizon 0.)
+-- How far a journal has come: no record yet, or a journal, whether the store was opened in it, and
+-- whether a horizon was stored. (A journal in which none was stored has the horizon 0.)
 pub data SoFar : Type 0 where
   Empty : SoFar
   Begun : (journal : Journal) → (is_opened has_horizon : Bool) → SoFar
@@ -78,7 +80,8 @@ with_record journal (kept.Reserved reservation) = record journal { reserved = jo
 with_record journal (kept.Alert line) = record journal { alerts = journal.alerts ++ line ∷ [] }
 with_record journal (kept.Horizon horizon) = record journal { horizon = horizon }
 
--- whether it may come next in a journal, in which the store was opened or not, and a horizon was stored or not
+-- whether it may come next in a journal, in which the store was opened or not, and a horizon was
+-- stored or not
 abbrev pub may_come : Journal → (is_opened has_horizon : Bool) → Record → Bool
 may_come journal is_opened has_horizon (kept.Base base) = false
 may_come journal is_opened has_horizon (kept.Opened incarnation) = may_open journal is_opened incarnation

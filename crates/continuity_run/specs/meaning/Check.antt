@@ -6,7 +6,8 @@ use Rattle.program_ends.specs.declared.clause.Clause.{Clause}
 use Rattle.report_check.specs.meaning.Pairs.{pair_at}
 use Rattle.report_check.specs.meaning.Verdicts.{first_false, undecided, IsFirstFalse}
 
--- The bytes are a document and a report of it, of which each clause holds, and which leaves no more in doubt than is tried.
+-- The bytes are a document and a report of it, of which each clause holds, and which leaves no more
+-- in doubt than is tried.
 pub record IsRight (bytes : List ℕ) : Type 0 where
   pub document : Document
   pub report : Report
@@ -14,8 +15,8 @@ pub record IsRight (bytes : List ℕ) : Type 0 where
   pub decided : undecided document report ≡ false
   pub right : first_false document report ≡ None
 
--- The bytes are a document and a report of it, of which this clause is the first that is false, at this place, and which leaves no more in
--- doubt than is tried.
+-- The bytes are a document and a report of it, of which this clause is the first that is false, at
+-- this place, and which leaves no more in doubt than is tried.
 pub record IsWrong (bytes : List ℕ) (one : Clause) (path : List ℕ) : Type 0 where
   pub document : Document
   pub report : Report

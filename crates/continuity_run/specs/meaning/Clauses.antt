@@ -21,8 +21,8 @@ use Rattle.continuity_run.specs.meaning.Check.{IsRight, IsWrong, LeavesDoubt, ri
 use Rattle.continuity_run.specs.meaning.Headline.{Headline}
 use Rattle.continuity_run.specs.meaning.Load.{IsLoaded}
 
--- The text is that of a report which says of the document what the headline says and keeps to the limits of its types, and a reader of JSON reads
--- the report's value in it.
+-- The text is that of a report which says of the document what the headline says and keeps to the
+-- limits of its types, and a reader of JSON reads the report's value in it.
 pub record IsReported (document : Document) (text : List ℕ) : Type 0 where
   pub report : Report
   pub headline : Headline document report
@@ -69,7 +69,8 @@ pub record IsAnswered (one : Telling)
   pub answer : IsAnswer one bytes text
   pub wrote : Appends held_before held_after text
 
--- what was read is a document and a report of it, of which each clause holds, and the sink took `yes` and a line feed
+-- what was read is a document and a report of it, of which each clause holds, and the sink took
+-- `yes` and a line feed
 pub record IsChecked (left_before left_after held_before held_after : Option (List ℕ)) : Type 0 where
   pub bytes : List ℕ
   pub read : IsRead check_limit pair_at left_before left_after bytes
@@ -94,7 +95,8 @@ pub record LoadIsDone (seed clients requests : ℕ) (held_before held_after : Op
   pub loaded : IsLoaded seed clients requests text
   pub wrote : Appends held_before held_after text
 
--- `run` and `cover` are done with a document that was read, `check` with a document and its report, and `load` makes its own document.
+-- `run` and `cover` are done with a document that was read, `check` with a document and its report,
+-- and `load` makes its own document.
 abbrev pub IsDone : Command → Option (List ℕ) → Option (List ℕ) → Option (List ℕ) → Option (List ℕ) → Type 0
 IsDone command.Run left_before left_after held_before held_after = IsAnswered telling.Report left_before left_after held_before held_after
 IsDone command.Cover left_before left_after held_before held_after = IsAnswered telling.Cover left_before left_after held_before held_after

@@ -7,7 +7,8 @@ use Rattle.load_document.specs.meaning.Loads.{loaded, total}
 use Rattle.load_document.specs.meaning.Lines.{line_of, line_value}
 use Rattle.continuity_run.specs.meaning.Headline.{Headline}
 
--- The text is the line of counts of a report which says of the document what the headline says, with a line feed at its end.
+-- The text is the line of counts of a report which says of the document what the headline says,
+-- with a line feed at its end.
 pub record IsLined (document : Document) (text : List ℕ) : Type 0 where
   pub report : Report
   pub headline : Headline document report

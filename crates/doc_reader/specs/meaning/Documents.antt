@@ -52,7 +52,8 @@ document_with begin clients events = record {
 abbrev pub document_members : List (List ℕ)
 document_members = codes "service" ∷ codes "tables" ∷ codes "sequences" ∷ codes "image" ∷ codes "print_image" ∷ codes "clients" ∷ codes "schedule" ∷ []
 
--- the clients, and then the events, which are read by their number; what is counted over the whole document comes last
+-- the clients, and then the events, which are read by their number; what is counted over the whole
+-- document comes last
 unfoldable pub rest_of : Option Data → Data → Begin → Result Document Fault
 rest_of schedule clients begin =
     within (codes "clients") (clients_of clients) >>= λ cs. read_or (codes "schedule") [] (schedule_of (length cs) begin.service.standby) schedule >>= λ events.

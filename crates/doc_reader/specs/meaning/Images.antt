@@ -18,8 +18,8 @@ if_alone alone = if alone then Ok tt else Err (here Rule)
 abbrev pub is_small_reservation : Reservation → Bool
 is_small_reservation reservation = int_le reservation.upto (pos 4611686018427387904)
 
--- A journal leaves room for a run: no part of an identifier, no incarnation and no reservation is past 2^62, which is half of
--- what a store may come to.
+-- A journal leaves room for a run: no part of an identifier, no incarnation and no reservation is
+-- past 2^62, which is half of what a store may come to.
 unfoldable pub leaves_room : Journal → Bool
 leaves_room journal =
     is_count journal.incarnation && (list_all (λ entry. is_small_ltxid entry.ltxid) journal.entries && (list_all is_small_ltxid journal.blocked
@@ -33,7 +33,8 @@ is_store (Err place) = false
 abbrev pub if_store : Result Journal ℕ → Result ⊤ Fault
 if_store read = if is_store read then Ok tt else Err (here BadImage)
 
--- a text of pairs of digits, which stands without tables and sequences, and spells the bytes of a store
+-- a text of pairs of digits, which stands without tables and sequences, and spells the bytes of a
+-- store
 unfoldable pub image_of : Bool → Data → Result (Option (List ℕ)) Fault
 image_of alone d =
     text_of d >>= λ text. if_alone alone >>= λ _. octets_in text >>= λ bytes. if_store (journal_of bytes) >>= λ _. Ok (Some bytes)

@@ -70,7 +70,8 @@ ask_of d = fixed 2 d >>= λ ds. part 1 ltxid_of ds >>= λ ltxid. Ok (event.Ask l
 abbrev pub if_second : Bool → Event → Result Event Fault
 if_second standby one = if standby then Ok one else Err (here Rule)
 
--- ["failover",connection,after,pick] is the crash with its pick plus 4. It asks for a second store once its parts are read.
+-- ["failover",connection,after,pick] is the crash with its pick plus 4. It asks for a second store
+-- once its parts are read.
 unfoldable pub failover_of : Bool → Data → Result Event Fault
 failover_of standby d =
     fixed 4 d >>= λ ds. part 1 count_of ds >>= λ connection. part 2 count_of ds >>= λ after. part 3 lost_pick_of ds >>= λ pick.

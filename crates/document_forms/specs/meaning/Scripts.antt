@@ -30,7 +30,8 @@ by_name pairs = fold (λ settings pair. put_setting settings pair.0 pair.1) [] p
 abbrev pub settings_of : Data → Result NamedValues Fault
 settings_of d = list_of (distinct bytes_eq (λ pair. pair.0) setting_of) d >>= λ pairs. Ok (by_name pairs)
 
--- a call that may stand before the last one of a request that is submitted again: no commit, no rollback and no alter
+-- a call that may stand before the last one of a request that is submitted again: no commit, no
+-- rollback and no alter
 abbrev pub is_inside : Call → Bool
 is_inside call.Rollback = false
 is_inside (call.Alter line) = false

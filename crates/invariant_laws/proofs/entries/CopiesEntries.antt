@@ -1,4 +1,5 @@
--- Over all copies of a request there is one entry at most, and it is of the last one: by what each copy has.
+-- Over all copies of a request there is one entry at most, and it is of the last one: by what each
+-- copy has.
 use Rattle.std.proofs.Common.{◌≡◌, refl, ap, ◌∙◌, Bool, true, false, ◌&&◌, ◌||◌, length, flat_map, List, [], ◌∷◌, ◌++◌, None, if◌then◌else◌, arith}
 use Rattle.std.specs.Prelude.{◌==◌, nat_le}
 use Rattle.std.specs.List.{list_all, last_or}

@@ -1,4 +1,5 @@
--- The entries of a request that is one transaction: it has one at most, and none where it ended in an error with which it is submitted again.
+-- The entries of a request that is one transaction: it has one at most, and none where it ended in
+-- an error with which it is submitted again.
 use Rattle.std.proofs.Common.{◌≡◌, refl, sym, ap, subst, ◌∙◌, Bool, true, false, ℕ, suc, zero, ◌+◌, ◌-◌, ◌≤◌, ◌<◌, ◌&&◌, ◌||◌, length, List, [], ◌∷◌, count_by, Option, Some, None, if◌then◌else◌, arith}
 use Rattle.std.specs.Prelude.{◌==◌, not, slice_get, is_some}
 use Rattle.std.specs.List.{list_all, list_any}

@@ -1,4 +1,5 @@
--- Which request a report is of: one report more is a copy of the request that follows those before it.
+-- Which request a report is of: one report more is a copy of the request that follows those before
+-- it.
 use Rattle.std.proofs.Common.{◌≡◌, refl, sym, ap, subst, ◌∙◌, Bool, true, false, ℕ, suc, ◌+◌, ◌-◌, ◌&&◌, List, [], ◌∷◌, ◌++◌, Option, Some, None, arith}
 use Rattle.std.specs.Prelude.{not, nat_lt, position, slice_get, option_and_then}
 use Rattle.std.specs.List.{list_all}
@@ -63,8 +64,9 @@ module _ (script : List Request) (request : Request) (first : Copies) (others : 
       by None = refl
       by (Some place) = let next : place + 1 ≡ suc place = omega arith in ap (slice_get (request ∷ script)) next
 
--- Where a test holds of the copies of each request, another one does behind one more report: it does where nothing is added, and where
--- the report is added to the copies of the request that follows.
+-- Where a test holds of the copies of each request, another one does behind one more report: it
+-- does where nothing is added, and where the report is added to the copies of the request that
+-- follows.
 module _ (old new : Copies → Bool) (kept : (copies : Copies) → old copies ≡ true → new copies ≡ true) (request : Request) (report : RequestReport)
     (grown : (mine : List RequestReport) → old (record { request = request; reports = mine }) ≡ true → new (record { request = request; reports = mine ++ report ∷ [] }) ≡ true) where
   pub one_copy : (script : List Request) (reports : List RequestReport) → next_of script reports ≡ Some request → list_all old (copies_of script reports) ≡ true → list_all new (copies_of script (reports ++ report ∷ [])) ≡ true

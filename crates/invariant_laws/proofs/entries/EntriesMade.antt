@@ -1,4 +1,5 @@
--- Each entry that a service's store has gained is completed exactly where the call that committed it has no statement.
+-- Each entry that a service's store has gained is completed exactly where the call that committed
+-- it has no statement.
 use Rattle.std.proofs.Common.{◌≡◌, refl, sym, ap, ◌∙◌, Bool, true, ℕ, length, List, [], ◌∷◌, ◌++◌, inl, inr, drop}
 use Rattle.std.specs.List.{list_all}
 use Rattle.std.proofs.Math.Seq.{drop-append_seam}

@@ -1,4 +1,5 @@
--- An entry of a connection's session that has its sending has it still where a client steps: one that is answered where it has its entry is answered Committed.
+-- An entry of a connection's session that has its sending has it still where a client steps: one
+-- that is answered where it has its entry is answered Committed.
 use Rattle.std.proofs.Common.{◌≡◌, refl, sym, ap, subst, ◌∙◌, true, ℕ, ◌+◌, ◌≤◌, ◌<◌, ◌||◌, length, List, ◌∷◌, Option, Some, arith}
 use Rattle.std.specs.Prelude.{not}
 use Rattle.std.specs.List.{list_all, list_any}

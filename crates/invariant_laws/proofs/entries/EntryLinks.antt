@@ -1,4 +1,5 @@
--- The connection of an entry's session is the only one with it, so the entry has the pieces of the transaction of its number there, and its settings.
+-- The connection of an entry's session is the only one with it, so the entry has the pieces of the
+-- transaction of its number there, and its settings.
 use Rattle.std.proofs.Common.{◌≡◌, ◌≢◌, refl, sym, ap, ◌∙◌, Bool, true, false, ℕ, zero, suc, ◌&&◌, List, [], ◌∷◌, filter, cond, Option, Some, None, ◌⊎◌, inl, inr}
 use Rattle.std.specs.Prelude.{◌==◌, is_some, option_and_then, slice_get}
 use Rattle.std.specs.List.{last_or, list_all}

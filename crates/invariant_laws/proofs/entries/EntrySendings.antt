@@ -1,4 +1,5 @@
--- Of the sendings under one identifier exactly one is open or committed, where there is one and no two of them are.
+-- Of the sendings under one identifier exactly one is open or committed, where there is one and no
+-- two of them are.
 use Rattle.std.proofs.Common.{◌≡◌, refl, sym, ap, ◌∙◌, Bool, true, false, ℕ, ◌+◌, ◌&&◌, ◌||◌, cond, List, [], ◌∷◌, count_by, if◌then◌else◌, arith}
 use Rattle.std.specs.List.{list_all, list_any}
 use Rattle.std.proofs.lemmas.Bool.{and_parts}

@@ -1,5 +1,5 @@
--- Of Once: an entry of the run is completed where the call that committed it has no statement, and one of the image is of no connection's session, at the
--- start and behind each event.
+-- Of Once: an entry of the run is completed where the call that committed it has no statement, and
+-- one of the image is of no connection's session, at the start and behind each event.
 use Rattle.std.proofs.Common.{◌≡◌, refl, sym, ap, ◌∙◌, Bool, true, false, ℕ, ◌+◌, ◌||◌, ◌&&◌, length, List, [], ◌∷◌, ◌++◌, take, drop, append_assoc, arith}
 use Rattle.std.specs.List.{list_all, list_any}
 use Rattle.std.proofs.Math.Seq.{take-append_seam}

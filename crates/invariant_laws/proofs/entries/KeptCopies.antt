@@ -1,4 +1,5 @@
--- Of Once: over all copies of a request there is one entry at most, and it is of the last one. At the start and behind each event.
+-- Of Once: over all copies of a request there is one entry at most, and it is of the last one. At
+-- the start and behind each event.
 use Rattle.std.proofs.Common.{◌≡◌, refl, sym, ap, subst, ◌∙◌, Bool, true, false, ℕ, suc, zero, ◌+◌, ◌<◌, ◌&&◌, append_assoc, filter, length, List, [], ◌∷◌, ◌++◌, map, Option, Some, None, if◌then◌else◌, arith}
 use Rattle.std.specs.Prelude.{◌==◌, nat_le, slice_get}
 use Rattle.std.specs.List.{list_all}

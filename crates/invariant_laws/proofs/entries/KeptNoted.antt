@@ -1,4 +1,5 @@
--- Of Once: what a client notes of its sendings is what they are, at the start and behind each event.
+-- Of Once: what a client notes of its sendings is what they are, at the start and behind each
+-- event.
 use Rattle.std.proofs.Common.{◌≡◌, refl, sym, ap, subst, ◌∙◌, Bool, true, false, ℕ, ◌+◌, ◌&&◌, cond, length, fold, map, List, [], ◌∷◌, ◌++◌, Option, Some, None, length-append, arith}
 use Rattle.std.specs.Prelude.{◌==◌, slice_get, is_some}
 use Rattle.std.specs.Cmp.Lexicographic.{pointwise}

@@ -1,4 +1,5 @@
--- Of Once: the lines on each transaction of each request that is over, at the start and behind each event.
+-- Of Once: the lines on each transaction of each request that is over, at the start and behind each
+-- event.
 use Rattle.std.proofs.Common.{◌≡◌, refl, Bool, true, false, ◌&&◌, length, []}
 use Rattle.std.specs.List.{list_all}
 use Rattle.std.proofs.lemmas.Bool.{and_parts}

@@ -1,4 +1,5 @@
--- Of Once: each entry of a connection's session has one sending that is open or committed, at the start and behind each event.
+-- Of Once: each entry of a connection's session has one sending that is open or committed, at the
+-- start and behind each event.
 use Rattle.std.proofs.Common.{◌≡◌, refl, sym, ap, subst, ◌∙◌, Bool, true, false, ℕ, suc, zero, ◌+◌, ◌≤◌, ◌<◌, ◌&&◌, cond, flat_map, List, [], ◌∷◌, ◌++◌, Option, Some, None, ◌⊎◌, inl, inr, arith}
 use Rattle.std.specs.Prelude.{◌==◌, nat_le, nat_lt, is_none, is_some, All, Contains, if◌then◌else◌}
 use Rattle.std.specs.List.{list_all, list_any}

@@ -1,5 +1,5 @@
--- Of Once: what a report has as tried is what the sendings of its request tell, and no identifier stands there twice, at the start and behind each
--- event.
+-- Of Once: what a report has as tried is what the sendings of its request tell, and no identifier
+-- stands there twice, at the start and behind each event.
 use Rattle.std.proofs.Common.{◌≡◌, refl, sym, subst, ◌∙◌, true, ℕ, length, List}
 use Rattle.std.specs.Prelude.{◌==◌, ◌&&◌}
 use Rattle.std.specs.Cmp.Lexicographic.{pointwise}

@@ -1,4 +1,5 @@
--- Where a request notes its sendings as they are, what it tells of them as tried is what the report has to tell.
+-- Where a request notes its sendings as they are, what it tells of them as tried is what the report
+-- has to tell.
 use Rattle.std.proofs.Common.{◌≡◌, refl, sym, ap, ap₂, ◌∙◌, Bool, true, false, ℕ, ◌&&◌, ◌||◌, filter, fold, map, List, [], ◌∷◌, ◌++◌, Option, Some, None, if◌then◌else◌}
 use Rattle.std.specs.Prelude.{◌==◌, not}
 use Rattle.std.specs.Cmp.Lexicographic.{pointwise}

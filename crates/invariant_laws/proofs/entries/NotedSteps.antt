@@ -1,4 +1,5 @@
--- What a step notes: a call without the mark under the identifier that the request goes by, and the answers of a reply that is shown.
+-- What a step notes: a call without the mark under the identifier that the request goes by, and the
+-- answers of a reply that is shown.
 use Rattle.std.proofs.Common.{◌≡◌, refl, sym, ap, subst, ◌∙◌, Bool, true, false, ℕ, ◌+◌, ◌≤◌, ◌&&◌, cond, length, fold, map, List, [], ◌∷◌, ◌++◌, Option, Some, None, arith}
 use Rattle.std.specs.Prelude.{◌==◌, count_by}
 use Rattle.std.specs.Cmp.Lexicographic.{pointwise}

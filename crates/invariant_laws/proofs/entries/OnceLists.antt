@@ -1,4 +1,5 @@
--- What holds of all entries of a journal holds of those that stand behind the first ones, and lists of identifiers none of which stands twice.
+-- What holds of all entries of a journal holds of those that stand behind the first ones, and lists
+-- of identifiers none of which stands twice.
 use Rattle.std.proofs.Common.{◌≡◌, refl, sym, ap, subst, ◌∙◌, Bool, true, false, ℕ, ◌+◌, ◌≤◌, ◌&&◌, ◌||◌, cond, flat_map, length, length-append, List, [], ◌∷◌, ◌++◌, Option, Some, None, ◌⊎◌, inl, inr, if◌then◌else◌, arith}
 use Rattle.std.specs.Prelude.{◌==◌, count_by, nat_le, not}
 use Rattle.std.specs.List.{list_all, list_any, last_or}

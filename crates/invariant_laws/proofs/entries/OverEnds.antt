@@ -1,4 +1,5 @@
--- Of Once: the lines on each transaction of a request that is over, by what is known of its sendings.
+-- Of Once: the lines on each transaction of a request that is over, by what is known of its
+-- sendings.
 use Rattle.std.proofs.Common.{◌≡◌, refl, sym, ap, subst, ◌∙◌, Bool, true, false, ℕ, ◌+◌, ◌<◌, ◌≤◌, ◌&&◌, ◌||◌, length, List, Option, Some, None, if◌then◌else◌, arith}
 use Rattle.std.specs.Prelude.{◌==◌, not, slice_get, is_none, is_some}
 use Rattle.std.specs.List.{list_all, list_any, last_or}

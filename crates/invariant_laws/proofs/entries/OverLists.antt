@@ -1,4 +1,5 @@
--- Entries and identifiers of lists that a request has as tried, and how the last call of a transaction ended.
+-- Entries and identifiers of lists that a request has as tried, and how the last call of a
+-- transaction ended.
 use Rattle.std.proofs.Common.{◌≡◌, refl, sym, ap, subst, ◌∙◌, Bool, true, false, ℕ, suc, zero, ◌+◌, ◌≤◌, ◌&&◌, ◌||◌, filter, fold, length, List, [], ◌∷◌, ◌++◌, map, Option, Some, None, ◌⊎◌, inl, inr, if◌then◌else◌, arith}
 use Rattle.std.specs.Prelude.{◌==◌, not, slice_get}
 use Rattle.std.specs.List.{list_all, list_any, last_or}

@@ -1,4 +1,5 @@
--- The transactions of a request by the places of its calls: the call that ends one is the last of its part, and is where its place says.
+-- The transactions of a request by the places of its calls: the call that ends one is the last of
+-- its part, and is where its place says.
 use Rattle.std.proofs.Common.{◌≡◌, refl, sym, ap, subst, ◌∙◌, Bool, true, false, ℕ, suc, zero, ◌+◌, ◌-◌, ◌<◌, ◌≤◌, cond, count_by, length, take, List, [], ◌∷◌, Option, Some, None, ◌⊎◌, inl, inr, arith}
 use Rattle.std.specs.Prelude.{◌==◌, nat_le, slice_get}
 use Rattle.std.specs.List.{list_all, last_or}

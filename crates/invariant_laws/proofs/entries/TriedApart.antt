@@ -1,4 +1,5 @@
--- No identifier stands twice in what the requests of a run have as tried, where no two of their sendings under one identifier are both open or committed.
+-- No identifier stands twice in what the requests of a run have as tried, where no two of their
+-- sendings under one identifier are both open or committed.
 use Rattle.std.proofs.Common.{◌≡◌, refl, sym, ap, subst, ◌∙◌, Bool, true, false, ℕ, ◌+◌, ◌<◌, ◌≤◌, ◌&&◌, ◌||◌, filter, flat_map, fold, length, map, List, [], ◌∷◌, ◌++◌, ◌⊎◌, inl, inr, append-nil, if◌then◌else◌, arith}
 use Rattle.std.specs.Prelude.{◌==◌, not, nat_le, nat_lt}
 use Rattle.std.specs.Cmp.Lexicographic.{pointwise_decides}

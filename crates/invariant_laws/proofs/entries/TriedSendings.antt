@@ -1,4 +1,5 @@
--- What a request has as tried are the identifiers of its sendings with a commit that are open or committed, and of no others.
+-- What a request has as tried are the identifiers of its sendings with a commit that are open or
+-- committed, and of no others.
 use Rattle.std.proofs.Common.{◌≡◌, refl, sym, subst, ◌∙◌, Bool, true, false, ℕ, ◌+◌, ◌&&◌, ◌||◌, filter, fold, length, map, List, [], ◌∷◌, ◌++◌, ◌⊎◌, inl, inr, if◌then◌else◌, arith}
 use Rattle.std.specs.Prelude.{nat_le, nat_lt}
 use Rattle.std.specs.List.{list_any}

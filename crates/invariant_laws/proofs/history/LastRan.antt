@@ -1,4 +1,5 @@
--- Where a session is one ahead of what is held, the transaction of the number held is its last one, and it ends with the call that is out.
+-- Where a session is one ahead of what is held, the transaction of the number held is its last one,
+-- and it ends with the call that is out.
 use Rattle.std.proofs.Common.{◌≡◌, refl, sym, ap, subst, ◌∙◌, Bool, true, false, ℕ, ◌+◌, ◌≤◌, ◌&&◌, ◌||◌, cond, length, length-append, List, [], ◌∷◌, ◌++◌, filter, filter_map, fold, Option, Some, None, arith, if◌then◌else◌}
 use Rattle.std.specs.Prelude.{◌==◌, not, nat_le, is_some, is_none, option_map, slice_get}
 use Rattle.std.specs.List.{last_or, cons_option}
@@ -128,7 +129,8 @@ made_ends ran sent one made = let so = made_over ran sent one made in record { e
 still_ends : (ran later : Ran) (sent : Sent) (one : Item) → later.over ≡ ran.over → EndsWith ran sent one → EndsWith later sent one
 still_ends ran later sent one same ends = record { earlier = ends.earlier; before = ends.before; did = ends.did; from = ends.from; over = same ∙ ends.over; called = ends.called }
 
--- where the answered frame that was served last made an entry, the last transaction ends with its call
+-- where the answered frame that was served last made an entry, the last transaction ends with its
+-- call
 ends_last : (commits : ℕ) (served : List Handled) (ran : Ran) (found : Option Handled) (last : Handled) → handled_from commits served ≡ true
     → ((one : Handled) → found ≡ Some one → made_entry one.served.item ≡ true → EndsWith ran one.sent one.served.item) → last_or found (filter rep_of served) ≡ Some last → made_entry last.served.item ≡ true → EndsWith (fold step ran served) last.sent last.served.item
 ends_last commits [] ran found last handled known is made = known last is made

@@ -1,5 +1,5 @@
--- The entry of a number of a connection's session has the pieces of the transaction of this number that the connection ran, and the settings at
--- its start.
+-- The entry of a number of a connection's session has the pieces of the transaction of this number
+-- that the connection ran, and the settings at its start.
 use Rattle.std.proofs.Common.{◌≡◌, refl, sym, ap, ◌∙◌, ℕ, ◌&&◌, Bool, true, false, not, List, ◌++◌, filter, Option, Some, None}
 use Rattle.std.specs.Prelude.{◌==◌, is_some, option_and_then, slice_get}
 use Rattle.std.specs.List.{list_all, last_or}

@@ -1,4 +1,5 @@
--- What a connection serves, frame by frame: what each item tells of what its session did, and that no call comes between a request's End and the next one's Begin.
+-- What a connection serves, frame by frame: what each item tells of what its session did, and that
+-- no call comes between a request's End and the next one's Begin.
 use Rattle.std.proofs.Common.{◌≡◌, refl, sym, ap, subst, ◌∙◌, ℕ, ◌&&◌, ◌||◌, Bool, true, false, not, List, [], ◌∷◌, ◌++◌, map, fold, Option, Some, None, ◌⊎◌, inl, inr}
 use Rattle.std.specs.Prelude.{is_none}
 use Rattle.std.proofs.lemmas.Bool.{and_parts, and_from, or_cases}

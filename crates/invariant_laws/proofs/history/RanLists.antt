@@ -1,4 +1,5 @@
--- Entries of a session beside what its connection ran: each has the pieces of the transaction of its number, and the settings at its start.
+-- Entries of a session beside what its connection ran: each has the pieces of the transaction of
+-- its number, and the settings at its start.
 use Rattle.std.proofs.Common.{◌≡◌, refl, sym, ap, ◌∙◌, arith, ℕ, ◌+◌, ◌&&◌, Bool, true, false, List, [], ◌∷◌, ◌++◌, length, length-append, filter, cond, Option, Some, None}
 use Rattle.std.specs.Prelude.{slice_get}
 use Rattle.std.specs.Option.{option_map_or}

@@ -1,4 +1,5 @@
--- Along the walk over legal items each entry of a session has the pieces of its session's transaction of this number.
+-- Along the walk over legal items each entry of a session has the pieces of its session's
+-- transaction of this number.
 use Rattle.std.proofs.Common.{◌≡◌, refl, sym, ap, subst, ◌∙◌, ℕ, ◌+◌, ◌&&◌, ◌||◌, Bool, true, false, not, List, [], ◌∷◌, ◌++◌, length, map, Option, Some, None, if◌then◌else◌}
 use Rattle.std.specs.List.{list_all}
 use Rattle.std.specs.Option.{option_map_or}
@@ -70,7 +71,8 @@ pub record IsNow (transaction : Transaction) (ran : Ran) : Type 0 where
   pub settings : transaction.settings ≡ ran.settings
   pub at_start : transaction.at_start ≡ ran.at_start
 
--- It has an entry for each transaction that is over; what is open is the walk's transaction, but between requests.
+-- It has an entry for each transaction that is over; what is open is the walk's transaction, but
+-- between requests.
 pub record Stands (walk : Walk) (session : SessionId) (ran : Ran) (resting : Bool) : Type 0 where
   pub count : number_of walk.stored session ≡ length ran.over
   pub many : length ran.starts ≡ length ran.over

@@ -1,4 +1,5 @@
--- What an item does to the entries that are stored and to the transactions of sessions, along the walk over legal items.
+-- What an item does to the entries that are stored and to the transactions of sessions, along the
+-- walk over legal items.
 use Rattle.std.proofs.Common.{◌≡◌, refl, sym, ap, subst, ◌∙◌, ℕ, ◌&&◌, Bool, true, false, not, List, [], ◌∷◌, ◌++◌, Option, Some, None, if◌then◌else◌}
 use Rattle.std.specs.Prelude.{nat_lt}
 use Rattle.std.specs.Option.{option_map_or}
@@ -56,14 +57,15 @@ tells_same walk x outcome = record { stored = refl; left = refl; sessions = refl
 
 -- A CALL ------------------------------------------------------------------------------------------
 
--- The entry that comes next is stored exactly where the call commits: it is the session's next one, with the pieces of the transaction, and the
--- settings at its start.
+-- The entry that comes next is stored exactly where the call commits: it is the session's next one,
+-- with the pieces of the transaction, and the settings at its start.
 pub data Stores (walk later : Walk) (session : SessionId) (made : Transaction) : Bool → Type 0 where
   Takes : (entry : Entry) (left : List Entry) → walk.left ≡ entry ∷ left → later.stored ≡ walk.stored ++ entry ∷ [] → later.left ≡ left → entry.ltxid ≡ next_of walk session → entry.pieces ≡ made.pieces
       → same_settings entry.settings made.at_start ≡ true → Stores walk later session made true
   Keeps : later.stored ≡ walk.stored → later.left ≡ walk.left → Stores walk later session made false
 
--- the transaction has the call as its last piece, and the settings that a `set` changes; it is over or goes on
+-- the transaction has the call as its last piece, and the settings that a `set` changes; it is over
+-- or goes on
 pub record Calls (walk later : Walk) (session : SessionId) (call : Call) (answers : List Answer) (draws : List Draw) : Type 0 where
   pub made : Transaction
   pub pieces : made.pieces ≡ (transaction_in walk.sessions session).pieces ++ record { call = call; answers = answers; draws = draws } ∷ []

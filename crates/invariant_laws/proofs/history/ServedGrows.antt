@@ -1,4 +1,5 @@
--- What was served on a connection stays: behind each event it is there, and what was among its items still is.
+-- What was served on a connection stays: behind each event it is there, and what was among its
+-- items still is.
 use Rattle.std.proofs.Common.{◌≡◌, refl, sym, subst, ◌∙◌, Bool, true, false, ℕ, suc, zero, fold, List, [], ◌∷◌, ◌++◌, map, Option, Some, None, if◌then◌else◌}
 use Rattle.std.specs.Prelude.{slice_get, slice_set, unwrap_or}
 use Rattle.std.specs.List.{list_any}

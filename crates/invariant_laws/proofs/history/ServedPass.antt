@@ -1,4 +1,5 @@
--- A test of what was served on each connection: behind an event it holds where it did before and holds of what the event serves.
+-- A test of what was served on each connection: behind an event it holds where it did before and
+-- holds of what the event serves.
 use Rattle.std.proofs.Common.{◌≡◌, ap, Bool, true, ℕ, ◌+◌, List, [], ◌∷◌, ◌++◌, Some, None}
 use Rattle.std.specs.List.{list_all}
 use Rattle.std.proofs.lemmas.Bool.{and_parts}

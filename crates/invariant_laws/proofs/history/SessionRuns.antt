@@ -1,4 +1,5 @@
--- Wherever a run has come to, what the history has of a connection's session is what the connection served, and it has nothing of a session that was not made.
+-- Wherever a run has come to, what the history has of a connection's session is what the connection
+-- served, and it has nothing of a session that was not made.
 use Rattle.std.proofs.Common.{◌≡◌, ◌≢◌, refl, sym, ap, subst, ◌∙◌, append-nil, Bool, true, false, ℕ, suc, zero, List, [], ◌∷◌, ◌++◌, map, Some, None, ◌⊎◌, inl, inr}
 use Rattle.std.specs.List.{list_all}
 use Rattle.std.proofs.lemmas.Bool.{and_parts}

@@ -1,4 +1,5 @@
--- What an event adds to the history, and what becomes of the frames that each connection served: a frame is served on one of them, or none.
+-- What an event adds to the history, and what becomes of the frames that each connection served: a
+-- frame is served on one of them, or none.
 use Rattle.std.proofs.Common.{◌≡◌, ◌≢◌, refl, sym, ap, subst, ◌∙◌, Bool, true, false, ℕ, ◌+◌, ◌&&◌, List, [], ◌∷◌, ◌++◌, map, Option, Some, None, ◌⊎◌, inl, inr, if◌then◌else◌}
 use Rattle.std.proofs.lemmas.Bool.{and_parts}
 use Rattle.svc_values.specs.declared.entry.SessionId.{SessionId}

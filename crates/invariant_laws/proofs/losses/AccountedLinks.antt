@@ -1,5 +1,5 @@
--- Of one connection that a request lost: its outcome was taken, or the request wants it or ended without knowing it, or no call was sent there; and
--- so it is behind a step.
+-- Of one connection that a request lost: its outcome was taken, or the request wants it or ended
+-- without knowing it, or no call was sent there; and so it is behind a step.
 use Rattle.std.proofs.Common.{◌≡◌, refl, ap, subst, ◌∙◌, Bool, true, false, ℕ, ◌&&◌, ◌||◌, length, List, [], ◌∷◌, ◌++◌, filter, Option, Some, None, ◌⊎◌, inl, inr, if◌then◌else◌}
 use Rattle.std.specs.Prelude.{not, is_some, is_none}
 use Rattle.std.specs.List.{list_all, list_any, last_or}
@@ -110,7 +110,8 @@ wanted_taken course wanted link any here = by link.held (and_parts (option_map_o
 
 -- A STEP ------------------------------------------------------------------------------------------
 
--- behind a step of what was wanted: its outcome was taken, or the request wants it still, or ended without knowing it
+-- behind a step of what was wanted: its outcome was taken, or the request wants it still, or ended
+-- without knowing it
 pub data Later (after : Course) (wanted : Wanted) : Type 0 where
   TakenNow : list_any (is_told_of wanted.ltxid) after.report.outcomes ≡ true → Later after wanted
   WantsYet : ((link : Link) → is_wanted link wanted ≡ true → wants_there after link ≡ true) → Later after wanted

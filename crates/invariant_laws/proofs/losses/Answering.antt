@@ -1,4 +1,5 @@
--- Which sending of a request a step answers: its last one, of the call whose reply is taken, or none.
+-- Which sending of a request a step answers: its last one, of the call whose reply is taken, or
+-- none.
 use Rattle.std.proofs.Common.{◌≡◌, refl, sym, ap, subst, ◌∙◌, Bool, true, false, ℕ, length, List, [], ◌∷◌, Option, Some, None}
 use Rattle.std.specs.Prelude.{◌==◌, is_none}
 use Rattle.std.proofs.lemmas.Bool.{and_parts}

@@ -1,4 +1,5 @@
--- The answer that a request takes where it asked for an outcome: it says what the item of its question does, and that item stands.
+-- The answer that a request takes where it asked for an outcome: it says what the item of its
+-- question does, and that item stands.
 use Rattle.std.proofs.Common.{◌≡◌, refl, sym, ap, subst, ◌∙◌, Bool, true, false, ℕ, length, ◌∷◌, Some, None, if◌then◌else◌}
 use Rattle.std.specs.Prelude.{◌==◌}
 use Rattle.std.specs.List.{list_all}

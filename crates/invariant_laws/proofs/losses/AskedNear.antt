@@ -1,4 +1,5 @@
--- An identifier whose outcome is asked on a connection is held on another one, so its session is near it.
+-- An identifier whose outcome is asked on a connection is held on another one, so its session is
+-- near it.
 use Rattle.std.proofs.Common.{◌≡◌, refl, sym, ap, subst, ◌∙◌, Bool, true, false, ℕ, suc, zero, ◌+◌, ◌≤◌, ◌&&◌, ◌||◌, List, [], ◌∷◌, ◌++◌, map, fold, Option, Some, None, ◌⊎◌, inl, inr, arith}
 use Rattle.std.specs.Prelude.{◌==◌, not, nat_le, is_some}
 use Rattle.std.specs.List.{list_all, list_any}

@@ -1,5 +1,5 @@
--- Where a request has asked for an outcome and the entry of that identifier is there: it sent its next call under the identifier, and no reply to
--- it was taken.
+-- Where a request has asked for an outcome and the entry of that identifier is there: it sent its
+-- next call under the identifier, and no reply to it was taken.
 use Rattle.std.proofs.Common.{◌≡◌, refl, sym, ap, subst, ◌∙◌, Bool, true, false, ℕ, ◌&&◌, length, List, [], ◌∷◌, filter, Option, Some, None, if◌then◌else◌}
 use Rattle.std.specs.Prelude.{◌==◌, is_some, flat_map, option_map}
 use Rattle.std.specs.Cmp.Lexicographic.{pointwise}
@@ -109,7 +109,8 @@ module _ (t : Traced) (whole : Invariant t) (who : ℕ) (client : Client) (here 
   abbrev row_test : ℕ → Bool
   row_test number = option_map_or (λ link. is_row before (is_current before number) (calls_on before link)) (link_at t.machine.links number) false
 
-  -- The connection whose identifier is asked is one ahead of what it holds, and what is out there is the request's next call, without the mark.
+  -- The connection whose identifier is asked is one ahead of what it holds, and what is out there
+  -- is the request's next call, without the mark.
   pub record AskedOn : Type 0 where
     pub number : ℕ
     pub link : Link

@@ -1,5 +1,6 @@
--- Of Lost: each connection that a request lost is accounted for, at the start and behind each event: its outcome was taken, or the request wants it or
--- ended without knowing it, or no call was sent there.
+-- Of Lost: each connection that a request lost is accounted for, at the start and behind each
+-- event: its outcome was taken, or the request wants it or ended without knowing it, or no call was
+-- sent there.
 use Rattle.std.proofs.Common.{◌≡◌, refl, sym, ap, subst, ◌∙◌, Bool, true, false, ℕ, ◌&&◌, ◌||◌, length, List, [], ◌∷◌, ◌++◌, map, Option, Some, None, ◌⊎◌, inl, inr}
 use Rattle.std.specs.Prelude.{not, unwrap_or, option_and_then}
 use Rattle.std.specs.List.{list_all, list_any}
@@ -130,7 +131,8 @@ module _ (t : Traced) (inv : Orderly t) (answers : answers_stand t ≡ true) (ne
         by (WasTold outcome told same) = TakenNow (told_so ended (outcomes_are t inv who new.machine step) wanted outcome told same)
         by (NotKnown ends) = WantsYet (λ link here. ap (λ (failure : Option Failed). ends_unknown (option_and_then failure_of failure)) (over_failed t inv who new.machine step lets) ∙ ends)
 
-    -- THE CONNECTION THAT IT LOSES ------------------------------------------------------------------
+    -- THE CONNECTION THAT IT LOSES
+    -- ------------------------------------------------------------------
 
     abbrev spoken_as : List Up → List Sent
     spoken_as frames = map (sent_by (owner_at now who) (call_in first.talk.phase)) frames
@@ -274,7 +276,8 @@ module _ (t : Traced) (inv : Orderly t) (answers : answers_stand t ≡ true) (ne
         by (inl quiet) = at (link_at new.machine.links number) quiet
         by (inr live) = ap (λ (found : Option Link). option_map_or (is_accounted kept) found false) lost.there ∙ lived live
 
-    -- ALL THAT IT LOST ------------------------------------------------------------------------------
+    -- ALL THAT IT LOST
+    -- ------------------------------------------------------------------------------
 
     -- those that were lost before the step
     still_accounted : (after : Course) → after.owner ≡ before.owner → after.report.outcomes ≡ before.report.outcomes ++ told_more step.input phase → ((wanted : Wanted) → wanted_in phase ≡ Some wanted → Later after wanted)

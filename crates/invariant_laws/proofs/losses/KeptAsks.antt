@@ -1,4 +1,5 @@
--- Of Lost: each Outcome that a request sent asks the identifier held on a connection that it lost, at the start and behind each event.
+-- Of Lost: each Outcome that a request sent asks the identifier held on a connection that it lost,
+-- at the start and behind each event.
 use Rattle.std.proofs.Common.{◌≡◌, ◌≢◌, refl, sym, ap, subst, ◌∙◌, Bool, true, false, ℕ, suc, ◌&&◌, ◌||◌, length, List, [], ◌∷◌, map, Option, Some, None}
 use Rattle.std.specs.Prelude.{◌==◌, not, unwrap_or, option_map}
 use Rattle.std.specs.List.{list_all}

@@ -1,4 +1,5 @@
--- Of Lost: an error that tells of an event tells of that which ended the connection whose identifier was asked last, at the start and behind each event.
+-- Of Lost: an error that tells of an event tells of that which ended the connection whose
+-- identifier was asked last, at the start and behind each event.
 use Rattle.std.proofs.Common.{◌≡◌, refl, ap, subst, ◌∙◌, Bool, true, false, ℕ, List, [], ◌∷◌, ◌++◌, Option, Some, None, if◌then◌else◌}
 use Rattle.std.specs.Prelude.{◌+◌, ◌-◌, nat_le, option_and_then}
 use Rattle.std.specs.List.{list_all, last_or}

@@ -1,4 +1,5 @@
--- Of Lost: an outcome that says committed and not completed is what its request failed with, at the start and behind each event.
+-- Of Lost: an outcome that says committed and not completed is what its request failed with, at the
+-- start and behind each event.
 use Rattle.std.proofs.Common.{◌≡◌, refl, sym, ap, subst, ◌∙◌, Bool, true, false, ℕ, ◌&&◌, ◌||◌, List, Option, None}
 use Rattle.std.specs.Prelude.{not, option_and_then}
 use Rattle.std.specs.List.{list_all}

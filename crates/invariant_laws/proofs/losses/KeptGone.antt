@@ -1,4 +1,5 @@
--- Of Lost: a connection that a request lost is no longer open, and no request has it, at the start and behind each event.
+-- Of Lost: a connection that a request lost is no longer open, and no request has it, at the start
+-- and behind each event.
 use Rattle.std.proofs.Common.{◌≡◌, ◌≢◌, refl, sym, ap, subst, ◌∙◌, Bool, true, false, ℕ, suc, zero, ◌+◌, ◌&&◌, length, List, [], ◌∷◌, Option, Some, None, ◌⊎◌, inl, inr, if◌then◌else◌, arith}
 use Rattle.std.specs.Prelude.{◌==◌, not, nat_le}
 use Rattle.std.specs.List.{list_all}

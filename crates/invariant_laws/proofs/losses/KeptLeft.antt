@@ -1,5 +1,5 @@
--- Of Lost: a request that is over, and did not lose its last connection, left no call there that may still be served, at the start and behind each
--- event.
+-- Of Lost: a request that is over, and did not lose its last connection, left no call there that
+-- may still be served, at the start and behind each event.
 use Rattle.std.proofs.Common.{◌≡◌, refl, sym, ap, subst, ◌∙◌, Bool, true, false, ℕ, suc, zero, ◌+◌, ◌≤◌, ◌&&◌, ◌||◌, cond, length, List, [], ◌∷◌, ◌++◌, map, filter, Option, Some, None, arith}
 use Rattle.std.specs.Prelude.{not, is_some, slice_get, unwrap_or}
 use Rattle.std.specs.List.{list_all, list_any, last_or}

@@ -1,5 +1,6 @@
--- Of Lost: each connection that a request lost is no longer open, and no call was sent there, or its outcome is wanted or not known, or it is blocked,
--- or its entry is stored. At the start and behind each event.
+-- Of Lost: each connection that a request lost is no longer open, and no call was sent there, or
+-- its outcome is wanted or not known, or it is blocked, or its entry is stored. At the start and
+-- behind each event.
 use Rattle.std.proofs.Common.{◌≡◌, refl, sym, ap, subst, ◌∙◌, Bool, true, false, ℕ, ◌+◌, ◌<◌, ◌&&◌, ◌||◌, List, [], ◌∷◌, filter, Option, Some, None, cond, ◌⊎◌, inl, inr, arith}
 use Rattle.std.specs.Prelude.{◌==◌, not, is_some, nat_lt, find, option_map}
 use Rattle.std.specs.List.{list_all, list_any}

@@ -1,4 +1,5 @@
--- Of Lost: each outcome that a request took is of the identifier of a connection that it lost, at the start and behind each event.
+-- Of Lost: each outcome that a request took is of the identifier of a connection that it lost, at
+-- the start and behind each event.
 use Rattle.std.proofs.Common.{◌≡◌, refl, sym, ap, subst, ◌∙◌, Bool, true, false, ℕ, ◌||◌, List, [], ◌∷◌, ◌++◌, Option, Some, None}
 use Rattle.std.specs.List.{list_all}
 use Rattle.std.specs.Option.{option_map_or}

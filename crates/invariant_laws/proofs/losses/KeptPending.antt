@@ -1,5 +1,6 @@
--- Of Lost: of the connections that a request lost at most one had a call sent and no outcome taken, and that is while the request wants an outcome, or
--- where it ended without knowing it. At the start and behind each event.
+-- Of Lost: of the connections that a request lost at most one had a call sent and no outcome taken,
+-- and that is while the request wants an outcome, or where it ended without knowing it. At the
+-- start and behind each event.
 use Rattle.std.proofs.Common.{◌≡◌, refl, sym, ap, ◌∙◌, Bool, true, false, ℕ, ◌+◌, ◌≤◌, ◌&&◌, ◌||◌, cond, length, List, [], ◌∷◌, ◌++◌, filter, Option, Some, None, ◌⊎◌, inl, inr, if◌then◌else◌, arith}
 use Rattle.std.specs.Prelude.{not, is_some, is_none, nat_le}
 use Rattle.std.specs.List.{list_all}

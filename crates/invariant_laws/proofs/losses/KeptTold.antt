@@ -1,5 +1,5 @@
--- Of Lost: where an outcome was taken that says committed and completed, the call that was sent under its identifier was shown as committed. At the
--- start and behind each event.
+-- Of Lost: where an outcome was taken that says committed and completed, the call that was sent
+-- under its identifier was shown as committed. At the start and behind each event.
 use Rattle.std.proofs.Common.{◌≡◌, refl, sym, ap, subst, ◌∙◌, Bool, true, false, ℕ, ◌&&◌, length, List, [], ◌∷◌, ◌++◌, map, Option, Some, None}
 use Rattle.std.specs.Prelude.{◌==◌, slice_get, is_none}
 use Rattle.std.specs.List.{list_all, list_any}
@@ -143,7 +143,8 @@ module _ (t : Traced) (whole : Invariant t) (new : Traced) (setting : new.settin
     abbrev sendings_after : List Sending
     sendings_after = (scan_by before.owner step.after.steps).sendings
 
-    -- CALLS AND SENDINGS STAY -----------------------------------------------------------------------
+    -- CALLS AND SENDINGS STAY
+    -- -----------------------------------------------------------------------
 
     calls_more : (more : List ShownCall) × (calls_after ≡ before.report.calls ++ more)
     calls_more = by (shown_step t.setting now whole.orderly.script.talks who new.machine step)
@@ -164,7 +165,8 @@ module _ (t : Traced) (whole : Invariant t) (new : Traced) (setting : new.settin
         ∙ sendings_more (shows_so (before.report.calls ++ calls_more.0) x) (λ sending answers here. here)
         (any_weaker (shows_so before.report.calls x) (shows_so (before.report.calls ++ calls_more.0) x) (sendings_of before) (shows_further before.report.calls calls_more.0 x) any)
 
-    -- THE OUTCOME -----------------------------------------------------------------------------------
+    -- THE OUTCOME
+    -- -----------------------------------------------------------------------------------
 
     module _ (asking : Asking) (alive : Bool) (input : step.input ≡ Took (down.OutcomeIs true true) alive) (phase : step.before.talk.phase ≡ Asked asking) where
       abbrev x : Ltxid
@@ -175,7 +177,8 @@ module _ (t : Traced) (whole : Invariant t) (new : Traced) (setting : new.settin
           subst (λ (q : Phase). Fits t.setting.terms step.before.request.calls account_before (before_fits t.setting now whole.orderly.script.talks who new.machine step).gone q) is
           (before_fits t.setting now whole.orderly.script.talks who new.machine step).fits
 
-      -- THE CALL IS SHOWN ---------------------------------------------------------------------------
+      -- THE CALL IS SHOWN
+      -- ---------------------------------------------------------------------------
 
       pub shown_is : act.shown ≡ Some (completed_as asking)
       shown_is =

@@ -1,4 +1,5 @@
--- Of Lost: the identifier that a request goes by was not asked for by itself, at the start and behind each event.
+-- Of Lost: the identifier that a request goes by was not asked for by itself, at the start and
+-- behind each event.
 use Rattle.std.proofs.Common.{◌≡◌, ◌≢◌, refl, sym, ap, subst, ◌∙◌, Bool, true, false, ℕ, ◌&&◌, cond, List, [], ◌∷◌, filter, Option, Some, None}
 use Rattle.std.specs.Prelude.{is_none, is_some}
 use Rattle.std.specs.List.{list_all, last_or}

@@ -1,5 +1,6 @@
--- Of Lost: what a request wants is held on a connection that it lost, which the event that it knows ended; and a call without the mark that is
--- out there is the one behind those that were shown. At the start and behind each event.
+-- Of Lost: what a request wants is held on a connection that it lost, which the event that it knows
+-- ended; and a call without the mark that is out there is the one behind those that were shown. At
+-- the start and behind each event.
 use Rattle.std.proofs.Common.{◌≡◌, refl, sym, ap, subst, ◌∙◌, Bool, true, false, ℕ, ◌||◌, List, [], ◌∷◌, ◌++◌, Option, Some, None, ◌⊎◌, inl, inr, ◌+◌, ◌&&◌, length, filter, map, arith}
 use Rattle.std.specs.Prelude.{is_none, is_some, unwrap_or, not, ◌==◌}
 use Rattle.std.specs.List.{list_all, list_any, last_or}
@@ -153,7 +154,8 @@ module _ (t : Traced) (inv : Orderly t) (next : want_next t ≡ true) (new : Tra
     abbrev spoken : List Sent
     spoken = spoken_as (frames_of step.pool (unwrap_or step.connection 0) act)
 
-    -- behind its step it wants what it did, or nothing, or what is held on the connection that it lost
+    -- behind its step it wants what it did, or nothing, or what is held on the connection that it
+    -- lost
     pub data WantsNow : Type 0 where
       AsItWas : wanted_in step.after.talk.phase ≡ wanted_in phase → act.shown ≡ None → WantsNow
       NoLonger : wanted_in step.after.talk.phase ≡ None → WantsNow
@@ -276,7 +278,8 @@ module _ (t : Traced) (inv : Orderly t) (next : want_next t ≡ true) (new : Tra
             (λ x goes. ap (λ (found : Option Ltxid). same_held found link.held) (sym goes) ∙ goes_held connection link (has ∙ some) there) (inl (refl, shown))
             (ap (λ (doing : Doing). doing.talk.phase) (equal ∙ same) ∙ ap (λ (i : Input). (step_on i).0.phase) is)
 
-    -- THE REQUEST GOES ON ---------------------------------------------------------------------------
+    -- THE REQUEST GOES ON
+    -- ---------------------------------------------------------------------------
 
     goes_so : list_all (is_gone t.machine.links (courses_of t)) (lost_links before) ≡ true → wanted_on new.machine.links (lost_links after) count_after (wanted_in step.after.talk.phase) ≡ true
     goes_so gone = by wants_now

@@ -1,4 +1,5 @@
--- A call that an outcome shows is a lone commit: its entry is completed, and ends with the call that was sent under its identifier.
+-- A call that an outcome shows is a lone commit: its entry is completed, and ends with the call
+-- that was sent under its identifier.
 use Rattle.std.proofs.Common.{◌≡◌, refl, sym, ap, ◌∙◌, Bool, true, false, ℕ, ◌+◌, ◌&&◌, length, drop, take, List, [], ◌∷◌, ◌++◌, filter, Option, Some, None, ◌⊎◌, inl, inr}
 use Rattle.std.specs.Prelude.{◌==◌, not, slice_get, find, option_map}
 use Rattle.std.specs.List.{list_all, list_any}

@@ -1,5 +1,5 @@
--- A sending with a commit that was not answered, on a connection that its request lost: where the request runs again without having shown its call, its
--- identifier is blocked.
+-- A sending with a commit that was not answered, on a connection that its request lost: where the
+-- request runs again without having shown its call, its identifier is blocked.
 use Rattle.std.proofs.Common.{◌≡◌, refl, sym, ap, subst, ◌∙◌, Bool, true, false, ℕ, ◌+◌, ◌&&◌, ◌||◌, filter, List, [], ◌∷◌, Option, Some, None, ◌⊎◌, inl, inr}
 use Rattle.std.specs.Prelude.{◌==◌, not, is_none}
 use Rattle.std.specs.List.{list_all, list_any, last_or}

@@ -1,4 +1,5 @@
--- A test of each request that speaks of the connections that it lost: it is kept where a step of the request keeps it.
+-- A test of each request that speaks of the connections that it lost: it is kept where a step of
+-- the request keeps it.
 use Rattle.std.proofs.Common.{◌≡◌, refl, sym, ap, subst, ◌∙◌, Bool, true, false, ℕ, ◌&&◌, ◌||◌, length, List, [], ◌∷◌, Option, ◌⊎◌, inl, inr}
 use Rattle.std.specs.List.{list_all, list_any}
 use Rattle.std.specs.Option.{option_map_or}
@@ -101,7 +102,8 @@ module _ (t : Traced) (inv : Orderly t) (new : Traced) (setting : new.setting �
         more_any (λ number. option_map_or test (link_at new.machine.links number) false) (lost_links course_before) (lost_links course_ended)
         (lost_begins (λ number. ⊥) step.before.connection (lost_links course_before) (lost_links course_ended) (over_lost t inv who new.machine step lets)) any
 
-  -- What keeps a test of each request: it holds of others still, of one that begins, and of the one that steps.
+  -- What keeps a test of each request: it holds of others still, of one that begins, and of the one
+  -- that steps.
   pub record KeepsLost (test : List Link → Course → Bool) : Type 0 where
     pub others : (course : Course) → gone_all course ≡ true → test t.machine.links course ≡ true → test new.machine.links course ≡ true
     pub begins : (who place : ℕ) (request : Request) → test t.machine.links (course_now t.setting who place (begun t.setting.terms now.event now.tick request)) ≡ true

@@ -1,4 +1,5 @@
--- A test of each outcome that a request took: behind an event it holds where it did before and holds of what is told in the event.
+-- A test of each outcome that a request took: behind an event it holds where it did before and
+-- holds of what is told in the event.
 use Rattle.std.proofs.Common.{◌≡◌, refl, sym, ap, subst, ◌∙◌, Bool, true, ℕ, length, List}
 use Rattle.std.specs.List.{list_all}
 use Rattle.std.proofs.lemmas.Bool.{and_from}

@@ -1,4 +1,5 @@
--- The outcomes that a request took, where it takes a step: as before, or one more, of the identifier that it asked.
+-- The outcomes that a request took, where it takes a step: as before, or one more, of the
+-- identifier that it asked.
 use Rattle.std.proofs.Common.{◌≡◌, refl, sym, ap, ◌∙◌, Bool, true, false, ℕ, length, List, [], ◌∷◌, ◌++◌, map, fold, Option, Some, None}
 use Rattle.std.specs.Prelude.{slice_get}
 use Rattle.std.proofs.lemmas.List.{append-nil, map-append}

@@ -1,4 +1,5 @@
--- The reply that a request takes answers what was sent last, and says what the item of that frame does.
+-- The reply that a request takes answers what was sent last, and says what the item of that frame
+-- does.
 use Rattle.std.proofs.Common.{◌≡◌, refl, sym, ap, subst, ◌∙◌, Bool, true, false, ℕ, ◌+◌, ◌≤◌, ◌&&◌, ◌||◌, filter, length, length-append, List, [], ◌∷◌, ◌++◌, map, Option, Some, None, ◌⊎◌, inl, inr, if◌then◌else◌, arith}
 use Rattle.std.specs.Prelude.{◌==◌, nat_le, is_none, option_map}
 use Rattle.std.specs.List.{list_any, last_or}

@@ -1,5 +1,5 @@
--- A connection that is not open, and that no request has, stays as it is in each event: what was sent and taken, what is held, and which event
--- ended it.
+-- A connection that is not open, and that no request has, stays as it is in each event: what was
+-- sent and taken, what is held, and which event ended it.
 use Rattle.std.proofs.Common.{◌≡◌, ◌≢◌, refl, sym, ap, subst, ◌∙◌, Bool, true, false, ℕ, suc, zero, List, [], ◌∷◌, map, count_by, Option, Some, None, ◌⊎◌, inl, inr, if◌then◌else◌}
 use Rattle.std.specs.Prelude.{◌==◌, unwrap_or, option_map}
 use Rattle.std.specs.List.{list_all}

@@ -1,4 +1,5 @@
--- What may still be served on a connection: frames come to it from a request that speaks on it alone, and so nothing of another request does.
+-- What may still be served on a connection: frames come to it from a request that speaks on it
+-- alone, and so nothing of another request does.
 use Rattle.std.proofs.Common.{◌≡◌, ◌≢◌, refl, sym, ap, subst, ◌∙◌, Bool, true, false, ℕ, ◌-◌, List, [], ◌∷◌, ◌++◌, map, fold, Option, Some, None, ◌⊎◌, inl, inr, if◌then◌else◌}
 use Rattle.std.specs.Prelude.{nat_le}
 use Rattle.std.specs.List.{list_any}

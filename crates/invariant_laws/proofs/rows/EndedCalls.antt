@@ -1,4 +1,5 @@
--- What the calls that were shown tell of a place: how the call of it ended, and which transaction it is of.
+-- What the calls that were shown tell of a place: how the call of it ended, and which transaction
+-- it is of.
 use Rattle.std.proofs.Common.{◌≡◌, refl, sym, ap, ◌∙◌, Bool, true, false, ℕ, suc, zero, ◌+◌, ◌<◌, ◌||◌, cond, length, take, List, [], ◌∷◌, ◌++◌, Option, Some, None, arith}
 use Rattle.std.specs.Prelude.{slice_get}
 use Rattle.std.specs.List.{last_or}

@@ -1,4 +1,5 @@
--- Of Shown: on a connection that a request lost, the answered frame that was sent last is its own, at the start and behind each event.
+-- Of Shown: on a connection that a request lost, the answered frame that was sent last is its own,
+-- at the start and behind each event.
 use Rattle.std.proofs.Common.{◌≡◌, refl, sym, ap, subst, ◌∙◌, Bool, true, false, ℕ, filter, length, List, [], ◌∷◌, ◌++◌, map, Option, Some, None}
 use Rattle.std.specs.Prelude.{unwrap_or}
 use Rattle.std.specs.List.{list_all, last_or}

@@ -1,4 +1,5 @@
--- Of Shown: the calls that a request sent on each connection are in a row, at the start and behind each event.
+-- Of Shown: the calls that a request sent on each connection are in a row, at the start and behind
+-- each event.
 use Rattle.std.proofs.Common.{◌≡◌, ◌≢◌, refl, sym, ap, subst, ◌∙◌, Bool, true, false, ℕ, ◌+◌, ◌&&◌, ◌||◌, length, List, [], ◌∷◌, ◌++◌, map, Option, Some, None}
 use Rattle.std.specs.Prelude.{◌==◌, not, is_none, unwrap_or, option_map}
 use Rattle.std.specs.List.{list_all, list_any, last_or}

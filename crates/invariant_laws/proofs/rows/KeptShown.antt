@@ -1,4 +1,5 @@
--- Of Shown: each call that was shown is from an item, or from an outcome, at the start and behind each event.
+-- Of Shown: each call that was shown is from an item, or from an outcome, at the start and behind
+-- each event.
 use Rattle.std.proofs.Common.{◌≡◌, refl, sym, ap, subst, ◌∙◌, Bool, true, false, ℕ, ◌+◌, ◌&&◌, ◌||◌, length, List, [], ◌∷◌, ◌++◌, map, Option, Some, None, arith}
 use Rattle.std.specs.Prelude.{◌==◌, slice_get, option_map}
 use Rattle.std.specs.List.{list_all, list_any, cons_option}
@@ -203,9 +204,11 @@ module _ (old new : Traced) (whole : Invariant old) (rows : list_all (course_row
       (λ keep. steps_given number new.machine step (course_now old.setting number (length step.client.past) step.after) refl refl refl refl refl)
       (λ over. steps_given number new.machine step (course_over number (length step.client.past) (past_of old.setting.terms step.after)) refl refl refl refl refl) given
 
--- WHAT IS TOLD AS TRIED ----------------------------------------------------------------------------
+-- WHAT IS TOLD AS TRIED
+-- ----------------------------------------------------------------------------
 
--- of a request whose report tells what it tried: the sending of such an outcome, and its identifier among those tried
+-- of a request whose report tells what it tried: the sending of such an outcome, and its identifier
+-- among those tried
 tried_completed : (course : Course) → tells_tried course ≡ true → has_completed course ≡ true → completed_sent course ≡ true
 tried_completed course tells here =
     any_goes (λ (o : Outcome). o.committed && (o.completed && list_any (λ ids. holds ids o.ltxid) course.report.tried)) (told_by (sendings_of course))

@@ -1,4 +1,5 @@
--- The calls shown since the last purge, and those before it, are all that were shown; under a rule that never purges there are none before.
+-- The calls shown since the last purge, and those before it, are all that were shown; under a rule
+-- that never purges there are none before.
 use Rattle.std.proofs.Common.{◌≡◌, refl, sym, ap, ◌∙◌, Bool, true, false, ℕ, ◌+◌, List, [], ◌∷◌, ◌++◌, length, fold, Option, Some, None, arith}
 use Rattle.std.specs.Prelude.{slice_get}
 use Rattle.std.proofs.lemmas.List.{length_push}

@@ -1,4 +1,5 @@
--- The last call on a connection, by what was sent last; and where a connection comes to its first calls.
+-- The last call on a connection, by what was sent last; and where a connection comes to its first
+-- calls.
 use Rattle.std.proofs.Common.{◌≡◌, refl, ap, ◌∙◌, Bool, true, false, ◌&&◌, ◌||◌, fold, filter, List, [], ◌∷◌, Option, Some, None, if◌then◌else◌}
 use Rattle.std.specs.Prelude.{not, is_some, is_none}
 use Rattle.std.specs.List.{list_all, list_any, last_or}

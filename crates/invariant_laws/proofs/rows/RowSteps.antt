@@ -192,7 +192,8 @@ module _ (setting : Setting) (m : Machine) (talks : AllTalk setting.terms m.clie
       let before : length state.track.recorder.calls ≤ state.track.call = fits.1.repeating.before in
       omega arith
 
-  -- THE CALL WITHOUT THE MARK ----------------------------------------------------------------------
+  -- THE CALL WITHOUT THE MARK
+  -- ----------------------------------------------------------------------
 
   pub sent_scripts : (front : List Up) (kept : List Draw) (call : Call) → one.done.act.send ≡ front ++ up.Call false kept call ∷ [] → slice_get calls_are (length account_first.shown) ≡ Some call
   sent_scripts front kept call sends =

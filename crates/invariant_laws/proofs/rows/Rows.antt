@@ -1,4 +1,5 @@
--- The calls of a request on a connection are in a row: as more calls are shown, and with one more behind them.
+-- The calls of a request on a connection are in a row: as more calls are shown, and with one more
+-- behind them.
 use Rattle.std.proofs.Common.{◌≡◌, refl, sym, ap, subst, ◌∙◌, Bool, true, false, ℕ, suc, zero, ◌+◌, ◌≤◌, ◌&&◌, ◌||◌, length, List, [], ◌∷◌, ◌++◌, Option, Some, None, ◌⊎◌, ⊎_elim, arith}
 use Rattle.std.specs.Prelude.{◌==◌, not, nat_le, take, slice_get, if◌then◌else◌}
 use Rattle.std.specs.List.{list_all, last_or}

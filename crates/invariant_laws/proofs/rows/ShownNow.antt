@@ -1,4 +1,5 @@
--- The call that a step shows is that of the item of its frame, or an outcome said that it was committed and completed.
+-- The call that a step shows is that of the item of its frame, or an outcome said that it was
+-- committed and completed.
 use Rattle.std.proofs.Common.{◌≡◌, refl, sym, ap, subst, ◌∙◌, Bool, true, false, ℕ, ◌&&◌, length, List, [], ◌∷◌, Option, Some, None}
 use Rattle.std.specs.Prelude.{◌==◌, slice_get}
 use Rattle.std.specs.List.{list_all, list_any, last_or}

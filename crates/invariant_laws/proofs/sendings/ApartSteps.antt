@@ -1,4 +1,5 @@
--- What sendings share an identifier with others, where a client steps: one that is answered with no more than before, one that is made with none.
+-- What sendings share an identifier with others, where a client steps: one that is answered with no
+-- more than before, one that is made with none.
 use Rattle.std.proofs.Common.{◌≡◌, ◌≢◌, refl, sym, ap, subst, ◌∙◌, Bool, true, false, ℕ, ◌+◌, ◌<◌, ◌&&◌, ◌||◌, cond, filter, length, List, [], ◌∷◌, Option, Some, None, ◌⊎◌, inl, inr, arith, fold, ◌++◌}
 use Rattle.std.specs.Prelude.{◌==◌, not, is_some}
 use Rattle.std.specs.List.{list_all, list_any}
@@ -44,7 +45,8 @@ use Rattle.invariant_laws.proofs.sendings.KeptOnLinks.{on_from}
 
 -- A NEW ONE ---------------------------------------------------------------------------------------
 
--- one that waits now shares its identifier with no other that is open or committed, where none of the others waits there
+-- one that waits now shares its identifier with no other that is open or committed, where none of
+-- the others waits there
 module _ (t : Traced) (apart : sessions_differ t ≡ true) (made other : Sending) (made_on : is_on_link t made ≡ true) (other_on : is_on_link t other ≡ true) (made_fated : fated t.machine.links made ≡ true) (other_fated : fated t.machine.links other ≡ true)
     (untaken : made.taken ≡ None) (alone : made.connection ≡ other.connection → other.taken ≡ None → (link : Link) → link_at t.machine.links other.connection ≡ Some link → Waits other link → ⊥) where
   one_connection : made.ltxid ≡ other.ltxid → made.connection ≡ other.connection

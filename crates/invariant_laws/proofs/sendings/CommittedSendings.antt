@@ -1,5 +1,5 @@
--- Of a connection whose session has one entry more than what is held says: the call that made it is a sending of the request that lost the connection,
--- under the identifier that is held there.
+-- Of a connection whose session has one entry more than what is held says: the call that made it is
+-- a sending of the request that lost the connection, under the identifier that is held there.
 use Rattle.std.proofs.Common.{◌≡◌, refl, sym, ap, subst, ◌∙◌, Bool, true, false, ℕ, ◌<◌, ◌&&◌, ◌||◌, List, [], ◌∷◌, filter, Option, Some, None, ◌⊎◌, inl, inr, if◌then◌else◌, arith}
 use Rattle.std.specs.Prelude.{◌==◌, not, is_some, is_none, nat_le, nat_lt}
 use Rattle.std.specs.Cmp.Lexicographic.{pointwise}
@@ -155,7 +155,8 @@ pair_sends count sent sending pair here =
     by (up.Call false kept call) is commit = subst (λ (one : Call). has_commit one ≡ true) (sym ((same_call_decides sending.call call).0 is)) commit
     by frame is commit = absurd (let none : ⊥ = cc in none)
 
--- it is one with a commit, under this identifier and of the call at this place, and no reply to it was taken
+-- it is one with a commit, under this identifier and of the call at this place, and no reply to it
+-- was taken
 abbrev pub is_unanswered : Ltxid → ℕ → Sending → Bool
 is_unanswered x count sending = same_ltxid sending.ltxid x && ((sending.at == count) && (has_commit sending.call && is_none sending.taken))
 

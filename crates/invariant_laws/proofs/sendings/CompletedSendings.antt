@@ -1,4 +1,5 @@
--- An outcome that says committed and completed is of a sending with a commit that is open or committed, and stays so.
+-- An outcome that says committed and completed is of a sending with a commit that is open or
+-- committed, and stays so.
 use Rattle.std.proofs.Common.{◌≡◌, refl, sym, ap, subst, ◌∙◌, Bool, true, false, ℕ, ◌&&◌, filter, fold, length, List, [], ◌∷◌, Option, Some, None, ◌⊎◌, inl, inr, if◌then◌else◌}
 use Rattle.std.specs.Prelude.{◌==◌, not, is_none, is_some}
 use Rattle.std.specs.List.{list_all, list_any, last_or}

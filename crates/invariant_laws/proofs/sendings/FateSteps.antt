@@ -1,4 +1,5 @@
--- Where a client steps: what it sends, which fates of sendings stay, and what is known where a reply is taken.
+-- Where a client steps: what it sends, which fates of sendings stay, and what is known where a
+-- reply is taken.
 use Rattle.std.proofs.Common.{◌≡◌, ◌≢◌, refl, sym, ap, subst, ◌∙◌, Bool, true, false, ℕ, ◌≤◌, ◌&&◌, ◌||◌, fold, length, List, [], ◌∷◌, ◌++◌, Option, Some, None, ◌⊎◌, inl, inr}
 use Rattle.std.specs.Prelude.{◌==◌, not, is_some}
 use Rattle.std.specs.List.{list_all, list_any}

@@ -1,4 +1,5 @@
--- Where a request takes a reply its sendings are fated on: its last one is answered, and no other one waits on the connection.
+-- Where a request takes a reply its sendings are fated on: its last one is answered, and no other
+-- one waits on the connection.
 use Rattle.std.proofs.Common.{◌≡◌, refl, sym, ap, subst, ◌∙◌, Bool, true, false, ℕ, ◌+◌, ◌&&◌, cond, filter, fold, length, List, [], ◌∷◌, map, Option, Some, None}
 use Rattle.std.specs.Prelude.{◌==◌, is_some, is_none, unwrap_or}
 use Rattle.std.specs.List.{list_all, list_any}

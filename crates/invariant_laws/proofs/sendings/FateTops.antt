@@ -1,4 +1,5 @@
--- Of a request that runs: its last sending is what is out on its connection, and no other sending of it is open under the identifier held there.
+-- Of a request that runs: its last sending is what is out on its connection, and no other sending
+-- of it is open under the identifier held there.
 use Rattle.std.proofs.Common.{◌≡◌, refl, sym, ap, subst, ◌∙◌, Bool, true, false, ℕ, ◌&&◌, ◌||◌, filter, flat_map, fold, length, List, [], ◌∷◌, ◌++◌, Option, Some, None, ◌⊎◌, inl, inr, if◌then◌else◌}
 use Rattle.std.specs.Prelude.{◌==◌, option_map}
 use Rattle.std.specs.List.{list_all, list_any, last_or}

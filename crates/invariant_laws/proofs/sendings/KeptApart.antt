@@ -1,4 +1,5 @@
--- Of Once: two sendings under one identifier are on one connection, and at most one of them is open or committed, at the start and behind each event.
+-- Of Once: two sendings under one identifier are on one connection, and at most one of them is open
+-- or committed, at the start and behind each event.
 use Rattle.std.proofs.Common.{◌≡◌, refl, sym, ap, subst, ◌∙◌, Bool, true, false, ℕ, ◌+◌, ◌&&◌, ◌||◌, cond, filter, flat_map, fold, length, List, [], ◌∷◌, Some, None}
 use Rattle.std.specs.Prelude.{◌==◌, is_some}
 use Rattle.std.specs.List.{list_all, list_any}

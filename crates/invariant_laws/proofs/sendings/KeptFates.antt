@@ -1,4 +1,5 @@
--- Of Once: what became of each sending is told by its connection, at the start and behind each event.
+-- Of Once: what became of each sending is told by its connection, at the start and behind each
+-- event.
 use Rattle.std.proofs.Common.{◌≡◌, ◌≢◌, refl, sym, ap, subst, ◌∙◌, Bool, true, false, ℕ, ◌&&◌, filter, fold, length, List, [], ◌∷◌, ◌++◌, Option, Some, None}
 use Rattle.std.specs.Prelude.{◌==◌}
 use Rattle.std.specs.List.{list_all, list_any}

@@ -1,5 +1,6 @@
--- Of Once: one that was answered is of a call that was shown with these answers. One that was not is of the next call, or its identifier is blocked, or
--- its call was shown as committed. At the start and behind each event.
+-- Of Once: one that was answered is of a call that was shown with these answers. One that was not
+-- is of the next call, or its identifier is blocked, or its call was shown as committed. At the
+-- start and behind each event.
 use Rattle.std.proofs.Common.{◌≡◌, refl, sym, ap, subst, ◌∙◌, Bool, true, false, ℕ, ◌&&◌, ◌||◌, cond, filter, fold, length, List, [], ◌∷◌, ◌++◌, map, Option, Some, None}
 use Rattle.std.specs.Prelude.{not, is_none}
 use Rattle.std.specs.List.{list_all, list_any, last_or}

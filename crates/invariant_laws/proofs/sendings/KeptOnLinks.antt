@@ -1,4 +1,5 @@
--- Of Once: the identifier of a sending is one of its connection's session, at the start and behind each event.
+-- Of Once: the identifier of a sending is one of its connection's session, at the start and behind
+-- each event.
 use Rattle.std.proofs.Common.{◌≡◌, refl, sym, ap, subst, ◌∙◌, Bool, true, false, ℕ, ◌||◌, filter, length, List, Option, Some, None}
 use Rattle.std.specs.Prelude.{not}
 use Rattle.std.specs.List.{list_all}

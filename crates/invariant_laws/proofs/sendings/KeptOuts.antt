@@ -1,4 +1,5 @@
--- Of Once: a call with a commit that is out on a connection has its sending there, which waits under the identifier held, at the start and behind each event.
+-- Of Once: a call with a commit that is out on a connection has its sending there, which waits
+-- under the identifier held, at the start and behind each event.
 use Rattle.std.proofs.Common.{◌≡◌, ◌≢◌, refl, sym, ap, subst, ◌∙◌, Bool, true, false, ℕ, suc, zero, ◌+◌, ◌&&◌, cond, filter, flat_map, fold, length, List, [], ◌∷◌, ◌++◌, Option, Some, None, ◌⊎◌, inl, inr, arith}
 use Rattle.std.specs.Prelude.{◌==◌, is_some, is_none}
 use Rattle.std.specs.List.{list_all, list_any, last_or}

@@ -1,4 +1,5 @@
--- Of Once: each sending is of its script's call, on a connection that its request held, at the start and behind each event.
+-- Of Once: each sending is of its script's call, on a connection that its request held, at the
+-- start and behind each event.
 use Rattle.std.proofs.Common.{◌≡◌, refl, sym, ap, subst, ◌∙◌, Bool, true, false, ℕ, fold, length, List, [], ◌∷◌, ◌++◌, Option, Some}
 use Rattle.std.specs.Prelude.{◌==◌, slice_get}
 use Rattle.std.specs.List.{list_all, list_any, cons_option}

@@ -1,4 +1,5 @@
--- Of Once: of the sendings with a commit of one transaction of a request all but the last are settled, at the start and behind each event.
+-- Of Once: of the sendings with a commit of one transaction of a request all but the last are
+-- settled, at the start and behind each event.
 use Rattle.std.proofs.Common.{◌≡◌, refl, sym, ap, subst, ◌∙◌, Bool, true, false, ℕ, ◌<◌, ◌&&◌, ◌||◌, cond, filter, fold, length, List, [], ◌∷◌, ◌++◌, map, Option, Some, None, if◌then◌else◌, arith}
 use Rattle.std.specs.Prelude.{◌==◌, not, nat_le, is_none, is_some, option_and_then, slice_get}
 use Rattle.std.specs.List.{list_all, list_any, last_or}

@@ -1,4 +1,5 @@
--- Of Once: each call that was shown as committed has a sending at its place whose entry is there, at the start and behind each event.
+-- Of Once: each call that was shown as committed has a sending at its place whose entry is there,
+-- at the start and behind each event.
 use Rattle.std.proofs.Common.{◌≡◌, refl, sym, ap, subst, ◌∙◌, Bool, true, false, ℕ, ◌+◌, ◌<◌, ◌≤◌, ◌&&◌, cond, filter, flat_map, fold, length, List, [], ◌∷◌, ◌++◌, map, Option, Some, ◌⊎◌, inl, inr, arith}
 use Rattle.std.specs.Prelude.{◌==◌, is_none, is_some, nat_le}
 use Rattle.std.specs.List.{list_all, list_any}

@@ -1,4 +1,5 @@
--- What is known of a sending by the calls that were shown and the outcomes that were taken stays so where more are.
+-- What is known of a sending by the calls that were shown and the outcomes that were taken stays so
+-- where more are.
 use Rattle.std.proofs.Common.{◌≡◌, refl, ap, ◌∙◌, Bool, true, false, ◌&&◌, ◌||◌, length, List, [], ◌∷◌, ◌++◌, Option, Some, None, ◌⊎◌, inl, inr}
 use Rattle.std.specs.Prelude.{◌==◌, not}
 use Rattle.std.specs.List.{list_any}

@@ -1,4 +1,5 @@
--- What is known of the sendings of a request behind an input: of the one that is answered, and of those before it.
+-- What is known of the sendings of a request behind an input: of the one that is answered, and of
+-- those before it.
 use Rattle.std.proofs.Common.{◌≡◌, refl, sym, ap, subst, ◌∙◌, Bool, true, false, ℕ, ◌&&◌, ◌||◌, cond, filter, length, List, [], ◌∷◌, ◌++◌, map, Option, Some, None, inl, inr}
 use Rattle.std.specs.Prelude.{◌==◌, not, slice_get, is_none, unwrap_or}
 use Rattle.std.specs.List.{list_all, list_any}
@@ -170,7 +171,8 @@ module _ (t : Traced) (whole : Invariant t) (new : Traced) (setting : new.settin
 
   -- WHAT IS HEARD ---------------------------------------------------------------------------------
 
-  -- the calls that were shown then, and the sendings: nothing more; the last one answered; or the next call shown by an outcome
+  -- the calls that were shown then, and the sendings: nothing more; the last one answered; or the
+  -- next call shown by an outcome
   pub data HeardAs : List ShownCall → List Sending → Type 0 where
     Quietly : one.done.act.shown ≡ None → HeardAs calls sendings
     Replied : (shown : Shown) (state : Living) (taking : Taking t whole.orderly whole.once.apart new who step) (top : Sending) (rest : List Sending) → step.before.talk.phase ≡ Running state → taking.reply.frame ≡ down.Reply shown.answers shown.draws shown.ltxid → sendings ≡ top ∷ rest → top.at ≡ length calls

@@ -1,4 +1,5 @@
--- Of a connection: what is held rises with each reply that is taken, and above what it was where the reply says Committed.
+-- Of a connection: what is held rises with each reply that is taken, and above what it was where
+-- the reply says Committed.
 use Rattle.std.proofs.Common.{◌≡◌, refl, sym, ap, subst, ◌∙◌, Bool, true, false, ℕ, suc, ◌+◌, ◌≤◌, ◌<◌, ◌&&◌, cond, count_by, filter, filter_map, length, length-append, List, [], ◌∷◌, ◌++◌, Option, Some, None, ◌⊎◌, inl, inr, arith, le_refl}
 use Rattle.std.specs.Prelude.{nat_le}
 use Rattle.std.specs.List.{last_or}

@@ -1,4 +1,5 @@
--- The sendings that a step makes: on the connection on which the request speaks, under the identifier that is held there then.
+-- The sendings that a step makes: on the connection on which the request speaks, under the
+-- identifier that is held there then.
 use Rattle.std.proofs.Common.{◌≡◌, refl, sym, ap, subst, ◌∙◌, Bool, true, false, ℕ, ◌&&◌, ◌||◌, filter, flat_map, fold, length, List, [], ◌∷◌, Option, Some, None, ◌⊎◌, inl, inr, if◌then◌else◌}
 use Rattle.std.specs.Prelude.{not}
 use Rattle.std.specs.List.{list_all, list_any}

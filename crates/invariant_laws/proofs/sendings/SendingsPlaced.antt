@@ -1,4 +1,5 @@
--- All sendings where a client steps: those of its request stand in place of what they were; so what one of them was, one of them is.
+-- All sendings where a client steps: those of its request stand in place of what they were; so what
+-- one of them was, one of them is.
 use Rattle.std.proofs.Common.{◌≡◌, refl, sym, ap, subst, ◌∙◌, Bool, true, false, ℕ, ◌||◌, cond, filter, flat_map, fold, length, List, [], ◌∷◌, ◌++◌, Option, Some, None, append-nil, ◌⊎◌, inl, inr}
 use Rattle.std.specs.Prelude.{option_map}
 use Rattle.std.specs.List.{list_any}

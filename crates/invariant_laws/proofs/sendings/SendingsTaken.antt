@@ -1,4 +1,5 @@
--- A sending whose reply was taken is of a call that was shown; and what is told of one by its identifier and place stays so.
+-- A sending whose reply was taken is of a call that was shown; and what is told of one by its
+-- identifier and place stays so.
 use Rattle.std.proofs.Common.{◌≡◌, refl, Bool, true, false, ℕ, ◌+◌, ◌≤◌, ◌<◌, ◌&&◌, ◌||◌, cond, List, [], ◌∷◌, fold, Option, Some, None, ◌⊎◌, inl, inr, arith}
 use Rattle.std.specs.Prelude.{is_some, nat_le, nat_lt}
 use Rattle.std.specs.List.{list_all, list_any}

@@ -1,4 +1,5 @@
--- Of the sendings of a transaction all but the last are settled: what that says of each, and where it stays so.
+-- Of the sendings of a transaction all but the last are settled: what that says of each, and where
+-- it stays so.
 use Rattle.std.proofs.Common.{◌≡◌, refl, sym, ap, ap₂, ◌∙◌, Bool, true, false, ℕ, ◌&&◌, cond, filter, length, List, [], ◌∷◌, ◌++◌, Some}
 use Rattle.std.specs.Prelude.{◌==◌, not, nat_le}
 use Rattle.std.specs.List.{list_all}

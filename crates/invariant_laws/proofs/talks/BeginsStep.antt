@@ -1,4 +1,5 @@
--- Where a client steps and sends Begin, that carries the request's settings changed by each `set` before the call that follows it.
+-- Where a client steps and sends Begin, that carries the request's settings changed by each `set`
+-- before the call that follows it.
 use Rattle.std.proofs.Common.{◌≡◌, refl, sym, ap, subst, ◌∙◌, Bool, true, false, ℕ, zero, suc, ◌+◌, ◌-◌, ◌≤◌, ◌&&◌, ◌||◌, length, List, [], ◌∷◌, ◌++◌, take, Option, Some, None, ◌⊎◌, inl, inr, if◌then◌else◌, arith}
 use Rattle.std.specs.Prelude.{not, is_none, is_some, slice_get}
 use Rattle.std.specs.List.{list_all, list_any}
@@ -54,7 +55,8 @@ use Rattle.invariant_laws.proofs.talks.TalkSets.{is_plain, asks_plain}
 
 -- RULES -------------------------------------------------------------------------------------------
 
--- A rule keeps settings, and a decided reply purges; or nothing is purged; or each `set` that is submitted is a reason against a replay.
+-- A rule keeps settings, and a decided reply purges; or nothing is purged; or each `set` that is
+-- submitted is a reason against a replay.
 pub data IsRule (rules : Rules) : Type 0 where
   Keeps : rules.keeps ≡ true → rules.reply (answer.Committed ∷ []) ≡ after.Purge → IsRule rules
   Never : rules.keeps ≡ false → ((answers : List Answer) → is_purge (rules.reply answers) ≡ false) → IsRule rules

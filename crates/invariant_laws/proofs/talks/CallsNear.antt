@@ -1,4 +1,5 @@
--- In a state that is as the invariant says, no call without the mark that a request sent is of an index beyond the calls that it was shown.
+-- In a state that is as the invariant says, no call without the mark that a request sent is of an
+-- index beyond the calls that it was shown.
 use Rattle.std.proofs.Common.{◌≡◌, refl, sym, subst, ◌∙◌, arith, true, false, ℕ, suc, zero, ◌+◌, ◌<◌, ◌≤◌, ◌&&◌, cond, fold, length, length-append, List, [], ◌∷◌, ◌++◌, map, Option, Some, None}
 use Rattle.std.specs.Prelude.{◌==◌, is_some, nat_le, slice_get}
 use Rattle.std.specs.List.{list_all, list_any}

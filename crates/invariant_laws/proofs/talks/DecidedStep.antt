@@ -1,4 +1,5 @@
--- Where a client steps and sends Begin, the call that follows is the request's first one, or the one before it was shown with a decided commit.
+-- Where a client steps and sends Begin, the call that follows is the request's first one, or the
+-- one before it was shown with a decided commit.
 use Rattle.std.proofs.Common.{◌≡◌, refl, ap, subst, ◌∙◌, append_assoc, Bool, true, false, ℕ, ◌+◌, ◌-◌, cond, length, List, [], ◌∷◌, ◌++◌, map, Option, Some, None, ◌⊎◌, inl, inr, arith}
 use Rattle.std.specs.Prelude.{◌==◌, slice_get}
 use Rattle.std.specs.List.{list_all}

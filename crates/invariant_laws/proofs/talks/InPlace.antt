@@ -1,4 +1,5 @@
--- A list in which some items stand in place of others: that of all requests where one steps; and what holds of each two items of it.
+-- A list in which some items stand in place of others: that of all requests where one steps; and
+-- what holds of each two items of it.
 use Rattle.std.proofs.Common.{◌≡◌, refl, sym, ap, subst, ◌∙◌, Bool, true, ℕ, suc, zero, ◌+◌, ◌&&◌, flat_map, length, append_assoc, List, [], ◌∷◌, ◌++◌, Option, Some, None, arith}
 use Rattle.std.specs.Prelude.{slice_get, slice_set}
 use Rattle.std.specs.List.{list_all}

@@ -1,4 +1,5 @@
--- Each Begin of a request goes with its first call, or with one behind a call that was shown with a decided commit: at the start and behind each event.
+-- Each Begin of a request goes with its first call, or with one behind a call that was shown with a
+-- decided commit: at the start and behind each event.
 use Rattle.std.proofs.Common.{◌≡◌, refl, sym, ap, subst, ◌∙◌, Bool, true, ℕ, length, List, ◌++◌, map, Some}
 use Rattle.std.specs.Prelude.{unwrap_or}
 use Rattle.std.specs.List.{list_all}

@@ -1,4 +1,5 @@
--- Each Begin that was sent on a connection is of a request that sent no call there before: at the start and behind each event.
+-- Each Begin that was sent on a connection is of a request that sent no call there before: at the
+-- start and behind each event.
 use Rattle.std.proofs.Common.{◌≡◌, refl, sym, ap, subst, ◌∙◌, append-nil, append_assoc, Bool, true, false, ℕ, ◌&&◌, List, [], ◌∷◌, ◌++◌, map, Option, Some, None, if◌then◌else◌}
 use Rattle.std.specs.Prelude.{not}
 use Rattle.std.specs.List.{list_all, last_or}

@@ -1,4 +1,5 @@
--- Each Begin that was sent on a connection is followed at once by a call of its request, of the index that it has: at the start and behind each event.
+-- Each Begin that was sent on a connection is followed at once by a call of its request, of the
+-- index that it has: at the start and behind each event.
 use Rattle.std.proofs.Common.{◌≡◌, refl, ap, ◌∙◌, Bool, true, false, ℕ, ◌&&◌, List, [], ◌∷◌, ◌++◌, map, Option, Some, None, if◌then◌else◌}
 use Rattle.std.specs.Prelude.{◌==◌}
 use Rattle.std.specs.Option.{option_map_or}

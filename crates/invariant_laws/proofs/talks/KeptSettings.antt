@@ -1,4 +1,5 @@
--- Each Begin of a request carries its settings, changed by each `set` before the call that follows it: at the start and behind each event.
+-- Each Begin of a request carries its settings, changed by each `set` before the call that follows
+-- it: at the start and behind each event.
 use Rattle.std.proofs.Common.{◌≡◌, refl, sym, ap, subst, ◌∙◌, Bool, true, ℕ}
 use Rattle.std.specs.Prelude.{unwrap_or}
 use Rattle.std.specs.List.{list_all}

@@ -1,5 +1,6 @@
--- Each Begin that was not served yet is of the request that sent the last frame on its connection: at the start and behind each event. A connection
--- is lent only where all that was sent on it was answered, so that no Begin is left there.
+-- Each Begin that was not served yet is of the request that sent the last frame on its connection:
+-- at the start and behind each event. A connection is lent only where all that was sent on it was
+-- answered, so that no Begin is left there.
 use Rattle.std.proofs.Common.{◌≡◌, refl, sym, ap, subst, ◌∙◌, arith, Bool, true, false, ℕ, ◌+◌, ◌≤◌, ◌&&◌, filter, fold, length, length-append, List, [], ◌∷◌, ◌++◌, map, Option, Some, None, ◌⊎◌, inl, inr, if◌then◌else◌}
 use Rattle.std.specs.Prelude.{◌==◌, nat_le, not}
 use Rattle.std.specs.List.{list_all, last_or}

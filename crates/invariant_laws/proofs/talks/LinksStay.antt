@@ -1,4 +1,5 @@
--- What becomes of the connection of a number in an event: it is there still, and stands so to what it was.
+-- What becomes of the connection of a number in an event: it is there still, and stands so to what
+-- it was.
 use Rattle.std.proofs.Common.{◌≡◌, ◌≢◌, refl, sym, ap, subst, ◌∙◌, Bool, true, false, ℕ, suc, zero, List, [], ◌∷◌, fold, map, Option, Some, None, ◌⊎◌, inl, inr, if◌then◌else◌}
 use Rattle.std.proofs.lemmas.Bool.{and_parts}
 use Rattle.outage_schedule.specs.declared.item.Served.{Served}

@@ -1,5 +1,5 @@
--- What an event does to clients and connections: one client steps, and every other connection stays as it is; or what was taken, is held and is out
--- stays on each.
+-- What an event does to clients and connections: one client steps, and every other connection stays
+-- as it is; or what was taken, is held and is out stays on each.
 use Rattle.std.proofs.Common.{◌≡◌, refl, sym, ap, subst, ◌∙◌, Bool, true, false, ℕ, ◌+◌, cond, filter, List, [], ◌∷◌, ◌++◌, map, Option, Some, None, ◌⊎◌, inl, inr, arith, append-nil}
 use Rattle.std.specs.Prelude.{unwrap_or}
 use Rattle.std.specs.List.{last_or}

@@ -1,4 +1,5 @@
--- The connection on which a request speaks, where it was there before: nothing is out on it but what is said there now, with a call without the mark or with none.
+-- The connection on which a request speaks, where it was there before: nothing is out on it but
+-- what is said there now, with a call without the mark or with none.
 use Rattle.std.proofs.Common.{◌≡◌, refl, sym, ap, subst, ◌∙◌, Bool, true, false, ℕ, ◌+◌, ◌&&◌, ◌||◌, cond, filter, length, List, [], ◌∷◌, ◌++◌, map, Option, Some, None, append-nil, arith}
 use Rattle.std.specs.Prelude.{◌==◌, unwrap_or}
 use Rattle.std.specs.List.{list_any, last_or}
@@ -37,7 +38,8 @@ use Rattle.invariant_laws.proofs.talks.Placing.{IsLent, lent_at, said as spoken_
 
 -- FRAMES ------------------------------------------------------------------------------------------
 
--- where the last one that is answered is a call with a commit, and there is none among these, none of these is answered
+-- where the last one that is answered is a call with a commit, and there is none among these, none
+-- of these is answered
 none_answered : (found : Option Sent) (frames : List Sent) (last : Sent) → last_or found (filter is_rep frames) ≡ Some last → is_commit_call last ≡ true → list_any is_commit_call frames ≡ false → filter is_rep frames ≡ []
 none_answered found [] last is commits none = refl
 none_answered found (first ∷ frames) last is commits none = by (is_rep first) is (λ now. none_answered (Some first) frames last now commits parts.1) (λ now. none_answered found frames last now commits parts.1)

@@ -1,4 +1,5 @@
--- A request that asks for an outcome holds the identifier that came with its session, by the scan of its steps; and what it is told where it sends a call.
+-- A request that asks for an outcome holds the identifier that came with its session, by the scan
+-- of its steps; and what it is told where it sends a call.
 use Rattle.std.proofs.Common.{◌≡◌, refl, ap, ◌∙◌, Bool, true, false, ℕ, ◌-◌, ◌+◌, ◌&&◌, fold, List, [], ◌∷◌, Option, Some, None, ◌⊎◌, inl, inr, if◌then◌else◌}
 use Rattle.std.specs.Prelude.{not, nat_le, Ok, Err}
 use Rattle.std.specs.List.{list_any}

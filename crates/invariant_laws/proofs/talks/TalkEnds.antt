@@ -1,5 +1,5 @@
--- How a request ends: without an error it has no call left, and with one it has; and it shows Incomplete at an outcome that says committed and
--- not completed.
+-- How a request ends: without an error it has no call left, and with one it has; and it shows
+-- Incomplete at an outcome that says committed and not completed.
 use Rattle.std.proofs.Common.{◌≡◌, refl, sym, ap, subst, ◌∙◌, Bool, true, false, ℕ, ◌+◌, ◌-◌, ◌||◌, cond, drop, List, [], ◌∷◌, Option, Some, None, if◌then◌else◌}
 use Rattle.std.specs.Prelude.{◌&&◌, not, nat_le, slice_get, is_some, is_none, Ok, Err}
 use Rattle.std.specs.Option.{option_map_or}
@@ -41,7 +41,8 @@ keeps_on hold.Keep = true
 keeps_on hold.GiveBack = false
 keeps_on hold.Drop = false
 
--- where it fails one of these is left behind what it shows, and where it ends without an error none is
+-- where it fails one of these is left behind what it shows, and where it ends without an error none
+-- is
 abbrev ends_by : List Call → Option Shown → Hold → Option Failed → Bool
 ends_by left shown held None = keeps_on held || is_none (slice_get left (cond (is_some shown) 1 0))
 ends_by left shown held (Some fault) = is_some (slice_get left (cond (is_some shown) 1 0))

@@ -1,5 +1,6 @@
--- With what a request may fail where it takes a frame: an outcome's errors are of the identifier that was asked and of the event that ended its
--- connection, and tries and waits have no part in it.
+-- With what a request may fail where it takes a frame: an outcome's errors are of the identifier
+-- that was asked and of the event that ended its connection, and tries and waits have no part in
+-- it.
 use Rattle.std.proofs.Common.{◌≡◌, refl, Bool, true, false, ℕ, ◌&&◌, List, [], ◌∷◌, Option, Some, None, if◌then◌else◌}
 use Rattle.std.specs.Prelude.{◌==◌, ◌+◌, not, nat_le, is_none, Ok, Err}
 use Rattle.std.specs.Option.{option_map_or}

@@ -1,4 +1,5 @@
--- Behind what a client sends Begin: with its first call, with the one behind a call that an outcome showed, or with the first one that is repeated.
+-- Behind what a client sends Begin: with its first call, with the one behind a call that an outcome
+-- showed, or with the first one that is repeated.
 use Rattle.std.proofs.Common.{◌≡◌, refl, ap, ◌∙◌, Bool, true, false, ℕ, ◌+◌, ◌-◌, ◌&&◌, length, List, [], ◌∷◌, Option, Some, None, if◌then◌else◌, arith}
 use Rattle.std.specs.Prelude.{not, nat_le, slice_get, Ok, Err}
 use Rattle.std.specs.List.{list_all}

@@ -1,5 +1,6 @@
--- What becomes at an input of an outcome that a request wants: it wants it still, it is told, or the request ends without knowing it. And where one
--- on a session loses its connection it wants that outcome.
+-- What becomes at an input of an outcome that a request wants: it wants it still, it is told, or
+-- the request ends without knowing it. And where one on a session loses its connection it wants
+-- that outcome.
 use Rattle.std.proofs.Common.{◌≡◌, refl, ap, Bool, true, false, ℕ, [], ◌∷◌, Some, None, if◌then◌else◌}
 use Rattle.std.specs.Prelude.{nat_le, ◌+◌, option_and_then}
 use Rattle.svc_values.specs.declared.entry.Ltxid.{Ltxid}

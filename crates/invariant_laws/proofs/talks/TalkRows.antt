@@ -1,4 +1,5 @@
--- Which call a client sends behind a frame that it takes: the one that follows on its connection, or the first there.
+-- Which call a client sends behind a frame that it takes: the one that follows on its connection,
+-- or the first there.
 use Rattle.std.proofs.Common.{◌≡◌, refl, ap, ◌∙◌, Bool, true, false, ℕ, zero, suc, ◌+◌, ◌≤◌, ◌&&◌, length, List, [], ◌∷◌, ◌++◌, Option, Some, None, if◌then◌else◌, arith}
 use Rattle.std.specs.Prelude.{not, nat_le, slice_get, Ok, Err}
 use Rattle.std.specs.List.{list_all}

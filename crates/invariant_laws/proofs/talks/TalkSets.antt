@@ -1,4 +1,5 @@
--- Where each `set` that is submitted is a reason against a replay, none was shown as long as no reason stands.
+-- Where each `set` that is submitted is a reason against a replay, none was shown as long as no
+-- reason stands.
 use Rattle.std.proofs.Common.{◌≡◌, refl, sym, ap, subst, ◌∙◌, Bool, true, false, ℕ, ◌+◌, ◌-◌, ◌&&◌, ◌||◌, length, List, [], ◌∷◌, ◌++◌, Option, Some, None, ◌⊎◌, inl, inr, if◌then◌else◌}
 use Rattle.std.specs.Prelude.{not, nat_le, is_some, is_none, Ok, Err}
 use Rattle.std.specs.Option.{option_or, option_map_or}

@@ -1,4 +1,5 @@
--- Which call a client shows: that of the reply that it takes, or the lost one, where the outcome says that it was committed and completed.
+-- Which call a client shows: that of the reply that it takes, or the lost one, where the outcome
+-- says that it was committed and completed.
 use Rattle.std.proofs.Common.{◌≡◌, refl, sym, ap, ◌∙◌, Bool, true, false, ℕ, ◌-◌, ◌&&◌, List, [], ◌∷◌, Option, Some, None, if◌then◌else◌}
 use Rattle.std.specs.Prelude.{not, nat_le, ◌+◌}
 use Rattle.svc_values.specs.declared.answer.Answer.{Answer}

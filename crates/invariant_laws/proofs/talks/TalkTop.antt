@@ -1,4 +1,5 @@
--- Where a request runs, its last sending is on the connection on which it speaks, and no reply was taken to it.
+-- Where a request runs, its last sending is on the connection on which it speaks, and no reply was
+-- taken to it.
 use Rattle.std.proofs.Common.{◌≡◌, refl, sym, ap, subst, ◌∙◌, Bool, true, false, ℕ, ◌-◌, ◌+◌, ◌&&◌, cond, fold, List, [], ◌∷◌, ◌++◌, Option, Some, None, if◌then◌else◌}
 use Rattle.std.specs.Prelude.{◌==◌, ◌||◌, not, nat_le, is_some, is_none}
 use Rattle.std.specs.Option.{option_or, option_map_or}

@@ -1,4 +1,5 @@
--- What a request wants behind an input: as before, nothing, or what it went by when its connection was gone.
+-- What a request wants behind an input: as before, nothing, or what it went by when its connection
+-- was gone.
 use Rattle.std.proofs.Common.{◌≡◌, refl, ap, Bool, true, false, ℕ, ◌&&◌, List, [], ◌∷◌, Option, Some, None, ◌⊎◌, inl, inr, if◌then◌else◌}
 use Rattle.std.specs.Prelude.{not, nat_le, option_map, ◌+◌, ◌-◌, Ok, Err}
 use Rattle.std.specs.Str.{bytes_eq}

@@ -32,7 +32,8 @@ list ds = array (items_of ds)
 abbrev pub list_by : {A : Type 0} → (A → Data) → List A → Data
 list_by writes xs = list (map writes xs)
 
--- members put one after the other, each at its place in the order of bytes; of equal names the last stands
+-- members put one after the other, each at its place in the order of bytes; of equal names the last
+-- stands
 abbrev pub with_all : Members → List (List ℕ × Data) → Members
 with_all ms [] = ms
 with_all ms (pair ∷ pairs) = with_all (with_member pair.0 pair.1 ms) pairs

@@ -33,7 +33,8 @@ conflict_in calls = length (filter was_conflict calls)
 abbrev pub failed_in : List RequestReport → ℕ
 failed_in requests = length (filter (λ one. is_some one.failed) requests)
 
--- the counts of a report: of shown calls, of entries, of notes and of requests, and what stands on all accounts
+-- the counts of a report: of shown calls, of entries, of notes and of requests, and what stands on
+-- all accounts
 abbrev pub line_of : Report → LoadLine
 line_of report = record {
   committed = committed_in (shown_in (requests_in report.clients));

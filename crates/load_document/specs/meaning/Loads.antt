@@ -1,4 +1,5 @@
--- The document that `load` makes of three numbers: clients that move money between sixteen accounts, under a schedule with cuts.
+-- The document that `load` makes of three numbers: clients that move money between sixteen
+-- accounts, under a schedule with cuts.
 use Rattle.std.specs.Prelude.{ℕ, zero, suc, ◌+◌, ◌*◌, ◌/◌, ◌%◌, ◌^◌, ◌==◌, nat_le, ℤ, pos, negsuc, false, true, List, [], ◌∷◌, None, codes, if◌then◌else◌}
 use Rattle.svc_values.specs.declared.value.Kind.TheVariants as kind
 use Rattle.svc_values.specs.declared.value.Value.{Value}
@@ -64,7 +65,8 @@ commit = call.Work [] true
 unfoldable pub transfer : ℕ → ℕ → Request
 transfer a b = record { settings = []; calls = look a ∷ pay a b ∷ commit ∷ []; again = 0 }
 
--- so many transfers, each of two accounts that are drawn from this state on: the first one of the first draw, and the second one of the next
+-- so many transfers, each of two accounts that are drawn from this state on: the first one of the
+-- first draw, and the second one of the next
 abbrev pub transfers : ℕ → ℕ → List Request
 transfers zero x = []
 transfers (suc n) x = transfer (drawn 16 (next x)) (drawn 16 (next (next x))) ∷ transfers n (next (next x))
@@ -81,8 +83,9 @@ connection_drawn clients x = 1 + drawn (2 * clients) x
 abbrev pub client_drawn : ℕ → ℕ → ℕ
 client_drawn clients x = 1 + drawn clients x
 
--- Of sixteen cases one is a cut, one a tick, seven are a step of a client, and the other seven a frame that is served. The first draw, which
--- led to this state, tells which it is, and the next one of whom.
+-- Of sixteen cases one is a cut, one a tick, seven are a step of a client, and the other seven a
+-- frame that is served. The first draw, which led to this state, tells which it is, and the next
+-- one of whom.
 unfoldable pub event_at : ℕ → ℕ → Event
 event_at clients x =
     if drawn 16 x == 0 then event.Cut (connection_drawn clients (next x)) 0 0

@@ -15,6 +15,7 @@ outcome_in state number =
     else (if nat_lt (number + 1) state.next then verdict.ServerAhead state.next
     else verdict.ClientAhead state.next)))
 
--- the outcome of an identifier, where this is said of sessions: one below the horizon is forgotten, whatever it was
+-- the outcome of an identifier, where this is said of sessions: one below the horizon is forgotten,
+-- whatever it was
 abbrev pub verdict_of : Sessions → Ltxid → Verdict
 verdict_of sessions x = if is_forgotten sessions x.incarnation then verdict.Forgotten sessions.horizon else outcome_in (sessions.state x.incarnation x.session) x.number

@@ -1,5 +1,5 @@
--- What a book says: of each session how many commits it made, whether its next identifier is blocked and what its last
--- commit was, and below which incarnation sessions are forgotten.
+-- What a book says: of each session how many commits it made, whether its next identifier is
+-- blocked and what its last commit was, and below which incarnation sessions are forgotten.
 use Rattle.std.specs.Prelude.{ℕ, ◌==◌, ◌&&◌, Bool, false, not, nat_lt, if◌then◌else◌}
 use Rattle.svc_values.specs.declared.entry.Ltxid.{Ltxid}
 use Rattle.ltxid_book.specs.declared.State.{State}
@@ -12,8 +12,8 @@ pub record Sessions : Type 0 where
 abbrev pub untouched : State
 untouched = record { next = 0; blocked = false; completed = false }
 
--- These states of sessions, of which those of incarnations below the horizon are forgotten: nothing is said of them, as if
--- they were untouched.
+-- These states of sessions, of which those of incarnations below the horizon are forgotten: nothing
+-- is said of them, as if they were untouched.
 abbrev pub known_from : ℕ → (ℕ → ℕ → State) → Sessions
 known_from horizon state = record { horizon = horizon; state = λ incarnation session. if nat_lt incarnation horizon then untouched else state incarnation session }
 
@@ -27,6 +27,7 @@ can_commit sessions x =
     let state = sessions.state x.incarnation x.session in
     (x.number == state.next) && not state.blocked
 
--- a transaction of this identifier may commit, and so it may be blocked: its session is not forgotten either
+-- a transaction of this identifier may commit, and so it may be blocked: its session is not
+-- forgotten either
 abbrev pub may_commit : Sessions → Ltxid → Bool
 may_commit sessions x = not (is_forgotten sessions x.incarnation) && can_commit sessions x

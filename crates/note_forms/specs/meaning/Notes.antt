@@ -1,5 +1,5 @@
--- Notes. Their parts are read in order; where a word says which form a note has, the count is judged
--- behind that word.
+-- Notes. Their parts are read in order; where a word says which form a note has, the count is
+-- judged behind that word.
 use Rattle.std.specs.Prelude.{ℕ, ◌+◌, ◌==◌, Bool, true, false, not, List, [], ◌∷◌, Option, Some, None, Result, Ok, if◌then◌else◌, codes}
 use Rattle.serde_json.specs.Data.{Data}
 use Rattle.serde_json.specs.Find.{as_str}

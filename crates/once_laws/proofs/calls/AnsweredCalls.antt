@@ -1,4 +1,5 @@
--- What holds of each call that the plain server answers, by its mark and its answers, holds of each call that a run's connections served.
+-- What holds of each call that the plain server answers, by its mark and its answers, holds of each
+-- call that a run's connections served.
 use Rattle.std.proofs.Common.{◌≡◌, refl, sym, ap, subst, ◌∙◌, Bool, true, false, ℕ, suc, ◌&&◌, ◌||◌, List, [], ◌∷◌, map, Option, Some, None, ◌⊎◌, inl, inr, if◌then◌else◌}
 use Rattle.std.specs.Prelude.{◌==◌, is_some, is_none, length, slice_get}
 use Rattle.std.specs.List.{list_all}

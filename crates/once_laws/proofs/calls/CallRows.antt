@@ -1,4 +1,5 @@
--- Of a list, those that are kept: at which place among them each one is. Where their indices are in a row, each index between two of them is there, between their places.
+-- Of a list, those that are kept: at which place among them each one is. Where their indices are in
+-- a row, each index between two of them is there, between their places.
 use Rattle.std.proofs.Common.{◌≡◌, refl, sym, ap, ◌∙◌, arith, Bool, true, false, ℕ, suc, zero, ◌+◌, ◌-◌, ◌<◌, ◌≤◌, cond, filter, List, [], ◌∷◌, Some, ◌⊎◌, inl, inr}
 use Rattle.std.specs.Prelude.{◌==◌, slice_get}
 use Rattle.std.proofs.lemmas.Bool.{and_parts}

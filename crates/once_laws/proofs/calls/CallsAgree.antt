@@ -1,5 +1,5 @@
--- Each call of a request behind which it sent a further one on the same connection was answered as it was shown, and drew the granted values that were
--- shown, where no digests clash.
+-- Each call of a request behind which it sent a further one on the same connection was answered as
+-- it was shown, and drew the granted values that were shown, where no digests clash.
 use Rattle.std.proofs.Common.{◌≡◌, refl, ap, Bool, true, false, ℕ, ◌-◌, ◌&&◌, filter, length, List, Option, Some, None}
 use Rattle.std.specs.Prelude.{slice_get}
 use Rattle.std.specs.List.{list_all}

@@ -1,4 +1,5 @@
--- Each call that was served on a connection is of a request that had it, and two calls that a request sent on one connection are never the same call of it.
+-- Each call that was served on a connection is of a request that had it, and two calls that a
+-- request sent on one connection are never the same call of it.
 use Rattle.std.proofs.Common.{◌≡◌, refl, sym, ap, subst, ◌∙◌, arith, ℕ, suc, zero, ◌+◌, ◌<◌, ◌≤◌, ◌&&◌, not, cond, Bool, true, false, filter, List, [], ◌∷◌, map, Option, Some, None, ◌⊎◌, inl, inr}
 use Rattle.std.specs.Prelude.{◌==◌, is_some, slice_get}
 use Rattle.std.specs.List.{list_all, list_any}

@@ -1,4 +1,6 @@
--- Before the commit of a transaction that a connection ran, no call of it was shown as its end: one that was sent without the mark was shown as it was answered there, and one of a replay is no rollback.
+-- Before the commit of a transaction that a connection ran, no call of it was shown as its end: one
+-- that was sent without the mark was shown as it was answered there, and one of a replay is no
+-- rollback.
 use Rattle.std.proofs.Common.{◌≡◌, refl, sym, ap, subst, ◌∙◌, arith, Bool, true, false, ℕ, suc, zero, ◌+◌, ◌<◌, ◌≤◌, ◌&&◌, ◌||◌, filter, length, take, List, [], ◌∷◌, Option, Some, None, ◌⊎◌, inl, inr}
 use Rattle.std.specs.Prelude.{◌==◌, nat_le, not, slice_get}
 use Rattle.std.specs.List.{list_all, list_any}

@@ -1,4 +1,5 @@
--- How the answers to the calls end that a run's connections served: with RolledBack those of a rollback, and with Committed only those of a call with a commit and without the mark.
+-- How the answers to the calls end that a run's connections served: with RolledBack those of a
+-- rollback, and with Committed only those of a call with a commit and without the mark.
 use Rattle.std.proofs.Common.{◌≡◌, refl, ap, ◌∙◌, Bool, true, false, ℕ, ◌&&◌, List, [], ◌∷◌, Option, Some, None}
 use Rattle.std.specs.Prelude.{not}
 use Rattle.std.specs.List.{last_or}

@@ -1,5 +1,5 @@
--- In an entry of a sending that is open or was answered Committed, no call but the last was shown as an end: it is what a connection ran for the request,
--- and ends with the one that was sent.
+-- In an entry of a sending that is open or was answered Committed, no call but the last was shown
+-- as an end: it is what a connection ran for the request, and ends with the one that was sent.
 use Rattle.std.proofs.Common.{◌≡◌, refl, sym, ap, ◌∙◌, Bool, true, false, ℕ, zero, suc, ◌+◌, ◌&&◌, drop, length, take, List, [], ◌∷◌, ◌++◌, Option, Some, None, arith}
 use Rattle.std.specs.Prelude.{◌==◌, not, nat_le, nat_lt, slice_get}
 use Rattle.std.specs.List.{list_all, list_any, last_or}

@@ -1,4 +1,5 @@
--- An entry of a sending that is open or was answered Committed: the transaction that its connection ran, with its request, and what holds of each such entry.
+-- An entry of a sending that is open or was answered Committed: the transaction that its connection
+-- ran, with its request, and what holds of each such entry.
 use Rattle.std.proofs.Common.{◌≡◌, refl, sym, ap, ◌∙◌, Bool, true, false, ℕ, suc, ◌+◌, length, List, [], ◌∷◌, ◌++◌, Option, Some, arith}
 use Rattle.std.specs.Prelude.{◌==◌, slice_get}
 use Rattle.std.specs.List.{list_all, list_any}

@@ -1,4 +1,5 @@
--- Where a commit was served on a connection and no reply to it was taken: what is held there counts the commits before it, so the entry of what is held is there.
+-- Where a commit was served on a connection and no reply to it was taken: what is held there counts
+-- the commits before it, so the entry of what is held is there.
 use Rattle.std.proofs.Common.{◌≡◌, refl, sym, ap, subst, ◌∙◌, arith, Bool, true, false, ℕ, suc, zero, ◌+◌, ◌<◌, ◌≤◌, ◌||◌, cond, count_by, filter, filter_map, length, List, [], ◌∷◌, ◌++◌, map, Option, Some, None}
 use Rattle.std.specs.Prelude.{is_some, not, option_map, slice_get}
 use Rattle.std.specs.List.{cons_option, list_all}

@@ -1,4 +1,5 @@
--- What a request took as the reply to a call that it sent without the mark is what it was shown of that call, wherever a run has come to.
+-- What a request took as the reply to a call that it sent without the mark is what it was shown of
+-- that call, wherever a run has come to.
 use Rattle.std.proofs.Common.{◌≡◌, ◌≢◌, refl, sym, ap, subst, ◌∙◌, Bool, true, false, ℕ, suc, ◌&&◌, length, append_assoc, List, [], ◌∷◌, ◌++◌, map, Option, Some, None}
 use Rattle.std.specs.Prelude.{◌==◌, not, slice_get, option_map}
 use Rattle.std.specs.List.{list_all}

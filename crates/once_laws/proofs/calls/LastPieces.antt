@@ -1,5 +1,6 @@
--- The last piece of an entry has the answers and the granted draws with which its call was shown, where it was shown: by the reply on its own
--- connection, since no call is stored twice; or by an outcome, where it is a commit with no statement, which has one answer.
+-- The last piece of an entry has the answers and the granted draws with which its call was shown,
+-- where it was shown: by the reply on its own connection, since no call is stored twice; or by an
+-- outcome, where it is a commit with no statement, which has one answer.
 use Rattle.std.proofs.Common.{◌≡◌, refl, sym, ap, subst, ◌∙◌, arith, Bool, true, false, ℕ, zero, suc, ◌<◌, ◌&&◌, ◌||◌, drop, filter, length, take, List, [], ◌∷◌, ◌++◌, Option, Some, None, ◌⊎◌, inl, inr}
 use Rattle.std.specs.Prelude.{◌==◌, not, slice_get}
 use Rattle.std.specs.List.{list_all, list_any, last_or}

@@ -1,4 +1,5 @@
--- What holds of the Begins that were sent on a connection holds of those that it served, so its transactions start with the settings of their request.
+-- What holds of the Begins that were sent on a connection holds of those that it served, so its
+-- transactions start with the settings of their request.
 use Rattle.std.proofs.Common.{◌≡◌, refl, ap, ◌∙◌, Bool, true, false, ℕ, ◌&&◌, List, [], ◌∷◌, map, Option, Some, None, if◌then◌else◌}
 use Rattle.std.specs.Prelude.{◌==◌}
 use Rattle.std.specs.List.{list_all}

@@ -1,4 +1,5 @@
--- Of a transaction that a connection stored: no call before its commit was shown as its end, whether it was sent on that connection with the mark or without.
+-- Of a transaction that a connection stored: no call before its commit was shown as its end,
+-- whether it was sent on that connection with the mark or without.
 use Rattle.std.proofs.Common.{◌≡◌, refl, sym, ap, subst, ◌∙◌, arith, Bool, true, false, ℕ, suc, zero, ◌+◌, ◌<◌, ◌≤◌, ◌&&◌, ◌||◌, cond, filter, List, [], ◌∷◌, Some, ◌⊎◌, inl, inr, if◌then◌else◌}
 use Rattle.std.specs.Prelude.{◌==◌, is_none, not, slice_get}
 use Rattle.std.specs.List.{list_all}

@@ -1,5 +1,5 @@
--- The entry of a sending to which no reply was taken has the calls of the script that end with the one that was sent, and the settings before them: it
--- is what its connection ran last.
+-- The entry of a sending to which no reply was taken has the calls of the script that end with the
+-- one that was sent, and the settings before them: it is what its connection ran last.
 use Rattle.std.proofs.Common.{◌≡◌, refl, sym, ap, subst, ◌∙◌, Bool, true, false, ℕ, zero, suc, ◌+◌, ◌-◌, ◌<◌, ◌≤◌, ◌&&◌, ◌||◌, length, take, drop, List, [], ◌∷◌, ◌++◌, map, Option, Some, None, arith}
 use Rattle.std.specs.Prelude.{◌==◌, not, nat_le, nat_lt, is_some, slice_get}
 use Rattle.std.specs.List.{list_all, list_any}

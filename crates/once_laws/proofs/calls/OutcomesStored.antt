@@ -1,4 +1,5 @@
--- Each outcome that a client was told in a run is the stored one: it is that of an item, and the answers of items are right.
+-- Each outcome that a client was told in a run is the stored one: it is that of an item, and the
+-- answers of items are right.
 use Rattle.std.proofs.Common.{◌≡◌, refl, sym, subst, ◌∙◌, Bool, true, false, ℕ, ◌+◌, ◌&&◌, List, [], ◌∷◌, ◌++◌, map, Option, Some, None}
 use Rattle.std.specs.Prelude.{IsTrue, is_some, is_none}
 use Rattle.std.specs.List.{list_all}

@@ -1,5 +1,6 @@
--- A statement is answered neither Committed, nor RolledBack, nor CommitInReplay. So what a work call means ends neither with RolledBack nor with
--- CommitInReplay, and with Committed only where it has a commit.
+-- A statement is answered neither Committed, nor RolledBack, nor CommitInReplay. So what a work
+-- call means ends neither with RolledBack nor with CommitInReplay, and with Committed only where it
+-- has a commit.
 use Rattle.std.proofs.Common.{◌≡◌, refl, sym, ap, subst, ◌∙◌, Bool, true, false, ℕ, ◌&&◌, List, [], ◌∷◌, ◌++◌, Option, Some, None, if◌then◌else◌}
 use Rattle.std.specs.Prelude.{ℤ, ◌+ℤ◌, Ok, Err, nat_lt, not, length, option_to_list, slice_set}
 use Rattle.std.specs.List.{list_all, last_or}

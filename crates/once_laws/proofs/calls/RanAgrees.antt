@@ -1,5 +1,6 @@
--- What a request knows of the calls that a connection served for it, and of the pieces of transactions there: no call is behind the last one that was sent, and
--- what holds of each call behind which it sent a further one holds of each piece before the last.
+-- What a request knows of the calls that a connection served for it, and of the pieces of
+-- transactions there: no call is behind the last one that was sent, and what holds of each call
+-- behind which it sent a further one holds of each piece before the last.
 use Rattle.std.proofs.Common.{◌≡◌, refl, ap, subst, ◌∙◌, Bool, true, false, ℕ, zero, suc, ◌+◌, ◌-◌, ◌<◌, ◌≤◌, ◌&&◌, filter, fold, length, map, take, List, [], ◌∷◌, ◌++◌, Option, Some, None, ◌⊎◌, inl, inr, if◌then◌else◌, arith}
 use Rattle.std.specs.Prelude.{◌==◌, is_none, nat_le, nat_lt, slice_get}
 use Rattle.std.specs.List.{list_all}

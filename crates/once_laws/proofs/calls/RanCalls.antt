@@ -1,5 +1,5 @@
--- What holds of the frames that were sent on a connection holds of those that it served: they keep to the grammar, and a request's calls among them
--- are in a row and its script's.
+-- What holds of the frames that were sent on a connection holds of those that it served: they keep
+-- to the grammar, and a request's calls among them are in a row and its script's.
 use Rattle.std.proofs.Common.{◌≡◌, refl, sym, ap, subst, ◌∙◌, Bool, true, false, ℕ, ◌+◌, ◌&&◌, List, [], ◌∷◌, filter, fold, Option, if◌then◌else◌}
 use Rattle.std.specs.Prelude.{◌==◌, slice_get}
 use Rattle.std.specs.Option.{option_map_or}

@@ -1,4 +1,5 @@
--- What a request knows of the calls inside a transaction that its connection ran: each but the last was answered as it was shown, and ended none.
+-- What a request knows of the calls inside a transaction that its connection ran: each but the last
+-- was answered as it was shown, and ended none.
 use Rattle.std.proofs.Common.{◌≡◌, refl, ap, subst, ◌∙◌, Bool, true, false, ℕ, ◌&&◌, fold, List, [], ◌∷◌, ◌++◌, Option, Some, None}
 use Rattle.std.specs.Prelude.{not, slice_get}
 use Rattle.std.specs.List.{list_all, list_any}

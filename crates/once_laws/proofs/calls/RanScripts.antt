@@ -1,4 +1,5 @@
--- A transaction that a connection ran and that has a call of a request has all its calls from the request's script, in a row from the first one.
+-- A transaction that a connection ran and that has a call of a request has all its calls from the
+-- request's script, in a row from the first one.
 use Rattle.std.proofs.Common.{◌≡◌, refl, sym, ap, subst, ◌∙◌, Bool, true, false, ℕ, ◌+◌, ◌&&◌, ◌||◌, length, List, [], ◌∷◌, ◌++◌, map, filter, fold, Option, if◌then◌else◌, arith}
 use Rattle.std.specs.Prelude.{◌==◌, not, slice_get}
 use Rattle.std.specs.List.{list_all, list_any}

@@ -1,5 +1,6 @@
--- A transaction that a connection ran and that has a call of a request starts with the request's settings, changed by each `set` before its first call;
--- and its session has them, changed by each `set` that it served too.
+-- A transaction that a connection ran and that has a call of a request starts with the request's
+-- settings, changed by each `set` before its first call; and its session has them, changed by each
+-- `set` that it served too.
 use Rattle.std.proofs.Common.{◌≡◌, refl, sym, ap, subst, ◌∙◌, Bool, true, false, ℕ, zero, suc, ◌+◌, ◌&&◌, ◌||◌, List, [], ◌∷◌, ◌++◌, map, filter, fold, take, Option, Some, None, if◌then◌else◌, arith}
 use Rattle.std.specs.Prelude.{◌==◌, not, slice_get}
 use Rattle.std.specs.List.{list_all, list_any}

@@ -1,4 +1,5 @@
--- At the end of a run each client is finished: all its requests are over, and their reports are what it was shown.
+-- At the end of a run each client is finished: all its requests are over, and their reports are
+-- what it was shown.
 use Rattle.std.proofs.Common.{◌≡◌, refl, ap, subst, ◌∙◌, Bool, true, false, ℕ, suc, zero, ◌+◌, ◌<◌, List, [], ◌∷◌, ◌++◌, filter, flat_map, map, Option, Some, None, if◌then◌else◌, arith}
 use Rattle.std.specs.Prelude.{◌==◌, slice_get, is_some}
 use Rattle.std.specs.List.{list_all, list_any}

@@ -1,4 +1,5 @@
--- What a connection that a request held served: its frames keep to the grammar, and the request's calls among them are the script's, in a row.
+-- What a connection that a request held served: its frames keep to the grammar, and the request's
+-- calls among them are the script's, in a row.
 use Rattle.std.proofs.Common.{◌≡◌, refl, Bool, true, false, ℕ, ◌&&◌, ◌||◌, List, map, filter, fold, Option, Some, None}
 use Rattle.std.specs.Prelude.{slice_get}
 use Rattle.std.specs.List.{list_all}

@@ -1,4 +1,5 @@
--- What holds of each frame that was sent on a connection holds of each that it served: so a repeated call that was served brought the draws that were shown.
+-- What holds of each frame that was sent on a connection holds of each that it served: so a
+-- repeated call that was served brought the draws that were shown.
 use Rattle.std.proofs.Common.{◌≡◌, refl, sym, ap, ◌∙◌, ℕ, ◌&&◌, Bool, true, false, List, [], ◌∷◌, ◌++◌, map}
 use Rattle.std.specs.Prelude.{◌==◌}
 use Rattle.std.specs.List.{list_all}

@@ -1,4 +1,5 @@
--- Places of calls that were shown: which are of one transaction, and how one ends that a replay repeats.
+-- Places of calls that were shown: which are of one transaction, and how one ends that a replay
+-- repeats.
 use Rattle.std.proofs.Common.{◌≡◌, refl, sym, ap, ◌∙◌, arith, Bool, true, false, ℕ, suc, zero, ◌+◌, ◌<◌, ◌≤◌, ◌||◌, cond, take, List, [], ◌∷◌, Option, Some, None}
 use Rattle.std.specs.Prelude.{slice_get}
 use Rattle.std.specs.List.{last_or}

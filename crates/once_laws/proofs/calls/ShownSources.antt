@@ -1,5 +1,6 @@
--- Where a shown call is from: an item of a connection that its request held, of the call without the mark; or an outcome, where it is a commit with no
--- statement. So its answers never end with CommitInReplay.
+-- Where a shown call is from: an item of a connection that its request held, of the call without
+-- the mark; or an outcome, where it is a commit with no statement. So its answers never end with
+-- CommitInReplay.
 use Rattle.std.proofs.Common.{◌≡◌, refl, sym, ap, ◌∙◌, arith, Bool, true, false, ℕ, ◌&&◌, length, List, [], ◌∷◌, Option, Some, None, ◌⊎◌, inl, inr}
 use Rattle.std.specs.Prelude.{◌==◌, slice_get}
 use Rattle.std.specs.List.{list_any}

@@ -1,4 +1,5 @@
--- A reply that was shown is shown still where more calls are; and whose the replies are that were taken on a connection.
+-- A reply that was shown is shown still where more calls are; and whose the replies are that were
+-- taken on a connection.
 use Rattle.std.proofs.Common.{◌≡◌, refl, sym, ap, subst, ◌∙◌, Bool, true, false, ℕ, ◌&&◌, List, [], ◌∷◌, ◌++◌, map, Option, Some, None}
 use Rattle.std.specs.Prelude.{◌==◌, not, slice_get}
 use Rattle.std.specs.List.{list_all}

@@ -1,4 +1,5 @@
--- What the grammar of a connection says of its calls: between two with no Begin between them no other request is, and no marked one stands behind one without the mark.
+-- What the grammar of a connection says of its calls: between two with no Begin between them no
+-- other request is, and no marked one stands behind one without the mark.
 use Rattle.std.proofs.Common.{◌≡◌, refl, sym, ap, ◌∙◌, arith, Bool, true, false, ℕ, suc, zero, ◌<◌, ◌&&◌, ◌||◌, List, [], ◌∷◌, Option, Some}
 use Rattle.std.specs.Prelude.{not, is_none, is_some, slice_get}
 use Rattle.std.proofs.lemmas.Bool.{and_parts}

@@ -1,4 +1,5 @@
--- Where a session stands while it serves the frames of its connection in order: in a request, of which one thing is known, or in none.
+-- Where a session stands while it serves the frames of its connection in order: in a request, of
+-- which one thing is known, or in none.
 use Rattle.std.proofs.Common.{◌≡◌, refl, subst, Bool, true, false, ℕ, ◌&&◌, List, Option}
 use Rattle.std.specs.Prelude.{not}
 use Rattle.svc_values.specs.declared.call.Call.{Call}
@@ -26,7 +27,8 @@ if_same_plain one owner stage right = by (same_owners one owner) refl right
     by true is right = owners_are one owner is
     by false is right = absurd (let none : ⊥ = cc in none)
 
--- `Within` is known in the request of an owner whose next call is of this index, and `Outside` in none
+-- `Within` is known in the request of an owner whose next call is of this index, and `Outside` in
+-- none
 module _ {A : Type 0} (Within : ℕ → Option Owner → A → Type 0) (Outside : A → Type 0) where
   abbrev pub StandsAt : Stage → ℕ → A → Type 0
   StandsAt (Repeated owner) n x = Within n owner x

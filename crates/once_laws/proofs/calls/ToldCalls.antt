@@ -1,4 +1,5 @@
--- A call without the mark that was served, and the reply to which was taken, was shown to its request with the answers of its item.
+-- A call without the mark that was served, and the reply to which was taken, was shown to its
+-- request with the answers of its item.
 use Rattle.std.proofs.Common.{◌≡◌, refl, sym, ap, subst, ◌∙◌, arith, Bool, true, false, ℕ, suc, zero, ◌<◌, ◌&&◌, length, List, [], ◌∷◌, ◌++◌, map, Option, Some, None, ◌⊎◌, inl, inr}
 use Rattle.std.specs.Prelude.{is_none, filter_map, option_map, slice_get}
 use Rattle.std.specs.List.{cons_option}

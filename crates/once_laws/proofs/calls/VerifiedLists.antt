@@ -1,4 +1,5 @@
--- The calls of a request among what a connection served, and among what was sent on it: of one front, and all but one of them at least.
+-- The calls of a request among what a connection served, and among what was sent on it: of one
+-- front, and all but one of them at least.
 use Rattle.std.proofs.Common.{◌≡◌, refl, sym, ap, ◌∙◌, Bool, true, false, ℕ, zero, suc, ◌+◌, ◌≤◌, ◌&&◌, cond, length, take, List, [], ◌∷◌, ◌++◌, map, filter, Option, Some, None, if◌then◌else◌, arith}
 use Rattle.std.specs.Prelude.{nat_le}
 use Rattle.std.specs.List.{list_all, last_or}

@@ -1,4 +1,5 @@
--- How often a value stands among draws. None stands twice exactly where each that stands once alone does so at most once.
+-- How often a value stands among draws. None stands twice exactly where each that stands once alone
+-- does so at most once.
 use Rattle.std.proofs.Common.{◌≡◌, refl, sym, ap, ◌∙◌, subst, arith, ℕ, zero, suc, ◌+◌, ◌≤◌, ◌&&◌, ◌||◌, Bool, true, false, not, cond, List, [], ◌∷◌, ◌++◌}
 use Rattle.std.specs.List.{list_any}
 use Rattle.std.proofs.lemmas.Bool.{and_parts, and_from, or_parts, not-true}

@@ -1,4 +1,5 @@
--- Where no call of a request is stored twice, no value stands twice among what the entries of a run drew.
+-- Where no call of a request is stored twice, no value stands twice among what the entries of a run
+-- drew.
 use Rattle.std.proofs.Common.{◌≡◌, refl, sym, ap, subst, ◌∙◌, arith, ℕ, suc, zero, ◌+◌, ◌≤◌, ◌&&◌, not, Bool, true, false, List, [], ◌∷◌, ◌++◌, map, Option, Some, ◌⊎◌, inl, inr, if◌then◌else◌}
 use Rattle.std.specs.Prelude.{◌==◌, flat_map, slice_get}
 use Rattle.std.specs.List.{list_any}

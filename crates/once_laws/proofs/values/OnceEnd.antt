@@ -1,4 +1,5 @@
--- Each transaction of a report stands in its journal at most once: what the invariant says of the state at the end of a run, said of its report.
+-- Each transaction of a report stands in its journal at most once: what the invariant says of the
+-- state at the end of a run, said of its report.
 use Rattle.std.proofs.Common.{◌≡◌, refl, sym, ap, subst, ◌∙◌, Bool, true, false, ℕ, suc, zero, ◌+◌, ◌&&◌, ◌||◌, drop, flat_map, length, map, take, List, [], ◌∷◌, ◌++◌, Some, ◌⊎◌, inl, inr, arith}
 use Rattle.std.specs.Prelude.{◌==◌, count_by, get_or, nat_le, not, slice_get}
 use Rattle.std.specs.List.{list_all, list_any}

@@ -1,4 +1,6 @@
--- No call of a request is stored twice: the transactions of two connections that have it are one transaction of the request, of which one identifier has an entry, and no two connections have one session.
+-- No call of a request is stored twice: the transactions of two connections that have it are one
+-- transaction of the request, of which one identifier has an entry, and no two connections have one
+-- session.
 use Rattle.std.proofs.Common.{◌≡◌, refl, sym, ap, subst, ◌∙◌, arith, Bool, true, false, ℕ, suc, ◌<◌, ◌≤◌, ◌&&◌, Some, ◌⊎◌, inl, inr}
 use Rattle.std.specs.Prelude.{◌==◌, is_none, not, slice_get}
 use Rattle.std.specs.List.{list_any}
@@ -75,7 +77,8 @@ stores_call stood it is = absurd (let none : ⊥ = cc in none)
 -- A STORED CALL -----------------------------------------------------------------------------------
 
 module _ (t : Traced) (inv : Invariant t) (shows : show_replies t ≡ true) (fit : end_fittingly t ≡ true) where
-  -- its request, and the identifier of the connection's session that has the entry of its transaction
+  -- its request, and the identifier of the connection's session that has the entry of its
+  -- transaction
   record IsStored (link : Link) (one : Handled) : Type 0 where
     owner : Owner
     mine : one.sent.owner ≡ Some owner

@@ -1,4 +1,5 @@
--- Each value that a marked call carries was given to the same call of the same request at an earlier event, by an item without the mark.
+-- Each value that a marked call carries was given to the same call of the same request at an
+-- earlier event, by an item without the mark.
 use Rattle.std.proofs.Common.{◌≡◌, refl, sym, ap, subst, ◌∙◌, Bool, true, false, ℕ, ◌+◌, ◌<◌, ◌≤◌, ◌&&◌, ◌||◌, not, List, [], ◌∷◌, map, Option, Some, None, arith, ◌⊎◌, inl, inr}
 use Rattle.std.specs.Prelude.{◌==◌, nat_lt, nat_le, slice_get, is_some, is_none, length}
 use Rattle.std.specs.List.{list_all, list_any}

@@ -1,4 +1,5 @@
--- No call of a request is stored twice where no two stored calls of one connection, and none of two connections, are one call of one request.
+-- No call of a request is stored twice where no two stored calls of one connection, and none of two
+-- connections, are one call of one request.
 use Rattle.std.proofs.Common.{◌≡◌, refl, arith, ℕ, suc, ◌<◌, ◌&&◌, not, Bool, true, false, List, [], ◌∷◌, map, Some, if◌then◌else◌}
 use Rattle.std.specs.Prelude.{◌==◌, drop, flat_map, slice_get}
 use Rattle.std.specs.List.{list_all}

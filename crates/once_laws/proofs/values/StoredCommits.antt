@@ -1,4 +1,5 @@
--- A stored call's transaction has its commit on the connection, at its place or behind it: nothing that begins or ends a transaction stands before that.
+-- A stored call's transaction has its commit on the connection, at its place or behind it: nothing
+-- that begins or ends a transaction stands before that.
 use Rattle.std.proofs.Common.{◌≡◌, refl, sym, ap, ◌∙◌, arith, ℕ, suc, zero, ◌<◌, ◌≤◌, ◌&&◌, not, Bool, true, false, List, [], ◌∷◌, Some, if◌then◌else◌}
 use Rattle.std.specs.Prelude.{drop, slice_get}
 use Rattle.svc_values.specs.meaning.Endings.{ends_committed}

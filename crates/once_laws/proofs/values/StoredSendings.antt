@@ -1,4 +1,5 @@
--- The call that stored a transaction on a connection is the sending of its request: under an identifier of the connection's session that has its entry.
+-- The call that stored a transaction on a connection is the sending of its request: under an
+-- identifier of the connection's session that has its entry.
 use Rattle.std.proofs.Common.{◌≡◌, ◌≢◌, refl, sym, ap, subst, ◌∙◌, arith, Bool, true, false, ℕ, suc, ◌+◌, ◌<◌, ◌≤◌, ◌&&◌, filter, length, List, [], Option, Some, None, ◌⊎◌, inl, inr}
 use Rattle.std.specs.Prelude.{◌==◌, count_by, is_none, nat_le, slice_get}
 use Rattle.std.specs.Cmp.Lexicographic.{pointwise}

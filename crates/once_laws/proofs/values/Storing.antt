@@ -1,4 +1,5 @@
--- How the call that stored a transaction was served: as a commit that was answered, or stopped, with the entry of what is held; and what is known of one identifier.
+-- How the call that stored a transaction was served: as a commit that was answered, or stopped,
+-- with the entry of what is held; and what is known of one identifier.
 use Rattle.std.proofs.Common.{◌≡◌, refl, sym, ap, subst, ◌∙◌, arith, Bool, true, false, ℕ, suc, zero, ◌+◌, ◌&&◌, ◌||◌, cond, length, List, [], ◌∷◌, Option, Some, None, ◌⊎◌, inl, inr}
 use Rattle.std.specs.Prelude.{◌==◌, count_by, is_none, is_some, not, slice_get}
 use Rattle.std.specs.List.{list_all, list_any, last_or}

@@ -1,4 +1,5 @@
--- What is said of a document and its report: the first of the clauses that is false, if one is, and where; or that it is undecided.
+-- What is said of a document and its report: the first of the clauses that is false, if one is, and
+-- where; or that it is undecided.
 use Rattle.std.specs.Prelude.{◌≡◌, ◌&&◌, Bool, not, List, [], ◌∷◌, ℕ, find, Option, Some}
 use Rattle.outage_schedule.specs.declared.document.Document.{Document}
 use Rattle.outage_schedule.specs.declared.report.Report.{Report}

@@ -1,5 +1,5 @@
--- The limits that the small parts of a report keep to: numbers have 64 bits, names are names, and texts, octets, rows and answers are no longer
--- than those of a document.
+-- The limits that the small parts of a report keep to: numbers have 64 bits, names are names, and
+-- texts, octets, rows and answers are no longer than those of a document.
 use Rattle.std.specs.Prelude.{ℕ, ◌^◌, ◌&&◌, ◌==◌, Bool, true, nat_le, nat_lt, List, length}
 use Rattle.std.specs.List.{list_all}
 use Rattle.json_form.specs.meaning.Values.{fits_i64}

@@ -1,4 +1,5 @@
--- What the types of a report keep. (That a call can be made, and that each insert of it has a value, is no part of it: its document says so.)
+-- What the types of a report keep. (That a call can be made, and that each insert of it has a
+-- value, is no part of it: its document says so.)
 use Rattle.std.specs.Prelude.{◌&&◌, Bool, true, IsTrue, None}
 use Rattle.std.specs.List.{list_all}
 use Rattle.svc_values.specs.meaning.SettingsList.{NamedValues}
@@ -45,7 +46,8 @@ served_fits one = fits_u64 one.event && (fits_session one.session && item_fits o
 abbrev pub fits_table : ReportTable → Bool
 fits_table table = is_name table.name && list_all fits_row table.rows
 
--- octets are bytes; numbers, names, texts, octets, rows and answers keep to their limits; and settings rise
+-- octets are bytes; numbers, names, texts, octets, rows and answers keep to their limits; and
+-- settings rise
 pub record KeepsLimits (report : Report) : Type 0 where
   pub octets : ReportOfBytes report
   pub alerts : IsTrue (list_all fits_line report.alerts)

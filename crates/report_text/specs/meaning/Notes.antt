@@ -17,8 +17,8 @@ use Rattle.report_text.specs.meaning.Parts.{headed, lone}
 use Rattle.report_text.specs.meaning.Values.{identifier_value}
 use Rattle.report_text.specs.meaning.Answers.{answers_value, draws_value}
 
--- What a client's step did: a word, then for a connection its number, and for a frame taken how many
--- were sent. One frame was sent on a connection that was opened, and two on one that was lent.
+-- What a client's step did: a word, then for a connection its number, and for a frame taken how
+-- many were sent. One frame was sent on a connection that was opened, and two on one that was lent.
 abbrev pub did_values : GoNote → List Data
 did_values did.Idle = text (codes "idle") ∷ []
 did_values did.Wait = text (codes "wait") ∷ []

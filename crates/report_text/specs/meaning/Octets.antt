@@ -1,5 +1,5 @@
--- Reports whose octets, digests and image are bytes, numbers below 256, as each report that a program
--- holds has them. Of other numbers the two digits do not tell which they are.
+-- Reports whose octets, digests and image are bytes, numbers below 256, as each report that a
+-- program holds has them. Of other numbers the two digits do not tell which they are.
 use Rattle.std.specs.Prelude.{ℕ, List, Option, Some, None}
 use Rattle.std.specs.List.{AllByRecursion}
 use Rattle.hex.specs.Hex.{IsBytes}

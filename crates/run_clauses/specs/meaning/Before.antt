@@ -36,7 +36,8 @@ abbrev pub given_journal : Base → Option (List ℕ) → Journal
 given_journal base None = new_journal base
 given_journal base (Some image) = read_journal base (journal_of image)
 
--- The journal before event 1: that of the document's image, and else one of nothing but the document's base.
+-- The journal before event 1: that of the document's image, and else one of nothing but the
+-- document's base.
 abbrev pub journal_before : Document → Journal
 journal_before document = given_journal (base_of document) document.image
 
@@ -52,7 +53,8 @@ writes_of entries = flat_map (λ entry. entry.writes) entries
 abbrev pub tables_of : Journal → List PlainRow
 tables_of journal = with_writes (start_of journal.base) (writes_of journal.entries)
 
--- `Start`: the tables before event 1, those of the document, or those of its image after the image's own entries
+-- `Start`: the tables before event 1, those of the document, or those of its image after the
+-- image's own entries
 abbrev pub start : Document → List PlainRow
 start document = tables_of (journal_before document)
 

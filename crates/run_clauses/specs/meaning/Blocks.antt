@@ -9,7 +9,8 @@ use Rattle.outage_schedule.specs.declared.item.Item.TheVariants as item
 use Rattle.run_clauses.specs.meaning.Moments.{HappenedAt, Happened, ServedItem, RanOutside, Asked}
 use Rattle.run_clauses.specs.meaning.Outcomes.{is_uncommitted}
 
--- An identifier that was answered uncommitted, or that a crashed item carries: then it may have been blocked or not.
+-- An identifier that was answered uncommitted, or that a crashed item carries: then it may have
+-- been blocked or not.
 pub record Answered : Type 0 where
   pub ltxid : Ltxid
   pub may_be : Bool
@@ -31,19 +32,21 @@ answered_at (RanOutside ran) = []
 abbrev pub answered_in : List HappenedAt → List Answered
 answered_in moments = flat_map (λ moment. answered_at moment.happened) moments
 
--- Each identifier of `blocked` was answered uncommitted to an `outcome` item or `ask` note, or a `crashed` item that carries it stands
--- in `served`.
+-- Each identifier of `blocked` was answered uncommitted to an `outcome` item or `ask` note, or a
+-- `crashed` item that carries it stands in `served`.
 abbrev pub blocks_answered : List Answered → List Ltxid → Bool
 blocks_answered answered blocked = list_all (λ x. list_any (λ one. same_ltxid one.ltxid x) answered) blocked
 
--- The blocks of a run on the way over the answers: the identifiers that are blocked, and those of `blocked` that come next. `fits` is
--- false once an identifier was answered uncommitted that is neither blocked nor the next.
+-- The blocks of a run on the way over the answers: the identifiers that are blocked, and those of
+-- `blocked` that come next. `fits` is false once an identifier was answered uncommitted that is
+-- neither blocked nor the next.
 pub record Blocks : Type 0 where
   pub done : List Ltxid
   pub coming : List Ltxid
   pub fits : Bool
 
--- the identifier is blocked now, where it is the next one; and else it was one that may have been blocked and was not
+-- the identifier is blocked now, where it is the next one; and else it was one that may have been
+-- blocked and was not
 abbrev pub block_next : Answered → Blocks → List Ltxid → Blocks
 block_next one blocks [] = record blocks { fits = blocks.fits && one.may_be }
 block_next one blocks (next ∷ coming) =
@@ -55,6 +58,7 @@ after_answer blocks one = cond (is_blocked blocks.done one.ltxid) blocks (block_
 abbrev pub is_done : Blocks → Bool
 is_done blocks = blocks.fits && nat_eq (length blocks.coming) 0
 
--- An identifier stands in `blocked` at most once, in the order in which the blocks were stored. (`before` are those of the image.)
+-- An identifier stands in `blocked` at most once, in the order in which the blocks were stored.
+-- (`before` are those of the image.)
 abbrev pub blocks_in_order : List Ltxid → List Answered → List Ltxid → Bool
 blocks_in_order before answered blocked = is_done (fold after_answer (record { done = before; coming = blocked; fits = true }) answered)

@@ -66,8 +66,8 @@ are_all_copies allowed (copy ∷ next ∷ copies) = are_all_copies (allowed - 1)
 abbrev pub is_over : Copies → Bool
 is_over copies = are_all_copies copies.request.again copies.reports
 
--- The place in its script of the request that a client submits next: that of the last report where a further copy follows it, and
--- else the first one without a report.
+-- The place in its script of the request that a client submits next: that of the last report where
+-- a further copy follows it, and else the first one without a report.
 abbrev pub next_place : List Request → List RequestReport → Option ℕ
 next_place script transcript = position (λ copies. not (is_over copies)) (copies_of script transcript)
 
@@ -88,8 +88,8 @@ each_copies test document report = list_all (list_all test) (copies_by_client do
 
 -- ---- what `Whole` says of the reports themselves
 
--- The reports of a client are the copies of its requests, in script order, each request with a first copy and each further one
--- exactly where it follows.
+-- The reports of a client are the copies of its requests, in script order, each request with a
+-- first copy and each further one exactly where it follows.
 abbrev pub is_in_script_order : List Request → List RequestReport → Bool
 is_in_script_order script transcript = list_all is_over (copies_of script transcript) && (length (left_over script transcript) == 0)
 

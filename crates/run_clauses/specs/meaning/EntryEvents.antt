@@ -27,7 +27,8 @@ commits_by session before = count_by (λ commit. same_session commit.session ses
 abbrev pub next_of_session : SessionId → List Commit → Ltxid
 next_of_session session before = record { incarnation = session.incarnation; session = session.session; number = commits_by session before }
 
--- A crashed call committed where it has no mark and a commit, and the entries have its session's next identifier.
+-- A crashed call committed where it has no mark and a commit, and the entries have its session's
+-- next identifier.
 abbrev pub has_crashed_commit : List Entry → List Commit → SessionId → Bool → Call → Bool
 has_crashed_commit entries before session replay call =
     not replay && (has_commit call && list_any (λ entry. same_ltxid entry.ltxid (next_of_session session before)) entries)
@@ -79,7 +80,8 @@ stored_entries report = stored_at report.entries (commits report)
 abbrev pub entries_of : List Entry → SessionId → ℕ
 entries_of entries session = count_by (λ entry. is_of_session session entry.ltxid) entries
 
--- The number of the session's entries stored before an event: those of the image, and those of the run.
+-- The number of the session's entries stored before an event: those of the image, and those of the
+-- run.
 abbrev pub stored_before : List Entry → List StoredEntry → SessionId → ℕ → ℕ
 stored_before image stored session event =
     entries_of image session + count_by (λ one. is_of_session session one.ltxid && nat_lt one.event event) stored

@@ -1,4 +1,5 @@
--- The horizon at each event, below which the outcomes of all incarnations are forgotten, and the incarnation that runs behind the last.
+-- The horizon at each event, below which the outcomes of all incarnations are forgotten, and the
+-- incarnation that runs behind the last.
 use Rattle.std.specs.Prelude.{ℕ, ◌+◌, max, Bool, false, nat_lt, cond, List, [], ◌∷◌, ◌++◌, length, map, filter, fold, Option, Some, None}
 use Rattle.outage_schedule.specs.declared.note.Note.{Note}
 use Rattle.outage_schedule.specs.declared.note.Note.TheVariants as note
@@ -11,7 +12,8 @@ pub record Ended : Type 0 where
   pub incarnation : ℕ
   pub tick : ℕ
 
--- How far a run has come: the tick, the incarnation that goes on, if any does, and those that ended.
+-- How far a run has come: the tick, the incarnation that goes on, if any does, and those that
+-- ended.
 pub record Openings : Type 0 where
   pub tick : ℕ
   pub running : Option ℕ
@@ -36,7 +38,8 @@ after_note openings (note.Crash connection false) = record openings { running = 
 after_note openings (note.Up (Some incarnation)) = record openings { running = Some incarnation }
 after_note openings _ = openings
 
--- The wanted horizon: one more than the greatest incarnation that ended more than `retention` ticks ago, and 0 where there is none.
+-- The wanted horizon: one more than the greatest incarnation that ended more than `retention` ticks
+-- ago, and 0 where there is none.
 abbrev pub wanted_horizon : ℕ → Openings → ℕ
 wanted_horizon retention openings =
     fold max 0 (map (λ one. one.incarnation + 1) (filter (λ one. nat_lt (one.tick + retention) openings.tick) openings.ended))
@@ -56,7 +59,8 @@ wanted_from retention event openings [] = []
 wanted_from retention event openings (first ∷ notes) =
     wanted_at retention event openings first ++ wanted_from retention (event + 1) (after_note openings first) notes
 
--- The image's horizon, raised by each `up` note before the event, other than none, to its wanted horizon where that is greater.
+-- The image's horizon, raised by each `up` note before the event, other than none, to its wanted
+-- horizon where that is greater.
 abbrev pub raised : ℕ → List Wanted → ℕ → ℕ
 raised image openings event = fold max image (map (λ one. one.horizon) (filter (λ one. nat_lt one.event event) openings))
 
@@ -76,7 +80,8 @@ abbrev pub incarnation_after : ℕ → Note → ℕ
 incarnation_after incarnation (note.Up (Some opened)) = opened
 incarnation_after incarnation _ = incarnation
 
--- that of the last opening: of the one before event 1, and of each `up` note behind it other than none
+-- that of the last opening: of the one before event 1, and of each `up` note behind it other than
+-- none
 abbrev pub incarnation_behind : Document → List Note → ℕ
 incarnation_behind document notes = fold incarnation_after ((journal_before document).incarnation + 1) notes
 

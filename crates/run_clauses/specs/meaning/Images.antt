@@ -12,8 +12,9 @@ use Rattle.run_clauses.specs.meaning.Comparing.{same_base, same_entry}
 use Rattle.run_clauses.specs.meaning.Serial.{same_report_table, printed_tables}
 use Rattle.run_clauses.specs.meaning.Horizons.{last_horizon}
 
--- It has the base, the entries, the blocks and the alert lines of the journal before the run, followed by those of the report. (A report
--- prints no writes: those of the image give the report's tables.)
+-- It has the base, the entries, the blocks and the alert lines of the journal before the run,
+-- followed by those of the report. (A report prints no writes: those of the image give the report's
+-- tables.)
 abbrev pub follows : Journal → Report → Journal → Bool
 follows before report journal =
     same_base journal.base before.base

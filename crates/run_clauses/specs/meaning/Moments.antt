@@ -1,4 +1,5 @@
--- What a run tells of its sessions, in the order of events: the served items, and the notes of `outside` and `ask`.
+-- What a run tells of its sessions, in the order of events: the served items, and the notes of
+-- `outside` and `ask`.
 use Rattle.std.specs.Prelude.{ℕ, ◌+◌, nat_lt, List, [], ◌∷◌, ◌++◌, Some, if◌then◌else◌}
 use Rattle.svc_values.specs.declared.entry.Ltxid.{Ltxid}
 use Rattle.svc_values.specs.declared.entry.SessionId.{SessionId}

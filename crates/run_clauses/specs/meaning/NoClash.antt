@@ -60,7 +60,7 @@ request_does_not_clash replayed request copy = calls_do_not_clash (served_by cop
 abbrev pub copies_do_not_clash : List Replayed → Copies → Bool
 copies_do_not_clash replayed copies = list_all (request_does_not_clash replayed copies.request) copies.reports
 
--- `NoClash`: for each call that was shown, and each reply to this call with the replay mark by a session of its request, equal digests
--- imply equal answers.
+-- `NoClash`: for each call that was shown, and each reply to this call with the replay mark by a
+-- session of its request, equal digests imply equal answers.
 abbrev pub no_clash : Document → Report → Bool
 no_clash document report = each_copies (copies_do_not_clash (replayed_in report.served)) document report

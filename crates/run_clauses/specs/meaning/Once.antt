@@ -49,7 +49,8 @@ entries_of_copies entries copies = entries_in entries (flat_map ids_tried copies
 abbrev pub ids_of_last : Option RequestReport → List Ltxid
 ids_of_last copy = option_map_or ids_tried copy []
 
--- Over all copies of one request with `again` above 0 there is at most one entry, and its identifier is in a list of the last copy.
+-- Over all copies of one request with `again` above 0 there is at most one entry, and its
+-- identifier is in a list of the last copy.
 abbrev pub copies_have_one : List Entry → Copies → Bool
 copies_have_one entries copies =
     (copies.request.again == 0)
@@ -70,8 +71,9 @@ dropped_has_none entries txn = not (is_shown_dropped txn) || (count_in entries t
 abbrev pub has_entry_in : List Entry → List Ltxid → Ltxid → Bool
 has_entry_in entries ids x = holds ids x && list_any (λ entry. same_ltxid entry.ltxid x) entries
 
--- A copy that failed with Incomplete(x) has the entry x in its last transaction. After Retries or Unknown the last transaction has at
--- most one entry. Without a Failed, or with Disabled, Mismatch, Replays, ReplayTimeout or PoolWait, it has none.
+-- A copy that failed with Incomplete(x) has the entry x in its last transaction. After Retries or
+-- Unknown the last transaction has at most one entry. Without a Failed, or with Disabled, Mismatch,
+-- Replays, ReplayTimeout or PoolWait, it has none.
 abbrev pub may_end : List Entry → Option Failure → List Ltxid → Bool
 may_end entries None ids = count_in entries ids == 0
 may_end entries (Some (failure.Incomplete x)) ids = has_entry_in entries ids x

@@ -23,8 +23,8 @@ completed_of entries x = option_map (λ entry. entry.completed) (entry_of entrie
 abbrev pub has_committed : ℕ → State
 has_committed next = record { next = next; blocked = false; completed = false }
 
--- What a verdict tells of an identifier, where this is known of its entry. (Whether it was blocked before makes no other answer. None
--- stands where the entry is not there.)
+-- What a verdict tells of an identifier, where this is known of its entry. (Whether it was blocked
+-- before makes no other answer. None stands where the entry is not there.)
 abbrev pub told_of : Verdict → Option Bool → Option AskResult
 told_of verdict.BlockIt completed = Some told.Uncommitted
 told_of verdict.AlreadyBlocked completed = Some told.Uncommitted
@@ -33,7 +33,8 @@ told_of (verdict.ServerAhead next) completed = Some (told.ServerAhead next)
 told_of (verdict.ClientAhead next) completed = Some (told.ClientAhead next)
 told_of (verdict.Forgotten horizon) completed = Some (told.Forgotten horizon)
 
--- The outcome by the service's table, with the horizon, the number of the session's entries, and whether the entry x is completed.
+-- The outcome by the service's table, with the horizon, the number of the session's entries, and
+-- whether the entry x is completed.
 abbrev pub outcome_of : ℕ → ℕ → Option Bool → Ltxid → Option AskResult
 outcome_of horizon next completed x = told_of (verdict_of (known_from horizon (λ incarnation session. has_committed next)) x) completed
 

@@ -33,7 +33,8 @@ reason_of (why.Asked call) = reason.Asked call
 reason_of (why.Full limit) = reason.Full limit
 reason_of (why.StateLost call) = reason.StateLost call
 
--- An error as it is reported. (No run of an honest service has BadPeer, and a report has no word for it.)
+-- An error as it is reported. (No run of an honest service has BadPeer, and a report has no word
+-- for it.)
 abbrev pub failure_of : Failed → Option Failure
 failure_of (failed.Disabled because event) = Some (failure.Disabled (reason_of because) event)
 failure_of (failed.Mismatch call seen now) = Some (failure.Mismatch call seen now)

@@ -1,4 +1,5 @@
--- A transaction stands in the journal with the calls, answers, granted draws and settings that its client knows.
+-- A transaction stands in the journal with the calls, answers, granted draws and settings that its
+-- client knows.
 use Rattle.std.specs.Prelude.{ℕ, ◌+◌, ◌&&◌, Bool, true, false, cond, List, [], ◌∷◌, length, map, filter, take, drop, is_some, None}
 use Rattle.std.specs.List.{list_all, last_or}
 use Rattle.std.specs.Option.{option_map_or}
@@ -30,13 +31,15 @@ has_answers pieces [] = true
 has_answers [] (shown ∷ more) = false
 has_answers (piece ∷ pieces) (shown ∷ more) = same_answers piece.answers shown.answers && has_answers pieces more
 
--- For each call that was shown, the entry's granted draws, in order, are the granted ones that it was shown with.
+-- For each call that was shown, the entry's granted draws, in order, are the granted ones that it
+-- was shown with.
 abbrev pub has_draws : (Draw → Bool) → List Piece → List ShownCall → Bool
 has_draws granted pieces [] = true
 has_draws granted [] (shown ∷ more) = false
 has_draws granted (piece ∷ pieces) (shown ∷ more) = same_draws (filter granted piece.draws) (filter granted shown.draws) && has_draws granted pieces more
 
--- `Same(t, entry)` of a transaction that begins with these settings, has these calls of the script, and was shown these
+-- `Same(t, entry)` of a transaction that begins with these settings, has these calls of the script,
+-- and was shown these
 abbrev pub is_same : (Draw → Bool) → NamedValues → List Call → List ShownCall → Entry → Bool
 is_same granted settings calls shown entry =
     has_calls entry calls && (has_answers entry.pieces shown && (has_draws granted entry.pieces shown && same_settings entry.settings settings))
@@ -45,8 +48,9 @@ is_same granted settings calls shown entry =
 abbrev pub is_same_txn : (Draw → Bool) → List Entry → NamedValues → List Call → Txn → Bool
 is_same_txn granted entries settings calls txn = list_all (is_same granted settings calls txn.shown) (entries_in entries txn.tried)
 
--- The transactions of a request one after the other, with the settings before the first call and the script's calls from there on.
--- The last one has so many calls more than were shown: those that were submitted and not shown.
+-- The transactions of a request one after the other, with the settings before the first call and
+-- the script's calls from there on. The last one has so many calls more than were shown: those that
+-- were submitted and not shown.
 abbrev pub are_same : (Draw → Bool) → List Entry → NamedValues → List Call → ℕ → List Txn → Bool
 are_same granted entries settings script more [] = true
 are_same granted entries settings script more (txn ∷ []) = is_same_txn granted entries settings (take (length txn.shown + more) script) txn
@@ -58,8 +62,9 @@ abbrev pub is_any : List Ltxid → Bool
 is_any [] = false
 is_any (x ∷ ids) = true
 
--- How many calls count as submitted and not shown: one, the first that was not shown, where the request failed and the last list has an
--- identifier. (Where this is an entry's, that call was submitted: none that was shown in the last transaction committed.)
+-- How many calls count as submitted and not shown: one, the first that was not shown, where the
+-- request failed and the last list has an identifier. (Where this is an entry's, that call was
+-- submitted: none that was shown in the last transaction committed.)
 abbrev pub unshown : RequestReport → ℕ
 unshown request = cond (is_some request.failed && option_map_or is_any (last_or None request.tried) false) 1 0
 

@@ -34,11 +34,13 @@ are_printed base printed (Some tables) = pointwise same_report_table printed (pr
 abbrev pub tables_after : Document → Report → Option (List PlainRow)
 tables_after document report = serial_after (shape document) (start document) report.entries
 
--- `Serial` of a report: its entries run one after the other from `Start`, and its tables are those after the last.
+-- `Serial` of a report: its entries run one after the other from `Start`, and its tables are those
+-- after the last.
 abbrev pub serial : Document → Report → Bool
 serial document report = are_printed (journal_before document).base report.tables (tables_after document report)
 
--- The same as a proposition, in which the runs of the service are proved: they give the tables after the entries.
+-- The same as a proposition, in which the runs of the service are proved: they give the tables
+-- after the entries.
 pub record IsSerial (document : Document) (report : Report) : Type 0 where
   pub after : List PlainRow
   pub runs : Serial (shape document) (start document) report.entries after

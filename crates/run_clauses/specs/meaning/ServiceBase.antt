@@ -20,7 +20,8 @@ sequences_of journal = map (sequence_of journal.reserved) journal.base.sequences
 abbrev pub grants_of : KeepOf → Grants
 grants_of keep = record { seq = keep.seq; clock = keep.clock; id = keep.id }
 
--- The service's base: that of the document or of its image, with the image's entries, blocks, alerts and last incarnation.
+-- The service's base: that of the document or of its image, with the image's entries, blocks,
+-- alerts and last incarnation.
 abbrev pub service_base : Document → Base
 service_base document =
     let before : Journal = journal_before document in

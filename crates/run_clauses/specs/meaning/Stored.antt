@@ -23,7 +23,8 @@ use Rattle.run_clauses.specs.meaning.Outcomes.{completed_of, outcome_of, is_told
 use Rattle.run_clauses.specs.meaning.Blocks.{answered_in, blocks_answered, blocks_in_order}
 use Rattle.run_clauses.specs.meaning.Images.{image_fits}
 
--- What the journal of a run says: the image's entries and blocks followed by the report's, when each entry was stored, and the horizons.
+-- What the journal of a run says: the image's entries and blocks followed by the report's, when
+-- each entry was stored, and the horizons.
 pub record Kept : Type 0 where
   pub image : List Entry
   pub entries : List Entry
@@ -46,7 +47,8 @@ kept_by document report =
 
 -- ---- what clients were told
 
--- An outcome has committed true exactly where the journal has an entry x, and completed is then that entry's.
+-- An outcome has committed true exactly where the journal has an entry x, and completed is then
+-- that entry's.
 abbrev pub has_entry : List Entry → Outcome → Bool
 has_entry entries outcome =
     same_bool outcome.committed (is_some (completed_of entries outcome.ltxid))
@@ -71,14 +73,15 @@ next_at k event x = stored_before k.image k.stored (session_of x) event
 abbrev pub horizon_before : Kept → ℕ → ℕ
 horizon_before k event = raised k.horizon k.openings event
 
--- It answers by the outcome table, with the number of the session's entries stored before the event. An x answered uncommitted is
--- blocked in the journal.
+-- It answers by the outcome table, with the number of the session's entries stored before the
+-- event. An x answered uncommitted is blocked in the journal.
 abbrev pub is_answer : Kept → ℕ → Ltxid → AskResult → Bool
 is_answer k event x answer =
     is_told (outcome_of (horizon_before k event) (next_at k event x) (completed_of k.entries x) x) answer
     && (not (is_uncommitted answer) || is_blocked k.blocked x)
 
--- An `outcome` item says forgotten with h exactly where h is the horizon at its event and x's incarnation is below h.
+-- An `outcome` item says forgotten with h exactly where h is the horizon at its event and x's
+-- incarnation is below h.
 abbrev pub is_rightly_forgotten : Kept → ℕ → Ltxid → AskResult → Bool
 is_rightly_forgotten k event x answer =
     same_bool (is_forgotten answer) (nat_lt x.incarnation (horizon_before k event))

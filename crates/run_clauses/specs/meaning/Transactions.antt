@@ -9,18 +9,21 @@ use Rattle.outage_schedule.specs.declared.request.ShownCall.{ShownCall}
 use Rattle.outage_schedule.specs.declared.request.RequestReport.{RequestReport}
 use Rattle.outage_schedule.specs.declared.report.Report.{Report}
 
--- a call put first: into a part of its own where it ends its transaction, and else into the first part
+-- a call put first: into a part of its own where it ends its transaction, and else into the first
+-- part
 abbrev pub put_first : Bool → ShownCall → List (List ShownCall) → List (List ShownCall)
 put_first true call parts = (call ∷ []) ∷ parts
 put_first false call [] = (call ∷ []) ∷ []
 put_first false call (part ∷ parts) = (call ∷ part) ∷ parts
 
--- `txns`: The shown calls are cut after each that ends with Committed, Conflict or RolledBack. The last part holds those after that.
+-- `txns`: The shown calls are cut after each that ends with Committed, Conflict or RolledBack. The
+-- last part holds those after that.
 abbrev pub txns : List ShownCall → List (List ShownCall)
 txns [] = [] ∷ []
 txns (call ∷ calls) = put_first (ends_transaction call.answers) call (txns calls)
 
--- A transaction: the calls of it that were shown, and the identifiers under which it may have committed.
+-- A transaction: the calls of it that were shown, and the identifiers under which it may have
+-- committed.
 pub record Txn : Type 0 where
   pub shown : List ShownCall
   pub tried : List Ltxid

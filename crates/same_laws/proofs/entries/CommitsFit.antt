@@ -1,4 +1,5 @@
--- How commits are answered on a run's connections: CommitInReplay ends the answers only of a call with the mark, and a commit with no statement has one answer.
+-- How commits are answered on a run's connections: CommitInReplay ends the answers only of a call
+-- with the mark, and a commit with no statement has one answer.
 use Rattle.std.proofs.Common.{◌≡◌, refl, ap, Bool, true, false, ℕ, List, [], ◌∷◌}
 use Rattle.std.specs.Prelude.{◌==◌, length}
 use Rattle.std.proofs.lemmas.Bool.{and_from}

@@ -1,4 +1,5 @@
--- Each piece of an entry drew the granted values with which its call was shown, and the last one has the shown answers, where it was shown.
+-- Each piece of an entry drew the granted values with which its call was shown, and the last one
+-- has the shown answers, where it was shown.
 use Rattle.std.proofs.Common.{◌≡◌, refl, sym, ap, ◌∙◌, arith, Bool, true, false, ℕ, zero, suc, ◌+◌, drop, filter, length, List, [], ◌∷◌, ◌++◌, Option, Some, None}
 use Rattle.std.specs.Prelude.{◌==◌, slice_get}
 use Rattle.std.specs.List.{list_all, last_or}

@@ -1,5 +1,6 @@
--- Wherever a run has come to, each entry under the identifier of a sending that is open or was answered Committed has the calls of the script that
--- end with the one that was sent, and the settings before them: no other entry has the identifier.
+-- Wherever a run has come to, each entry under the identifier of a sending that is open or was
+-- answered Committed has the calls of the script that end with the one that was sent, and the
+-- settings before them: no other entry has the identifier.
 use Rattle.std.proofs.Common.{◌≡◌, refl, sym, ◌∙◌, Bool, true, false, ◌&&◌, ◌||◌, List, [], ◌∷◌, Option, Some, None, ◌⊎◌, inl, inr}
 use Rattle.std.specs.Prelude.{not, is_some}
 use Rattle.std.specs.List.{list_all, list_any}

@@ -1,5 +1,5 @@
--- The transaction of an entry is its request's first, or it begins behind a call that was shown as the end of one: with a decided commit, or as its
--- connection answered it.
+-- The transaction of an entry is its request's first, or it begins behind a call that was shown as
+-- the end of one: with a decided commit, or as its connection answered it.
 use Rattle.std.proofs.Common.{◌≡◌, refl, sym, ap, ◌∙◌, arith, Bool, true, false, ℕ, ◌+◌, ◌-◌, ◌<◌, ◌≤◌, ◌&&◌, ◌||◌, filter, List, [], ◌∷◌, ◌++◌, Option, Some, None, ◌⊎◌, inl, inr}
 use Rattle.std.specs.Prelude.{◌==◌, nat_le, nat_lt, slice_get}
 use Rattle.std.specs.List.{list_all, list_any, last_or}

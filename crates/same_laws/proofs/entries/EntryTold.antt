@@ -1,4 +1,5 @@
--- On the connection of an entry: what its request knows of the calls that were served there, and of the pieces of the entry's transaction.
+-- On the connection of an entry: what its request knows of the calls that were served there, and of
+-- the pieces of the entry's transaction.
 use Rattle.std.proofs.Common.{◌≡◌, refl, sym, ap, ◌∙◌, Bool, true, ℕ, ◌+◌, List, [], ◌∷◌, ◌++◌}
 use Rattle.std.specs.List.{list_all}
 use Rattle.std.specs.Option.{option_map_or}

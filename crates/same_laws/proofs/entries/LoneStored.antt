@@ -1,4 +1,5 @@
--- A call that is a commit with no statement means Committed and asks for no draws. So each entry that a run added and that such a call stored has these answers for it.
+-- A call that is a commit with no statement means Committed and asks for no draws. So each entry
+-- that a run added and that such a call stored has these answers for it.
 use Rattle.std.proofs.Common.{◌≡◌, refl, sym, ap, ◌∙◌, Bool, true, false, ℕ, List, [], ◌∷◌, Some, None}
 use Rattle.std.specs.Prelude.{◌==◌, ◌&&◌, length, drop}
 use Rattle.std.specs.List.{list_all, last_or}

@@ -1,4 +1,5 @@
--- Where each entry of a sending that is open or was answered Committed is as its request knows, so is each transaction of a request that is over.
+-- Where each entry of a sending that is open or was answered Committed is as its request knows, so
+-- is each transaction of a request that is over.
 use Rattle.std.proofs.Common.{◌≡◌, refl, sym, ap, ◌∙◌, Bool, true, false, ℕ, zero, suc, ◌+◌, ◌<◌, ◌&&◌, ◌||◌, drop, length, map, take, List, [], ◌∷◌, Option, Some, None, ◌⊎◌, inl, inr, arith}
 use Rattle.std.specs.Prelude.{◌==◌, not, slice_get, is_none, is_some}
 use Rattle.std.specs.List.{list_all, list_any}

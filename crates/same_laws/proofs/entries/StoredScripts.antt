@@ -1,4 +1,5 @@
--- A sending that was answered Committed has an entry with the calls of the script that end with the one that was sent, wherever a run has come to.
+-- A sending that was answered Committed has an entry with the calls of the script that end with the
+-- one that was sent, wherever a run has come to.
 use Rattle.std.proofs.Common.{◌≡◌, refl, sym, ap, subst, ◌∙◌, Bool, true, false, ℕ, ◌&&◌, ◌||◌, filter, length, List, [], ◌++◌, Some}
 use Rattle.std.specs.Prelude.{not, is_some}
 use Rattle.std.specs.List.{list_all, list_any}

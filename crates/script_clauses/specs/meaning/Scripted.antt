@@ -24,8 +24,9 @@ begins_with (call ∷ script) (piece ∷ pieces) = same_call piece.call call && 
 abbrev pub stands_first : NamedValues → List Call → Entry → Bool
 stands_first settings script entry = begins_with script entry.pieces && same_settings entry.settings settings
 
--- The entry's calls are a stretch of the script, the calls from some place on, and its settings are those that the request has there: it has
--- these before the script's first call, and each `set` changes one.
+-- The entry's calls are a stretch of the script, the calls from some place on, and its settings are
+-- those that the request has there: it has these before the script's first call, and each `set`
+-- changes one.
 abbrev pub is_stretch : NamedValues → List Call → Entry → Bool
 is_stretch settings [] entry = stands_first settings [] entry
 is_stretch settings (call ∷ script) entry = stands_first settings (call ∷ script) entry || is_stretch (with_set settings call) script entry

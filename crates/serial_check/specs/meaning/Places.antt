@@ -1,4 +1,5 @@
--- Where a report first fails to be a serial run of fresh values: JSON Pointers from the report's root.
+-- Where a report first fails to be a serial run of fresh values: JSON Pointers from the report's
+-- root.
 use Rattle.std.specs.Prelude.{ℕ, ◌+◌, ◌&&◌, Bool, true, false, not, List, [], ◌∷◌, ◌++◌, Option, Some, None, if◌then◌else◌, codes, decimal}
 use Rattle.std.specs.List.{list_any}
 use Rattle.svc_values.specs.declared.schema.Shape.{Shape}
@@ -36,8 +37,9 @@ pub data Course : Type 0 where
   Goes : (tables : List PlainRow) → Course
   Fails : (place : List ℕ) → Course
 
--- The pieces of entry n from the p-th on. A piece fails that its call does not mean, and one that commits and is not the last, or is the last
--- and does not commit. An entry fails that has no piece.
+-- The pieces of entry n from the p-th on. A piece fails that its call does not mean, and one that
+-- commits and is not the last, or is the last and does not commit. An entry fails that has no
+-- piece.
 abbrev pub and_then : List ℕ → Option Meant → (Meant → Course) → Course
 and_then place None next = Fails place
 and_then place (Some meant) next = next meant

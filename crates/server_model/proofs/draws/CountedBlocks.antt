@@ -1,5 +1,5 @@
--- A sequence as a walk counts it, beside the same sequence of the source: the numbers of values and of
--- blocks.
+-- A sequence as a walk counts it, beside the same sequence of the source: the numbers of values and
+-- of blocks.
 use Rattle.std.specs.Prelude.{◌≡◌, ◌⊎◌, ◌+◌, ◌*◌, ◌≤◌, ◌+ℤ◌, ℕ, zero, suc, ℤ, pos, int_le, Bool, true, false, Option, Some, None, if◌then◌else◌}
 use Rattle.std.specs.Ordering.{int_eq}
 use Rattle.std.proofs.Common.{refl, inl, inr, sym, ◌∙◌, ap, arith}

@@ -71,8 +71,8 @@ entered-numbers walk session now thing = by (nat_lt walk.numbers.incarnation ses
 
 -- ---- the relation
 
--- The walk has the last blocks of the source. Where nothing of its opening was stopped, the items that
--- come next begin with the source's numbers.
+-- The walk has the last blocks of the source. Where nothing of its opening was stopped, the items
+-- that come next begin with the source's numbers.
 pub record Keeps (history : List Happened) (core : Core) (walk : Walk) : Type 0 where
   pub spent : Spent walk.numbers core.opening
   pub ready : NoStop core.opening.incarnation history → Tracks (numbers_in walk.numbers core.opening.incarnation) core.opening

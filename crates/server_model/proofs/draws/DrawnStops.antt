@@ -1,5 +1,5 @@
--- A frame that a stop left without an answer draws as the walk has it, and behind it the walk has the last
--- blocks of the source.
+-- A frame that a stop left without an answer draws as the walk has it, and behind it the walk has
+-- the last blocks of the source.
 use Rattle.std.specs.Prelude.{◌≡◌, ◌++◌, ℕ, Bool, true, false, is_some, List, [], ◌∷◌, Some}
 use Rattle.std.proofs.Common.{refl, inl, inr, sym, ◌∙◌, ap, subst, append-nil}
 use Rattle.svc_values.specs.declared.draw.Draw.{Draw}
@@ -38,7 +38,8 @@ use Rattle.server_model.proofs.Stays.{outcomes_stay}
 use Rattle.server_model.proofs.draws.Tracking.{Tracks, drawn-all}
 use Rattle.server_model.proofs.draws.DrawnFrames.{deed_draws, asked-so, unmarked, ran-numbers}
 
--- the draws are right, the last blocks are the walk's, and where few identifiers were given the walk counts few
+-- the draws are right, the last blocks are the walk's, and where few identifiers were given the
+-- walk counts few
 pub record StopsRight (base : Base) (here : Walk) (session : SessionId) (now : ℕ) (frame : Up) (after : Core) : Type 0 where
   pub right : deed_draws base here (deed_in base here session now (without_answer frame)) ≡ true
   pub spent : Spent (behind_thing base here session now (without_answer frame)).numbers after.opening

@@ -1,4 +1,5 @@
--- Draws that are as they have to be, of the kinds of the kept ones: the granted ones among both are the same, in order.
+-- Draws that are as they have to be, of the kinds of the kept ones: the granted ones among both are
+-- the same, in order.
 use Rattle.std.specs.Prelude.{◌≡◌, ℕ, Bool, true, false, List, [], ◌∷◌, map, filter, cond, is_some, Option, Some, None, if◌then◌else◌}
 use Rattle.std.proofs.Common.{refl, sym, ◌∙◌, ap}
 use Rattle.svc_values.specs.declared.draw.Draw.{Draw}

@@ -1,5 +1,5 @@
--- The values that a source gave anew are among those that a walk may give, so a test that they meet is met
--- by some of them.
+-- The values that a source gave anew are among those that a walk may give, so a test that they meet
+-- is met by some of them.
 use Rattle.std.specs.Prelude.{◌≡◌, ◌⊎◌, ◌+◌, ◌*◌, ◌≤◌, ◌||◌, ◌+ℤ◌, ℕ, zero, suc, ℤ, pos, Bool, true, false, List, [], ◌∷◌, map, Option, Some, None, if◌then◌else◌}
 use Rattle.std.specs.Option.{option_map}
 use Rattle.std.specs.List.{list_any}

@@ -83,7 +83,8 @@ given-by (suc maybe) count value after is = by (int_eq value count.next) refl is
 
 -- ---- a new value
 
--- the numbers behind a new value: it was above those before, is not among what is above those after, and lies in one of their blocks
+-- the numbers behind a new value: it was above those before, is not among what is above those
+-- after, and lies in one of their blocks
 pub record Stepped (numbers : Numbers) (given : Draw) (after : Numbers) : Type 0 where
   pub on : OnDraws numbers after
   pub above : after.incarnation < 2 ^ 64 → after.identifiers < 2 ^ 64 → Above numbers given

@@ -1,5 +1,5 @@
--- Values that are still to come and those that came: what is above the numbers of a walk, which only rise, and what lies below the ends of
--- its blocks.
+-- Values that are still to come and those that came: what is above the numbers of a walk, which
+-- only rise, and what lies below the ends of its blocks.
 use Rattle.std.specs.Prelude.{◌≡◌, ◌⊎◌, ◌<◌, ◌≤◌, ◌^◌, ◌+ℤ◌, ℕ, ℤ, pos, int_le, Bool, true, false, List, Option, Some, None}
 use Rattle.std.specs.Ordering.{int_eq}
 use Rattle.std.proofs.Common.{refl, inl, inr, ◌∙◌, arith}

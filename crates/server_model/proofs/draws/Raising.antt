@@ -37,8 +37,8 @@ asks-one one asked name = by (is_of_sequence name one)
 
 -- ---- a sequence
 
--- So many values of the sequence were new: at most those that are asked for, and all of them where none is
--- kept.
+-- So many values of the sequence were new: at most those that are asked for, and all of them where
+-- none is kept.
 pub record Raises (asked : List DrawKind) (kept : List Draw) (name : List ℕ) (before after : Option SeqState) : Type 0 where
   pub often : ℕ
   pub few : often ≤ asks_in asked name

@@ -1,4 +1,5 @@
--- A call that is served again with the mark, brings the draws of its first time, and is answered the same draws the granted ones of these.
+-- A call that is served again with the mark, brings the draws of its first time, and is answered
+-- the same draws the granted ones of these.
 use Rattle.std.specs.Prelude.{◌≡◌, ◌+◌, ℕ, suc, Bool, true, false, List, [], ◌∷◌, ◌++◌, length, is_some, Option, Some, None, if◌then◌else◌}
 use Rattle.std.specs.Option.{option_map_or}
 use Rattle.std.proofs.Common.{refl, sym, ◌∙◌, ap, inl, inr}
@@ -105,7 +106,8 @@ items-split : (event : ℕ) (before : List Happened) (one : Happened) (behind : 
 items-split event [] one behind = (event, refl)
 items-split event (first ∷ before) one behind = let more = items-split (event + 1) before one behind in (more.0, ap (λ items. item_of event first ∷ items) more.1)
 
--- where a walk stands at a call of a history, which holds there, in the settings that the items before it tell
+-- where a walk stands at a call of a history, which holds there, in the settings that the items
+-- before it tell
 record HeldIn (base : Base) (settings : List _) (session : SessionId) (now : ℕ) (replay : Bool) (kept : List Draw) (called : Call) (answers : List Answer) (draws : List Draw) : Type 0 where
   here : Walk
   held : Held base here session now replay kept called answers draws

@@ -1,5 +1,5 @@
--- An opening's numbers stay such as can be spelled: a source gives a value only where it has room, so it has counted at most
--- 2 ^ 60 identifiers.
+-- An opening's numbers stay such as can be spelled: a source gives a value only where it has room,
+-- so it has counted at most 2 ^ 60 identifiers.
 use Rattle.std.specs.Prelude.{◌≡◌, ◌+◌, ◌<◌, ◌≤◌, ◌^◌, ℕ, Bool, List, [], ◌∷◌}
 use Rattle.std.proofs.Common.{inl, inr, sym, ap, subst, arith}
 use Rattle.svc_values.specs.declared.answer.Answer.{Answer}

@@ -1,4 +1,5 @@
--- The numbers of the walk over a run are such as can be spelled, at its start and as each item leaves them.
+-- The numbers of the walk over a run are such as can be spelled, at its start and as each item
+-- leaves them.
 use Rattle.std.specs.Prelude.{◌≡◌, ◌+◌, ◌<◌, ◌≤◌, ◌^◌, ◌&&◌, nat_lt, ℕ, Bool, true, List, [], ◌∷◌, ◌++◌}
 use Rattle.std.proofs.Common.{sym, ◌∙◌, ap, subst, arith, append-nil, append_assoc}
 use Rattle.std.proofs.lemmas.Bool.Decides.{nat_tests}

@@ -1,5 +1,5 @@
--- The last block of each sequence, as a walk tells it: what a stopped call and one that was answered
--- Blocked leave of it, and where a later opening goes on.
+-- The last block of each sequence, as a walk tells it: what a stopped call and one that was
+-- answered Blocked leave of it, and where a later opening goes on.
 use Rattle.std.specs.Prelude.{◌≡◌, ◌+◌, ◌≤◌, ◌+ℤ◌, ℕ, suc, ℤ, pos, int_le, Bool, true, false, List, [], ◌∷◌, ◌++◌, map, filter, length, Option, Some, None, if◌then◌else◌}
 use Rattle.std.specs.Option.{option_map}
 use Rattle.std.specs.Str.{bytes_eq}

@@ -1,5 +1,5 @@
--- Each call that was answered Blocked would have reached its commit, under an identifier that is or may be
--- blocked.
+-- Each call that was answered Blocked would have reached its commit, under an identifier that is or
+-- may be blocked.
 use Rattle.std.specs.Prelude.{◌≡◌, ◌||◌, ℕ, Bool, true, not, IsTrue, List, [], Some}
 use Rattle.std.proofs.Common.{refl, inl, inr, sym, ◌∙◌, ap, subst}
 use Rattle.svc_values.specs.declared.draw.Draw.{Draw}

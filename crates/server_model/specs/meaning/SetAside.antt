@@ -1,4 +1,5 @@
--- Values that lie in what is set aside of their sequences: an opening draws behind that, so it draws none of them again.
+-- Values that lie in what is set aside of their sequences: an opening draws behind that, so it
+-- draws none of them again.
 use Rattle.std.specs.Prelude.{ℕ, ℤ, int_le, Bool, true, false, IsTrue, List, [], ◌∷◌, Option, Some, None, if◌then◌else◌}
 use Rattle.std.specs.List.{list_all}
 use Rattle.std.specs.Option.{option_map_or}
@@ -22,7 +23,8 @@ abbrev pub is_no_less : Option ℤ → Option ℤ → Bool
 is_no_less None end = true
 is_no_less (Some before) end = option_map_or (int_le before) end false
 
--- Each of these values lies in what is set aside now, and of no sequence is that less than it was before.
+-- Each of these values lies in what is set aside now, and of no sequence is that less than it was
+-- before.
 pub record SetAside (before : List Sequence) (ends : List ℕ → Option ℤ) (draws : List Draw) : Type 0 where
   pub drawn : IsTrue (list_all (is_set_aside ends) draws)
   pub kept : IsTrue (list_all (λ sequence. is_no_less (ends_in before sequence.name) (ends sequence.name)) before)

@@ -37,8 +37,8 @@ abbrev pub begun : List (List ℕ × Value) → Transaction
 begun settings = record { settings = settings; at_start = settings; pieces = []; writes = []; reads = [] }
 
 -- `stored` are the entries so far, those of the time before included, and `left` those that are
--- still to come. `blocked` was told uncommitted, or stood blocked at the start; `perhaps` was carried
--- by what a stop left without an answer.
+-- still to come. `blocked` was told uncommitted, or stood blocked at the start; `perhaps` was
+-- carried by what a stop left without an answer.
 pub record Walk : Type 0 where
   pub committed : List PlainRow
   pub stored : List Entry

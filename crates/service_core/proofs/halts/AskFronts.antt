@@ -1,5 +1,5 @@
--- An outcome whose asking counts as stopped behind some of its records: the plain server that was stopped with it, beside each
--- image that holds them.
+-- An outcome whose asking counts as stopped behind some of its records: the plain server that was
+-- stopped with it, beside each image that holds them.
 use Rattle.std.proofs.Common.{◌≡◌, ◌≢◌, ◌∙◌, ◌≤◌, ℕ, false, sym, ap, subst, List, [], ◌∷◌, ◌++◌, length, arith}
 use Rattle.std.specs.Prelude.{Result, IfOk}
 use Rattle.disk_model.specs.Disk.{DiskState}

@@ -1,5 +1,5 @@
--- A frame that counts as stopped behind some of its records: the plain server that was stopped with it, beside each image that
--- holds them.
+-- A frame that counts as stopped behind some of its records: the plain server that was stopped with
+-- it, beside each image that holds them.
 use Rattle.std.proofs.Common.{◌≡◌, ◌∙◌, ◌+◌, ◌≤◌, ℕ, false, refl, sym, ap, subst, List, [], ◌∷◌, ◌++◌, length, take, arith}
 use Rattle.std.proofs.lemmas.List.{length-take-le}
 use Rattle.std.specs.Prelude.{◌≢◌, Result, IfOk}

@@ -1,4 +1,5 @@
--- Frames that count as stopped before their answers, one after the other: what the plain server has come to.
+-- Frames that count as stopped before their answers, one after the other: what the plain server has
+-- come to.
 use Rattle.std.proofs.Common.{◌≡◌, ◌≢◌, ◌∙◌, ◌⊎◌, ◌+◌, ℕ, refl, sym, ap, subst, inl, inr, List, [], ◌∷◌, ◌++◌, map, append_assoc, append-nil}
 use Rattle.std.proofs.lemmas.List.{map-append}
 use Rattle.std.proofs.lemmas.List.Elements.{All-nil}
@@ -112,7 +113,8 @@ nothing_gained more store = record {
 }
 
 module _ (grants : Grants) (now : ℕ) (session : Session) (core : Core) (disk : DiskState) (held : Held) (notes : Notes) (beside : IsBeside grants disk core held notes session) (start : Base) (history : List Happened) (ready : Came start history (StandsLost disk core session)) where
-  -- The plain server has taken each of them for stopped; it is halted, if it was or if there was one.
+  -- The plain server has taken each of them for stopped; it is halted, if it was or if there was
+  -- one.
   pub through_lost : (items : List Item) (new : Session) (later : Core) (end : DiskState) → Through now session core disk items new later end
       → (lost : Lost start history (lost_in (session_of session.ltxid) now items) disk later end new (session_of session.ltxid)) × ((items ≢ []) ⊎ (ready.server.power ≡ Halted) → lost.came.server.power ≡ Halted)
   through_lost _ _ _ _ Still = (

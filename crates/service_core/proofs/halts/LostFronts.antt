@@ -1,4 +1,5 @@
--- Frames that count as stopped, of whose records an image holds a front: the plain server beside it.
+-- Frames that count as stopped, of whose records an image holds a front: the plain server beside
+-- it.
 use Rattle.std.proofs.Common.{◌≡◌, ◌≢◌, ◌∙◌, ◌⊎◌, ◌+◌, ◌≤◌, ℕ, zero, suc, refl, sym, ap, subst, inl, inr, List, [], ◌∷◌, ◌++◌, length, map, take, append_assoc, append-nil, arith}
 use Rattle.std.specs.Prelude.{Result, Ok, IfOk}
 use Rattle.disk_model.specs.Disk.{DiskState}

@@ -1,4 +1,5 @@
--- A frame in which the disk failed: what a crash may leave, and the plain server that was stopped with it.
+-- A frame in which the disk failed: what a crash may leave, and the plain server that was stopped
+-- with it.
 use Rattle.std.proofs.Common.{◌≡◌, ◌∙◌, ◌+◌, ◌≤◌, ℕ, true, false, refl, sym, List, [], ◌∷◌, ◌++◌, length, length-append, arith}
 use Rattle.disk_model.specs.Moment.{MayLeave}
 use Rattle.disk_model.specs.Disk.{DiskState}

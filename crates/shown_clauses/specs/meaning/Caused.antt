@@ -62,7 +62,8 @@ is_last_outcome None copy = false
 abbrev pub count_uncommitted : RequestReport → ℕ
 count_uncommitted copy = count_by says_uncommitted copy.outcomes
 
--- What a line says of outcomes holds of those of the report. (Told the last outcome that the steps took.)
+-- What a line says of outcomes holds of those of the report. (Told the last outcome that the steps
+-- took.)
 abbrev pub fits_outcomes : ServiceOf → Option Outcome → RequestReport → Option Failure → Bool
 fits_outcomes service taken copy (Some (failure.Incomplete x)) = is_last_outcome taken copy
 fits_outcomes service taken copy (Some (failure.Disabled why event)) = is_last_outcome taken copy
@@ -72,8 +73,9 @@ fits_outcomes service taken copy _ = true
 
 -- ---- the steps of a client, one after the other
 
--- How far a client has come: the submissions that are not over, and of the first of these its steps and what happened in them, the newest
--- first, how far it has come, and the tick of its first step. `right` is false once a submission failed otherwise than it had to.
+-- How far a client has come: the submissions that are not over, and of the first of these its steps
+-- and what happened in them, the newest first, how far it has come, and the tick of its first step.
+-- `right` is false once a submission failed otherwise than it had to.
 pub record Judged : Type 0 where
   pub to_come : List Submission
   pub steps : List Step
@@ -85,7 +87,8 @@ pub record Judged : Type 0 where
 abbrev pub judged_from : Bool → List Submission → Judged
 judged_from right submissions = record { to_come = submissions; steps = []; facts = []; course = None; begun = 0; right = right }
 
--- A submission ends at a step with the Failed of the line that holds there, or without one where it showed the last call.
+-- A submission ends at a step with the Failed of the line that holds there, or without one where it
+-- showed the last call.
 pub data Ending : Type 0 where
   Goes : Ending
   Ends : (failed : Option Failure) → Ending

@@ -30,8 +30,8 @@ use Rattle.shown_clauses.specs.meaning.Submissions.{Submission}
 use Rattle.shown_clauses.specs.meaning.Facts.{Fact, Submitted, Showed, Course, after_step, facts_at}
 use Rattle.shown_clauses.specs.meaning.Reasons.{reason_of, keeps_settings}
 
--- A request up to a step, which is its newest: its steps and what happened in them, the newest first; how far it had come before that
--- step, and the tick of its first one.
+-- A request up to a step, which is its newest: its steps and what happened in them, the newest
+-- first; how far it had come before that step, and the tick of its first one.
 pub record Past : Type 0 where
   pub steps : List Step
   pub facts : List Fact
@@ -56,11 +56,13 @@ is_wait _ = false
 abbrev pub last_downs : List Step → ℕ
 last_downs steps = count_by (λ step. is_down step.did) (front_of (λ step. is_down step.did || is_early step.did) steps)
 
--- 1. Retries(n): n = retries, and the last n steps of the request other than `early` are noted `down`.
+-- 1. Retries(n): n = retries, and the last n steps of the request other than `early` are noted
+-- `down`.
 abbrev pub retries_line : ServiceOf → List Step → Option Failure
 retries_line service steps = if nat_le service.retries (last_downs steps) then Some (failure.Retries service.retries) else None
 
--- 8. PoolWait(f, g): every step of the request is noted `wait`, the first at tick f, the last at tick g, and g - f >= wait.
+-- 8. PoolWait(f, g): every step of the request is noted `wait`, the first at tick f, the last at
+-- tick g, and g - f >= wait.
 abbrev pub all_wait : Bool → List Step → Bool
 all_wait true steps = list_all (λ step. is_wait step.did) steps
 all_wait false steps = false
@@ -71,10 +73,12 @@ pool_wait_line service first now steps =
 
 -- ---- outcomes
 
--- What stands at the step that took an outcome. `ended` is the event that ended the connection of the session of its identifier, one that
--- this request held; `reason` is the reason that stood before what that step sends; `uncommitted` is how many of the request's outcomes say
--- committed false, this one included; `first` is the tick of the first submission; `index` is how many calls were shown, that by this
--- outcome included, and `follows` whether another call follows; `set_shown` is whether a `set` was shown.
+-- What stands at the step that took an outcome. `ended` is the event that ended the connection of
+-- the session of its identifier, one that this request held; `reason` is the reason that stood
+-- before what that step sends; `uncommitted` is how many of the request's outcomes say committed
+-- false, this one included; `first` is the tick of the first submission; `index` is how many calls
+-- were shown, that by this outcome included, and `follows` whether another call follows;
+-- `set_shown` is whether a `set` was shown.
 pub record AtOutcome : Type 0 where
   pub outcome : Outcome
   pub ended : ℕ
@@ -141,8 +145,8 @@ at_outcome service past step outcome =
 abbrev pub incomplete_line : AtOutcome → Option Failure
 incomplete_line at = if at.outcome.committed && not at.outcome.completed then Some (failure.Incomplete at.outcome.ltxid) else None
 
--- 3. Disabled(StateLost(i), e): o = [x,true,true], call i - 1 was shown by it, call i exists, a `set` was shown in this request, and the
--- rule keeps no settings.
+-- 3. Disabled(StateLost(i), e): o = [x,true,true], call i - 1 was shown by it, call i exists, a
+-- `set` was shown in this request, and the rule keeps no settings.
 abbrev pub state_lost_line : ServiceOf → AtOutcome → Option Failure
 state_lost_line service at =
     if at.outcome.committed && (at.outcome.completed && (at.follows && (at.set_shown && not (keeps_settings service.failover))))
@@ -160,13 +164,14 @@ disabled_line at = disabled_if (says_uncommitted at.outcome) at.reason at.ended
 abbrev pub may_replay : AtOutcome → Bool
 may_replay at = says_uncommitted at.outcome && is_none at.reason
 
--- 5. Replays(n, e): no reason; n = replays; the request's outcomes hold n + 1 with committed false, o the last of them.
+-- 5. Replays(n, e): no reason; n = replays; the request's outcomes hold n + 1 with committed false,
+-- o the last of them.
 abbrev pub replays_line : ServiceOf → AtOutcome → Option Failure
 replays_line service at =
     if may_replay at && (at.uncommitted == service.replays + 1) then Some (failure.Replays service.replays at.ended) else None
 
--- 6. ReplayTimeout(f, g): no reason; at most `replays` such outcomes, o the last of them; a call was submitted, first at tick f; o was
--- taken at tick g; g - f > timeout.
+-- 6. ReplayTimeout(f, g): no reason; at most `replays` such outcomes, o the last of them; a call
+-- was submitted, first at tick f; o was taken at tick g; g - f > timeout.
 abbrev pub timeout_by : ServiceOf → ℕ → Option ℕ → Option Failure
 timeout_by service now None = None
 timeout_by service now (Some first) = if nat_lt service.timeout (now - first) then Some (failure.ReplayTimeout first now) else None
@@ -185,8 +190,9 @@ outcome_lines service at =
 
 -- ---- replies
 
--- 7. Mismatch(i, seen, now): the shown answers of call i have digest `seen`; the session served call i with the mark, with answers of digest
--- `now`, and this reply was taken; the two differ. (Equal answers have equal digests.)
+-- 7. Mismatch(i, seen, now): the shown answers of call i have digest `seen`; the session served
+-- call i with the mark, with answers of digest `now`, and this reply was taken; the two differ.
+-- (Equal answers have equal digests.)
 abbrev pub mismatch_by : ℕ → List ℕ → List ℕ → Option Failure
 mismatch_by index seen now = if bytes_eq seen now then None else Some (failure.Mismatch index seen now)
 
@@ -198,14 +204,16 @@ abbrev pub mismatch_at : ℕ → Option ShownCall → List Answer → Option Fai
 mismatch_at index None now = None
 mismatch_at index (Some shown) now = mismatch_of (same_answers shown.answers now) index shown.answers now
 
--- the call that is replayed: so many before the first that was not shown as are to be replayed still
+-- the call that is replayed: so many before the first that was not shown as are to be replayed
+-- still
 abbrev pub replayed_index : Course → ℕ
 replayed_index course = course.index - course.behind
 
 abbrev pub mismatch_line : Submission → Course → List Answer → Option Failure
 mismatch_line submission course now = mismatch_at (replayed_index course) (slice_get submission.copy.calls (replayed_index course)) now
 
--- 9. Unknown(x): the request's last session served an `outcome` item for x that says forgotten, and this reply was taken.
+-- 9. Unknown(x): the request's last session served an `outcome` item for x that says forgotten, and
+-- this reply was taken.
 abbrev pub unknown_line : Ltxid → Option Failure
 unknown_line x = Some (failure.Unknown x)
 

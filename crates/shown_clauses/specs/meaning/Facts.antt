@@ -17,14 +17,16 @@ use Rattle.shown_clauses.specs.meaning.Steps.{Step}
 use Rattle.shown_clauses.specs.meaning.Showings.{shown_answers}
 use Rattle.shown_clauses.specs.meaning.Submissions.{Submission}
 
--- Call `index` was submitted: first sent without the mark, at this tick. A call was shown with these answers.
+-- Call `index` was submitted: first sent without the mark, at this tick. A call was shown with
+-- these answers.
 pub data Fact : Type 0 where
   Submitted : (call : Call) → (index : ℕ) → (tick : ℕ) → Fact
   Showed : (call : Call) → (answers : List Answer) → Fact
 
--- How far a request has come: the script's calls that were not shown, and what the report shows of them; how many were shown, and how many
--- of these since the last one that ended with Committed or Conflict; whether the first call that was not shown was submitted; and how many
--- calls are to be replayed before it is sent.
+-- How far a request has come: the script's calls that were not shown, and what the report shows of
+-- them; how many were shown, and how many of these since the last one that ended with Committed or
+-- Conflict; whether the first call that was not shown was submitted; and how many calls are to be
+-- replayed before it is sent.
 pub record Course : Type 0 where
   pub unshown : List Call
   pub ahead : List ShownCall
@@ -54,7 +56,8 @@ after_showing course answers =
       behind = 0;
     }
 
--- An outcome that says uncommitted begins a replay of the calls that were shown since then; each reply to one with the mark ends one.
+-- An outcome that says uncommitted begins a replay of the calls that were shown since then; each
+-- reply to one with the mark ends one.
 abbrev pub after_item : Course → Item → Course
 after_item course (item.Call false call answers draws) = after_showing course (answers_shown course answers)
 after_item course (item.Call true call answers draws) = record course { behind = course.behind - 1 }
@@ -68,9 +71,10 @@ after_taking course (Some one) = after_item course one.item
 
 -- ---- submissions
 
--- After what it took, a step that sends frames sends a call without the mark: after a Hello the first call, where none was submitted; after
--- a reply without the mark the next one; after an outcome that says uncommitted, and after a reply with the mark, the one that is to come
--- after the replayed ones, where none of these is left.
+-- After what it took, a step that sends frames sends a call without the mark: after a Hello the
+-- first call, where none was submitted; after a reply without the mark the next one; after an
+-- outcome that says uncommitted, and after a reply with the mark, the one that is to come after the
+-- replayed ones, where none of these is left.
 abbrev pub comes_after : Course → Item → Bool
 comes_after course item.Connect = course.index == 0
 comes_after course (item.Call false call answers draws) = true

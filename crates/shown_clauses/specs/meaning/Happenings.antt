@@ -21,7 +21,8 @@ tick_after tick _ = tick
 abbrev pub is_up_to : ℕ → Served → Bool
 is_up_to event one = nat_le one.event event
 
--- Of items in the order of events, those of this event. (One that stands behind an item of a later event is of none.)
+-- Of items in the order of events, those of this event. (One that stands behind an item of a later
+-- event is of none.)
 abbrev pub items_at : ℕ → List Served → List Served
 items_at event items = filter (λ one. one.event == event) (front_of (is_up_to event) items)
 

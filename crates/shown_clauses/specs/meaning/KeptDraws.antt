@@ -62,8 +62,9 @@ is_step_of event part = list_any (λ step. step.event == event) part.steps
 abbrev pub acquired_by : List Part → Acquired → Option Part
 acquired_by parts acquired = first_of (is_step_of acquired.event) parts
 
--- The replayed call of this place: a replay begins anew with the call after the last one that was shown with such answers. It is of calls that were shown
--- before the session was acquired: one whose connection was lost may serve its calls when more were shown on a later one.
+-- The replayed call of this place: a replay begins anew with the call after the last one that was
+-- shown with such answers. It is of calls that were shown before the session was acquired: one
+-- whose connection was lost may serve its calls when more were shown on a later one.
 abbrev pub draws_shown : ℕ → ℕ → Part → List Draw
 draws_shown acquired place part =
     option_map_or (λ shown. shown.draws) (slice_get (shown_since (shown_before part.steps acquired) [] part.submission.copy.calls) place) []
@@ -81,7 +82,7 @@ kept_in_turn parts turn = option_map_or (kept_since parts (place_in turn)) turn.
 abbrev pub kept_on_link : List Part → Link → List Draw
 kept_on_link parts link = option_map_or (kept_in_turn parts) link.turn []
 
--- The draws that a call was shown with which its session serves with the mark; none where the notes give no such call.
--- (The connections are those before the item.)
+-- The draws that a call was shown with which its session serves with the mark; none where the notes
+-- give no such call. (The connections are those before the item.)
 abbrev pub kept_at : List Part → Seen → SessionId → List Draw
 kept_at parts seen session = option_map_or (kept_on_link parts) (link_of_session session seen.links) []

@@ -41,7 +41,8 @@ abbrev pub calls_of : Option Event → List Call
 calls_of (Some (event.Outside calls)) = calls
 calls_of _ = []
 
--- Its calls without the mark, each with what was run; and where it ended early the next call, which met a block.
+-- Its calls without the mark, each with what was run; and where it ended early the next call, which
+-- met a block.
 abbrev pub things_of : List Call → List NoteRun → List Thing
 things_of [] runs = []
 things_of (call ∷ calls) [] = MetBlock false call ∷ []

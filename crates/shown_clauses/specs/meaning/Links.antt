@@ -24,14 +24,16 @@ pub record Marked : Type 0 where
   pub replay : Bool
   pub call : Call
 
--- What a session served since one `begin`: the last acquisition of the session before it, and the calls, the newest first. Each item that
--- carries a call counts as having served it, a blocked and a crashed one too.
+-- What a session served since one `begin`: the last acquisition of the session before it, and the
+-- calls, the newest first. Each item that carries a call counts as having served it, a blocked and
+-- a crashed one too.
 pub record Turn : Type 0 where
   pub acquired : Option Acquired
   pub calls : List Marked
 
--- A connection whose Connect was served: its session; the replies that were not taken yet, in order; the event that ended it, 0 where none
--- did; its last acquisition; and what its session served since the last `begin`.
+-- A connection whose Connect was served: its session; the replies that were not taken yet, in
+-- order; the event that ended it, 0 where none did; its last acquisition; and what its session
+-- served since the last `begin`.
 pub record Link : Type 0 where
   pub connection : ℕ
   pub session : SessionId
@@ -63,7 +65,8 @@ link_of_session session links = first_of (has_session session) links
 
 -- ---- what an item does
 
--- The items of a `serve` name its connection, and each that is answered is a reply there. The `connect` item gives the session.
+-- The items of a `serve` name its connection, and each that is answered is a reply there. The
+-- `connect` item gives the session.
 abbrev pub new_link : ℕ → SessionId → List Served → Link
 new_link connection session replies =
     record { connection = connection; session = session; replies = replies; ended = 0; acquired = None; turn = None }
@@ -92,7 +95,8 @@ abbrev pub stopped_on : ℕ → Served → Item → List Link → List Link
 stopped_on connection one item.Connect links = stopped_connected connection one (link_of connection links) links
 stopped_on connection one _ links = links
 
--- The connection of a session that answered Blocked or Refused is ended by that event, if it was open still.
+-- The connection of a session that answered Blocked or Refused is ended by that event, if it was
+-- open still.
 abbrev pub end_at : ℕ → ℕ → ℕ
 end_at event zero = event
 end_at event (suc before) = suc before
@@ -128,7 +132,8 @@ in_turn session _ links = links
 abbrev pub turn_of : Link → List Turn
 turn_of link = option_map_or (λ turn. turn ∷ []) link.turn []
 
--- The turn that is over where the item begins another. A `begin` of a session that no connection has is a turn that nobody acquired.
+-- The turn that is over where the item begins another. A `begin` of a session that no connection
+-- has is a turn that nobody acquired.
 abbrev pub over_on : Option Link → List Turn
 over_on None = record { acquired = None; calls = [] } ∷ []
 over_on (Some link) = turn_of link
@@ -157,7 +162,8 @@ after_item event noted seen one =
 abbrev pub acquire : ℕ → ℕ → Link → Link
 acquire client event link = record link { acquired = Some (record { client = client; event = event }) }
 
--- The n-th `took` of a connection takes its n-th reply; one that takes a Hello acquires the session.
+-- The n-th `took` of a connection takes its n-th reply; one that takes a Hello acquires the
+-- session.
 abbrev pub is_connect : Item → Bool
 is_connect item.Connect = true
 is_connect _ = false

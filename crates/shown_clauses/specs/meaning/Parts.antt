@@ -28,7 +28,8 @@ counted_from before (step ∷ steps) =
     let now : ℕ = before + cond (acquires step) 1 0 in
     record { acquired = now; step = step } ∷ counted_from now steps
 
--- A submission with its steps: from those that acquire its sessions up to the next that acquires one.
+-- A submission with its steps: from those that acquire its sessions up to the next that acquires
+-- one.
 pub record Part : Type 0 where
   pub submission : Submission
   pub steps : List Step

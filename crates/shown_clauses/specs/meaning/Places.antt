@@ -63,13 +63,15 @@ abbrev pub tick_if : Bool → ℕ → ℕ → List Note → ℕ
 tick_if true tick event notes = ticks_in (event - 1) 0 notes
 tick_if false tick event notes = tick
 
--- `tick(e)` of an event that the front has reached. (One behind which it is already has it of the notes from the first on.)
+-- `tick(e)` of an event that the front has reached. (One behind which it is already has it of the
+-- notes from the first on.)
 abbrev pub tick_at : List Note → Front → ℕ → ℕ
 tick_at notes front event = tick_if (nat_lt event front.place.event) front.place.tick event notes
 
 -- ---- items
 
--- The note of an event that the front has reached; a note that names no connection where there is none.
+-- The note of an event that the front has reached; a note that names no connection where there is
+-- none.
 abbrev pub noted_if : Bool → List Note → Note
 noted_if true (first ∷ notes) = first
 noted_if _ _ = note.Tick

@@ -14,7 +14,8 @@ use Rattle.outage_schedule.specs.declared.failure.Reason.TheVariants as reason
 use Rattle.shown_clauses.specs.meaning.Turns.{ends_decided}
 use Rattle.shown_clauses.specs.meaning.Facts.{Fact, Submitted, Showed}
 
--- Off: at the first submitted call, where failover is `none`. (At each, and so the earliest is at the first.)
+-- Off: at the first submitted call, where failover is `none`. (At each, and so the earliest is at
+-- the first.)
 abbrev pub off_at : Failover → Option Reason
 off_at failover.Off = Some reason.Off
 off_at _ = None
@@ -25,18 +26,20 @@ asked_at (call.Alter line) index = Some (reason.Restricted index)
 asked_at call.Disable index = Some (reason.Asked index)
 asked_at _ index = None
 
--- Settings(i): at the submission of call i, a `set`, where failover is `transaction` and consistency is static
+-- Settings(i): at the submission of call i, a `set`, where failover is `transaction` and
+-- consistency is static
 abbrev pub settings_at : Failover → Consistency → Call → ℕ → Option Reason
 settings_at failover.Transaction consistency.Static (call.Set name value) index = Some (reason.Settings index)
 settings_at _ _ _ index = None
 
--- AfterCommit: at the showing of answers that end with Committed or Conflict, where failover is `transaction` and consistency is dynamic
+-- AfterCommit: at the showing of answers that end with Committed or Conflict, where failover is
+-- `transaction` and consistency is dynamic
 abbrev pub after_commit_at : Failover → Consistency → Option Reason
 after_commit_at failover.Transaction consistency.Dynamic = Some reason.AfterCommit
 after_commit_at _ _ = None
 
--- Full(record): at the showing of a call that doesn't end so, where `record` calls were shown since the last one that did, or since the
--- request began
+-- Full(record): at the showing of a call that doesn't end so, where `record` calls were shown since
+-- the last one that did, or since the request began
 abbrev pub full_at : ℕ → ℕ → Option Reason
 full_at limit since = if nat_le limit since then Some (reason.Full limit) else None
 

@@ -24,7 +24,8 @@ use Rattle.shown_clauses.specs.meaning.Fronts.{is_empty}
 use Rattle.shown_clauses.specs.meaning.Steps.{Step}
 use Rattle.shown_clauses.specs.meaning.Parts.{Part}
 
--- The answers that a taken reply shows: those of a call without the mark, and [Committed] of an outcome that says committed and completed.
+-- The answers that a taken reply shows: those of a call without the mark, and [Committed] of an
+-- outcome that says committed and completed.
 abbrev pub shown_answers : Item → Option (List Answer)
 shown_answers (item.Call false call answers draws) = Some answers
 shown_answers (item.Outcome x (told.Committed true)) = Some (answer.Committed ∷ [])
@@ -60,7 +61,8 @@ same_outcome a b = same_ltxid a.ltxid b.ltxid && (same_bool a.committed b.commit
 
 -- ---- each shown call with its showing
 
--- A shown call: the script's call, the `tried` list of its transaction, what was shown, and the reply that showed it.
+-- A shown call: the script's call, the `tried` list of its transaction, what was shown, and the
+-- reply that showed it.
 pub record Shown : Type 0 where
   pub call : Call
   pub tried : List Ltxid
@@ -81,8 +83,8 @@ abbrev pub shown_calls : Part → List Shown
 shown_calls part =
     shown_with part.submission.request.calls (tried_by_call part.submission.copy) part.submission.copy.calls (showings part.steps)
 
--- A request's calls are, in order, the replies to calls without the mark that its steps took, and [Committed] for each outcome taken
--- that says committed and completed.
+-- A request's calls are, in order, the replies to calls without the mark that its steps took, and
+-- [Committed] for each outcome taken that says committed and completed.
 abbrev pub is_shown_by : Shown → Item → Bool
 is_shown_by one (item.Call replay call answers draws) = same_answers one.shown.answers answers && same_draws one.shown.draws draws
 is_shown_by one _ = same_answers one.shown.answers (answer.Committed ∷ []) && is_empty one.shown.draws
@@ -92,9 +94,10 @@ has_its_showings part =
     (length part.submission.copy.calls == length (showings part.steps))
     && list_all (λ one. is_shown_by one one.showing.item) (shown_calls part)
 
--- Each shown call has the answers and draws of a `call` item of that call, served without the mark by a session of this request before
--- it was shown. Or it is a lone commit shown with [Committed] and no draws, and an outcome of this request says committed and completed of
--- an identifier in its transaction's list.
+-- Each shown call has the answers and draws of a `call` item of that call, served without the mark
+-- by a session of this request before it was shown. Or it is a lone commit shown with [Committed]
+-- and no draws, and an outcome of this request says committed and completed of an identifier in its
+-- transaction's list.
 abbrev pub says_completed : Ltxid → Outcome → Bool
 says_completed x outcome = same_ltxid outcome.ltxid x && (outcome.committed && outcome.completed)
 
@@ -106,7 +109,8 @@ is_served copy one _ = false
 abbrev pub calls_served : Part → Bool
 calls_served part = list_all (λ one. is_served part.submission.copy one one.showing.item) (shown_calls part)
 
--- The identifier shown has the session of that item. Its number is that of the session's entries stored up to the event of that item.
+-- The identifier shown has the session of that item. Its number is that of the session's entries
+-- stored up to the event of that item.
 abbrev pub identifier_at : List Entry → List StoredEntry → Served → Ltxid
 identifier_at image stored one =
     record { incarnation = one.session.incarnation; session = one.session.session; number = stored_up_to image stored one.session one.event }

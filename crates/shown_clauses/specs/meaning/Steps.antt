@@ -1,4 +1,5 @@
--- The steps of the clients: each `go` note with what the step took, by the notes and the served items alone. Nothing is tested here.
+-- The steps of the clients: each `go` note with what the step took, by the notes and the served
+-- items alone. Nothing is tested here.
 use Rattle.std.specs.Prelude.{ℕ, ◌==◌, Bool, true, false, List, [], ◌∷◌, ◌++◌, filter, fold, flat_map, Option, Some, None, option_map, option_and_then}
 use Rattle.svc_values.specs.declared.entry.Ltxid.{Ltxid}
 use Rattle.svc_values.specs.declared.entry.SessionId.{SessionId}
@@ -15,8 +16,8 @@ use Rattle.shown_clauses.specs.meaning.Fronts.{first_item}
 use Rattle.shown_clauses.specs.meaning.Happenings.{Happening, happenings}
 use Rattle.shown_clauses.specs.meaning.Links.{Link, Seen, Turn, nothing_seen, link_of, link_of_session, is_hello, turn_of, after_happening}
 
--- A step of a client: its event and tick, its note, the reply that it took, the session that it acquired. Where it took an outcome,
--- `lost` is the connection of the session of that identifier.
+-- A step of a client: its event and tick, its note, the reply that it took, the session that it
+-- acquired. Where it took an outcome, `lost` is the connection of the session of that identifier.
 pub record Step : Type 0 where
   pub event : ℕ
   pub tick : ℕ

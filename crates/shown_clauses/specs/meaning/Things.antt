@@ -15,7 +15,8 @@ outcome_of (told.ServerAhead next) = ServerAhead next
 outcome_of (told.ClientAhead next) = ClientAhead next
 outcome_of (told.Forgotten horizon) = Forgotten horizon
 
--- `kept` are the draws that a call with the mark was shown with. A call that met a block had no mark.
+-- `kept` are the draws that a call with the mark was shown with. A call that met a block had no
+-- mark.
 abbrev pub thing_of : List Draw → Item → Thing
 thing_of kept item.Connect = Connected
 thing_of kept (item.Begin settings) = Began settings

@@ -17,7 +17,8 @@ use Rattle.shown_clauses.specs.meaning.Submissions.{Submission}
 abbrev pub ends_decided : List Answer → Bool
 ends_decided answers = ends_committed answers || ends_conflict answers
 
--- Calls j to i - 1 once call i was shown, the newest first: call j - 1 is the last one before that was shown with such answers.
+-- Calls j to i - 1 once call i was shown, the newest first: call j - 1 is the last one before that
+-- was shown with such answers.
 abbrev pub shown_since : Bool → Call → List Call → List Call
 shown_since true call since = []
 shown_since false call since = call ∷ since
@@ -41,7 +42,8 @@ fits_from first marked since (call ∷ calls) (one ∷ shown) =
 abbrev pub is_marked : Marked → Bool
 is_marked one = one.replay
 
--- The calls with the mark are exactly the calls j to i - 1, in order, all before the first one without it, which is call i.
+-- The calls with the mark are exactly the calls j to i - 1, in order, all before the first one
+-- without it, which is call i.
 abbrev pub begins_with : Submission → List Marked → List Marked → Bool
 begins_with submission marked [] = true
 begins_with submission marked (first ∷ more) =
@@ -72,7 +74,8 @@ owned_by client turn = option_and_then (λ acquired. owned_if (acquired.client =
 abbrev pub turns_of : ℕ → List Turn → List Owned
 turns_of client turns = filter_map (owned_by client) turns
 
--- the turns whose acquisition is one of these steps of the client, all that there are between its first and its last
+-- the turns whose acquisition is one of these steps of the client, all that there are between its
+-- first and its last
 abbrev pub owned_between : ℕ → ℕ → List Owned → List Owned
 owned_between first last owned = filter (λ one. nat_le first one.event && nat_le one.event last) owned
 
@@ -83,7 +86,8 @@ owned_in _ _ owned = []
 abbrev pub turns_right : List Owned → Part → Bool
 turns_right owned part = list_all (λ one. is_turn_right part.submission one.turn) (owned_in (first_item part.steps) (last_or None part.steps) owned)
 
--- The notes give the request of the `begin`: it was acquired before the first step that is of no submission.
+-- The notes give the request of the `begin`: it was acquired before the first step that is of no
+-- submission.
 abbrev pub has_request : Option Step → Owned → Bool
 has_request None one = true
 has_request (Some step) one = nat_lt one.event step.event

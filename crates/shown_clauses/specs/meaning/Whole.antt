@@ -1,4 +1,5 @@
--- Each request is shown its whole script in order, by what sessions of its own served, or one Failed.
+-- Each request is shown its whole script in order, by what sessions of its own served, or one
+-- Failed.
 use Rattle.std.specs.Prelude.{ℕ, ◌+◌, ◌&&◌, Bool, true, false, is_some, List, [], ◌∷◌, length}
 use Rattle.std.specs.List.{list_all}
 use Rattle.svc_values.specs.declared.entry.Entry.{Entry}
@@ -16,7 +17,8 @@ use Rattle.shown_clauses.specs.meaning.Parts.{Part, parts_of, left_of, has_its_s
 use Rattle.shown_clauses.specs.meaning.Showings.{has_its_showings, calls_served, have_identifiers}
 use Rattle.shown_clauses.specs.meaning.Turns.{Owned, turns_right, turns_of, has_request, has_client}
 
--- What the lines are asked of: the entries before the run, the event at which each of the run was stored, the steps and the turns.
+-- What the lines are asked of: the entries before the run, the event at which each of the run was
+-- stored, the steps and the turns.
 pub record Evidence : Type 0 where
   pub image : List Entry
   pub stored : List StoredEntry

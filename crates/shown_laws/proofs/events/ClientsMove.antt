@@ -1,4 +1,5 @@
--- What a step of a client makes of the clients: its request goes on, or it is over, with what it did behind its steps.
+-- What a step of a client makes of the clients: its request goes on, or it is over, with what it
+-- did behind its steps.
 use Rattle.std.proofs.Common.{◌≡◌, ◌≢◌, refl, sym, ap, subst, ◌∙◌, Bool, true, false, ℕ, zero, suc, List, [], ◌∷◌, ◌++◌, Option, Some, None, option_and_then, if◌then◌else◌}
 use Rattle.std.specs.Prelude.{slice_set, unwrap_or}
 use Rattle.std.specs.Option.{option_map_or}
@@ -41,7 +42,8 @@ pub data Leads (setting : Setting) (number : ℕ) (client : Client) (after : Doi
   GoesOn : Leads setting number client after (record client { now = Some after })
   IsOver : Leads setting number client after (resting (script_at setting number) (client.past ++ past_of setting.terms after ∷ []))
 
--- The client of this number becomes another, by its request that stands so then, and no other client changes.
+-- The client of this number becomes another, by its request that stands so then, and no other
+-- client changes.
 pub record Moves (setting : Setting) (m n : Machine) (number : ℕ) (client : Client) (after : Doing) : Type 0 where
   pub next : Client
   pub leads : Leads setting number client after next

@@ -1,4 +1,5 @@
--- Wherever the finish of a run has come to, the run has come to by the events so far, and machine and service stand beside one another.
+-- Wherever the finish of a run has come to, the run has come to by the events so far, and machine
+-- and service stand beside one another.
 use Rattle.std.specs.Prelude.{List, [], ◌∷◌, ◌++◌}
 use Rattle.outage_schedule.specs.declared.document.Document.{Document}
 use Rattle.outage_schedule.specs.declared.event.Event.{Event}

@@ -1,4 +1,5 @@
--- The events that notes and items tell grow by one with each note and the items of its event, which stand behind all others.
+-- The events that notes and items tell grow by one with each note and the items of its event, which
+-- stand behind all others.
 use Rattle.std.proofs.Common.{◌≡◌, refl, sym, ap, subst, ◌∙◌, append-nil, append_assoc, Bool, true, false, ℕ, ◌+◌, ◌<◌, cond, length, List, [], ◌∷◌, ◌++◌, filter, fold, arith}
 use Rattle.std.specs.Prelude.{◌==◌, nat_lt}
 use Rattle.std.specs.List.{list_all}

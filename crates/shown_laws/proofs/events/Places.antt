@@ -1,4 +1,5 @@
--- What stands at a place of a list: where a test holds of all, where one item becomes another, where more follow, and where all are mapped.
+-- What stands at a place of a list: where a test holds of all, where one item becomes another,
+-- where more follow, and where all are mapped.
 use Rattle.std.proofs.Common.{◌≡◌, ◌≢◌, refl, sym, ap, ◌∙◌, Bool, true, ℕ, zero, suc, length, List, [], ◌∷◌, ◌++◌, map, Some, option_map, ◌⊎◌, inl, inr}
 use Rattle.std.specs.Prelude.{slice_get, slice_set}
 use Rattle.std.specs.List.{list_all}

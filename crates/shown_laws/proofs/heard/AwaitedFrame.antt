@@ -1,4 +1,5 @@
--- The frame that was sent last on the connection of a request is the one that the request tells as its last.
+-- The frame that was sent last on the connection of a request is the one that the request tells as
+-- its last.
 use Rattle.std.proofs.Common.{◌≡◌, refl, sym, ap, subst, ◌∙◌, Bool, true, false, ℕ, ◌+◌, ◌≤◌, length, List, [], Option, Some, None, arith}
 use Rattle.std.specs.Prelude.{◌==◌, ◌-◌, slice_get}
 use Rattle.std.specs.Option.{option_map_or}

@@ -1,4 +1,5 @@
--- The steps that are told of a request are its conversation, and those of a client that of each request that is over.
+-- The steps that are told of a request are its conversation, and those of a client that of each
+-- request that is over.
 use Rattle.std.proofs.Common.{◌≡◌, ◌≢◌, refl, sym, ap, subst, ◌∙◌, append-nil, append_assoc, ℕ, ◌+◌, List, [], ◌∷◌, ◌++◌, map}
 use Rattle.std.specs.Prelude.{fold, reverse, flat_map, false}
 use Rattle.std.proofs.lemmas.List.{map-append}

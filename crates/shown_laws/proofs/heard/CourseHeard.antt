@@ -71,7 +71,8 @@ module _ (terms : Terms) (calls : List Call) where
       by true false may none = absurd (let no : ⊥ = cc in no)
   on_time due gone false may none = absurd (let no : ⊥ = cc in no)
 
-  -- Behind inputs each of which may come, a frame that is awaited answers the one that was sent last.
+  -- Behind inputs each of which may come, a frame that is awaited answers the one that was sent
+  -- last.
   pub awaits_behind : (inputs : List Timed) (a : Account) (due : Bool) (talk : Talk) → (due ≡ false → AwaitsIn talk a.last talk.phase) → MayCome terms talk due inputs → gone_due terms talk due inputs ≡ false
       → AwaitsIn (talk_after terms talk inputs) (fold (after_step terms calls) a (steps_of terms talk inputs)).last (talk_after terms talk inputs).phase
   awaits_behind [] a due talk was may none = was none

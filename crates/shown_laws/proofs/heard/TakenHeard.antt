@@ -129,7 +129,8 @@ module _ (t : Traced) (inv : Invariant t) (client : ℕ) (own : Client) (here : 
             ∙ ap Some (sym l.ended);
       }
 
-  -- Where an outcome is taken the request held the lost connection, and knows of the event that ended it.
+  -- Where an outcome is taken the request held the lost connection, and knows of the event that
+  -- ended it.
   pub lost_is : (told : Option Seen) (one : Item) → LostTold t (course_now t.setting client (length own.past) doing) told (asked_of one) → LostBy (heard_now t inv client own here doing now) steps told one
   lost_is told (item.Outcome x result) (WasAsked _ l) = was_lost x told l
   lost_is told item.Connect is = tt

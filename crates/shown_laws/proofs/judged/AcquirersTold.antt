@@ -1,4 +1,5 @@
--- The request that acquired a session is told by its part, which was shown as many calls before that step as the request was before it opened the connection.
+-- The request that acquired a session is told by its part, which was shown as many calls before
+-- that step as the request was before it opened the connection.
 use Rattle.std.proofs.Common.{◌≡◌, refl, sym, ap, subst, ◌∙◌, Bool, true, false, ℕ, zero, suc, ◌+◌, ◌<◌, ◌&&◌, ◌||◌, length, List, [], ◌∷◌, map, Some, None, if◌then◌else◌, IsTrue, arith}
 use Rattle.std.specs.Prelude.{◌==◌, slice_get, is_some, flat_map}
 use Rattle.std.proofs.lemmas.Bool.{and_parts}
@@ -87,7 +88,8 @@ is_there (first ∷ scripts) (suc index) below = let less : index < length scrip
 
 -- REPORTS -----------------------------------------------------------------------------------------
 
--- The part that a report tells the request to have, with as many calls shown before its step as before the opening, and all that it was shown.
+-- The part that a report tells the request to have, with as many calls shown before its step as
+-- before the opening, and all that it was shown.
 pub record TellsAcquirer (document : Document) (report : Report) (terms : Terms) (acquired : Acquired) (one : RequestSteps) (before : List Step) : Type 0 where
   pub part : Part
   pub its : acquired_by (parts_from 1 (steps report) (submissions_by_client document report)) acquired ≡ Some part

@@ -1,4 +1,5 @@
--- The report of a whole run has a conversation for each submission of each client, so the judge of causes finds it right.
+-- The report of a whole run has a conversation for each submission of each client, so the judge of
+-- causes finds it right.
 use Rattle.std.proofs.Common.{◌≡◌, ◌≢◌, refl, sym, ap, subst, ◌∙◌, append-nil, Bool, true, false, ℕ, zero, suc, ◌+◌, ◌||◌, add-zero, length, List, [], ◌∷◌, ◌++◌, map, Option, Some, None, option_and_then, arith, if◌then◌else◌}
 use Rattle.std.specs.Prelude.{◌==◌, not, get_or, slice_get, flat_map, is_some}
 use Rattle.std.specs.List.{list_all, list_any}

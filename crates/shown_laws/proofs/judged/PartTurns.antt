@@ -119,7 +119,8 @@ told_there setting client _ _ _ (suc place) one (OnePast start first others tell
 
 -- TURNS -------------------------------------------------------------------------------------------
 
--- of a turn of this client: the request that has the step by which the session was acquired, for which it is right
+-- of a turn of this client: the request that has the step by which the session was acquired, for
+-- which it is right
 pub record IsMine (own : Client) (told : List (List Telling)) (one : Owned) : Type 0 where
   pub place : ℕ
   pub past : Past

@@ -1,4 +1,5 @@
--- The reports of each client are those of its script, in order: each request with its copies, and each shows its whole script or failed.
+-- The reports of each client are those of its script, in order: each request with its copies, and
+-- each shows its whole script or failed.
 use Rattle.std.proofs.Common.{◌≡◌, refl, sym, ap, subst, ◌∙◌, append-nil, append_assoc, Bool, true, false, ℕ, suc, ◌+◌, ◌&&◌, length, List, [], ◌∷◌, ◌++◌, map, Some, None, arith}
 use Rattle.std.specs.Prelude.{◌==◌, position, slice_get, option_and_then, flat_map}
 use Rattle.std.specs.List.{list_all}

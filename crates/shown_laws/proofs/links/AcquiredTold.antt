@@ -1,4 +1,5 @@
--- The session of each connection that is told was acquired by the last step before that was lent it, or took its Hello.
+-- The session of each connection that is told was acquired by the last step before that was lent
+-- it, or took its Hello.
 use Rattle.std.proofs.Common.{◌≡◌, ◌≢◌, refl, sym, ap, ◌∙◌, Bool, true, false, ℕ, ◌&&◌, List, [], ◌∷◌, map, fold, Option, Some, None, option_map, option_and_then, ◌⊎◌, inl, inr, if◌then◌else◌}
 use Rattle.std.specs.Prelude.{◌==◌, is_some}
 use Rattle.std.specs.Option.{option_map_or, option_or}

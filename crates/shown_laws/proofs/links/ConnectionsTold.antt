@@ -87,7 +87,8 @@ sent_unnamed event frames link speaks is = record {
   end = sent_end event 0 frames link speaks is.end;
 }
 
--- Frames that are sent on a connection change nothing that is told, where it is open or there are none.
+-- Frames that are sent on a connection change nothing that is told, where it is open or there are
+-- none.
 pub sends_told : (event : ℕ) (frames : List Sent) (links : List Link) (told : List Seen) (number : ℕ) → AllTold links told → ((link : Link) → link_at links number ≡ Some link → (link.is_open ≡ true) ⊎ (frames ≡ []))
     → AllTold (changed (sends event frames) links number) told
 sends_told event frames links told number all speaks =

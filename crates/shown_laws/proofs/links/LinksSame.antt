@@ -1,4 +1,5 @@
--- What is read of each connection stays where one of them changes, or all, and what is read of these does not.
+-- What is read of each connection stays where one of them changes, or all, and what is read of
+-- these does not.
 use Rattle.std.proofs.Common.{◌≡◌, ◌≢◌, refl, sym, ap, ◌∙◌, ℕ, List, [], ◌∷◌, map, fold, Option, Some, option_map, ◌⊎◌, inl, inr}
 use Rattle.world_model.specs.meaning.Links.{Link, link_at, with_link, changed, sends}
 use Rattle.world_model.specs.meaning.Outside.{closed_by_drain}

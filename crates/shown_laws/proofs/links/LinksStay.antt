@@ -1,4 +1,5 @@
--- What an event leaves of a connection on which no Close is sent: it is closed as it was, and does not open again.
+-- What an event leaves of a connection on which no Close is sent: it is closed as it was, and does
+-- not open again.
 use Rattle.std.proofs.Common.{◌≡◌, ◌≢◌, refl, sym, ap, subst, ◌∙◌, Bool, true, false, ℕ, ◌||◌, List, [], ◌∷◌, ◌++◌, map, fold, Option, Some, option_map, ◌⊎◌, inl, inr, if◌then◌else◌}
 use Rattle.std.specs.List.{list_any}
 use Rattle.std.proofs.lemmas.List.Folds.{list_any-append}

@@ -58,7 +58,8 @@ sent_replies event frames link told is = by (list_any (λ (sent : Sent). is_clos
 
 -- TAKING ------------------------------------------------------------------------------------------
 
--- The reply that is taken next is told as the next one: its item is that of an answer which the session gave.
+-- The reply that is taken next is told as the next one: its item is that of an answer which the
+-- session gave.
 pub record NextReply (input : Input) (link : Link) (reply : Reply) (left : List Reply) (told : List Served) : Type 0 where
   pub one : Answer
   pub before : List Answer
@@ -190,7 +191,8 @@ quiet_replies front served told is living = record {
     by true = append-nil front.link.down
     by false = append-nil front.link.down
 
--- The reply to one that is answered is told behind all others, and is lost where the connection has ended.
+-- The reply to one that is answered is told behind all others, and is lost where the connection has
+-- ended.
 pub answered_replies : (front : Front) (served : Served) (frame : Down) (told : List Served) → TellsReplies front.link told → front.link.is_living ≡ true → TellsReplies (after_front front served (Some frame)) (told ++ served ∷ [])
 answered_replies front served frame told is living = by front.link.is_open is.all_down
   where

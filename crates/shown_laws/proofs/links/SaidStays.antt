@@ -1,4 +1,5 @@
--- Who sent last on each connection, and the identifier that was taken last there, stay in every event but a step of a client.
+-- Who sent last on each connection, and the identifier that was taken last there, stay in every
+-- event but a step of a client.
 use Rattle.std.proofs.Common.{◌≡◌, refl, ap, ◌∙◌, Bool, true, false, ℕ, List, [], ◌∷◌, ◌++◌, map, fold, Option, Some, None, option_map, if◌then◌else◌}
 use Rattle.std.specs.List.{list_any}
 use Rattle.svc_values.specs.declared.frame.Down.{Down}

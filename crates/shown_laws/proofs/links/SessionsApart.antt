@@ -1,4 +1,5 @@
--- What the invariant says of connections by their numbers: sessions differ, and one that was cut is not open.
+-- What the invariant says of connections by their numbers: sessions differ, and one that was cut is
+-- not open.
 use Rattle.std.proofs.Common.{◌≡◌, refl, ap, subst, ◌∙◌, Bool, true, false, ℕ, zero, suc, ◌&&◌, ◌||◌, List, [], ◌∷◌, filter_map, Option, Some, None}
 use Rattle.std.specs.Prelude.{not, slice_get, is_some, is_none}
 use Rattle.std.specs.List.{list_all, cons_option}

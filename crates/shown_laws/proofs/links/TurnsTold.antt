@@ -1,4 +1,5 @@
--- What a session served since its last Begin is not what is told of its connection's session, replies and end.
+-- What a session served since its last Begin is not what is told of its connection's session,
+-- replies and end.
 use Rattle.std.proofs.Common.{◌≡◌, refl, sym, ap, subst, ◌∙◌, Bool, true, false, ℕ, zero, suc, ◌<◌, List, map, Option, Some, None, option_map}
 use Rattle.svc_values.specs.declared.call.Call.{Call}
 use Rattle.svc_values.specs.declared.entry.SessionId.{SessionId}

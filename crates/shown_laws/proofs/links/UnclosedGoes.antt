@@ -1,4 +1,5 @@
--- No step of a client closes a connection that a request in course held, but that of a request that is over then.
+-- No step of a client closes a connection that a request in course held, but that of a request that
+-- is over then.
 use Rattle.std.proofs.Common.{◌≡◌, ◌≢◌, refl, sym, ap, subst, ◌∙◌, Bool, true, false, ℕ, ◌+◌, length, List, [], ◌∷◌, ◌++◌, map, Some, None, ◌⊎◌, inl, inr}
 use Rattle.std.specs.Prelude.{◌==◌, unwrap_or}
 use Rattle.std.specs.List.{list_any}

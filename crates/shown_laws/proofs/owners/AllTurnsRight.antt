@@ -1,4 +1,5 @@
--- At the end of a whole run, each turn that its report tells is right for a request that held its connection.
+-- At the end of a whole run, each turn that its report tells is right for a request that held its
+-- connection.
 use Rattle.std.proofs.Common.{◌≡◌, ◌≢◌, refl, sym, ap, subst, ◌∙◌, Bool, true, false, ℕ, zero, suc, List, [], ◌∷◌, ◌++◌, map, Option, Some, None}
 use Rattle.std.specs.Prelude.{◌==◌, flat_map, not, slice_get}
 use Rattle.std.specs.Option.{option_map_or}

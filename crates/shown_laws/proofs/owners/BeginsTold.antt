@@ -1,4 +1,5 @@
--- The acquisition that is told of the last Begin of each connection: an item but a Begin changes none, and a Begin takes that of its connection.
+-- The acquisition that is told of the last Begin of each connection: an item but a Begin changes
+-- none, and a Begin takes that of its connection.
 use Rattle.std.proofs.Common.{◌≡◌, refl, ap, ◌∙◌, Bool, true, false, ℕ, List, Option, Some, None, option_map, if◌then◌else◌}
 use Rattle.std.specs.Option.{option_map_or}
 use Rattle.svc_values.specs.declared.call.Call.{Call}

@@ -1,4 +1,5 @@
--- A call of a script, and calls with the mark that stand in a row up to it from the one after the last that was shown as decided: they fit there.
+-- A call of a script, and calls with the mark that stand in a row up to it from the one after the
+-- last that was shown as decided: they fit there.
 use Rattle.std.proofs.Common.{◌≡◌, refl, sym, ap, subst, ◌∙◌, Bool, true, false, ℕ, suc, zero, ◌+◌, ◌≤◌, ◌<◌, ◌&&◌, length, List, [], ◌∷◌, ◌++◌, reverse, Some, cond, arith}
 use Rattle.std.specs.Prelude.{◌==◌, take, drop, slice_get}
 use Rattle.std.proofs.lemmas.Bool.{and_from, or_right, or_left}

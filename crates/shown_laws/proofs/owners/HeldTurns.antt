@@ -1,4 +1,5 @@
--- Wherever a run has come to, a turn of a connection is right for the request that held the connection and whose calls it served.
+-- Wherever a run has come to, a turn of a connection is right for the request that held the
+-- connection and whose calls it served.
 use Rattle.std.proofs.Common.{◌≡◌, refl, subst, Bool, true, false, ℕ, ◌&&◌, List, [], ◌∷◌, ◌++◌, Option, ◌⊎◌, inl, inr}
 use Rattle.std.specs.Prelude.{◌==◌, not}
 use Rattle.std.specs.List.{list_all, list_any}

@@ -1,4 +1,5 @@
--- A session answers Blocked only to a call without the mark, so no call with the mark met a block on a connection.
+-- A session answers Blocked only to a call without the mark, so no call with the mark met a block
+-- on a connection.
 use Rattle.std.proofs.Common.{◌≡◌, refl, sym, ap, subst, ◌∙◌, Bool, true, false, ℕ, suc, ◌&&◌, ◌||◌, List, [], ◌∷◌, map, Option, Some, None, ◌⊎◌, inl, inr, if◌then◌else◌}
 use Rattle.std.specs.Prelude.{◌==◌, not, is_some, is_none, length, slice_get}
 use Rattle.std.specs.List.{list_all}

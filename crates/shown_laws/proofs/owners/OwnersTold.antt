@@ -1,4 +1,5 @@
--- Wherever a run has come to, each session was acquired by a step of the request that sent last there, and each Begin is of that request.
+-- Wherever a run has come to, each session was acquired by a step of the request that sent last
+-- there, and each Begin is of that request.
 use Rattle.std.proofs.Common.{◌≡◌, sym, ap, subst, ◌∙◌, true, ℕ, zero, suc, ◌+◌, ◌<◌, List, [], ◌∷◌, ◌++◌, map, Option, Some, None, option_map, arith}
 use Rattle.std.specs.Option.{option_or, option_map_or}
 use Rattle.std.proofs.lemmas.List.Sums.{fold-append}

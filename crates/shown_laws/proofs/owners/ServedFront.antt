@@ -1,4 +1,5 @@
--- The frames that were served are those that were sent first, so the calls since a Begin are told by these.
+-- The frames that were served are those that were sent first, so the calls since a Begin are told
+-- by these.
 use Rattle.std.proofs.Common.{◌≡◌, refl, sym, ap, subst, ◌∙◌, Bool, true, ℕ, ◌&&◌, List, [], ◌∷◌, ◌++◌, map, fold, reverse, Option}
 use Rattle.std.specs.Prelude.{◌==◌}
 use Rattle.std.proofs.lemmas.Bool.{and_parts}

@@ -1,4 +1,5 @@
--- The session of each connection was acquired by a step of the request that sent last there, event by event.
+-- The session of each connection was acquired by a step of the request that sent last there, event
+-- by event.
 use Rattle.std.proofs.Common.{◌≡◌, ◌≢◌, refl, sym, ap, subst, ◌∙◌, Bool, true, false, ℕ, suc, ◌+◌, ◌&&◌, length, List, [], ◌∷◌, ◌++◌, map, fold, Option, Some, None, option_map, ◌⊎◌, inl, inr, if◌then◌else◌, arith}
 use Rattle.std.specs.Prelude.{◌==◌, is_some, is_none, unwrap_or}
 use Rattle.std.specs.List.{last_or}

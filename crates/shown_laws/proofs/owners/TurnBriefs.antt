@@ -1,4 +1,5 @@
--- Of each connection that is told, its session and the calls of its turn: what an item, a note and an end change of these.
+-- Of each connection that is told, its session and the calls of its turn: what an item, a note and
+-- an end change of these.
 use Rattle.std.proofs.Common.{◌≡◌, refl, sym, ap, ◌∙◌, Bool, true, false, ℕ, List, Option, Some, None, option_map, if◌then◌else◌}
 use Rattle.std.specs.Option.{option_map_or}
 use Rattle.svc_values.specs.declared.call.Call.{Call}

@@ -1,4 +1,5 @@
--- Where each request begins once on a connection, the calls since the last Begin are all that its request sent there.
+-- Where each request begins once on a connection, the calls since the last Begin are all that its
+-- request sent there.
 use Rattle.std.proofs.Common.{◌≡◌, refl, sym, ap, subst, ◌∙◌, Bool, true, false, ℕ, ◌&&◌, ◌||◌, List, [], ◌∷◌, ◌++◌, fold, Option, None, if◌then◌else◌}
 use Rattle.std.specs.Prelude.{not, is_some, is_none}
 use Rattle.std.specs.List.{list_all}

@@ -1,4 +1,5 @@
--- By the grammar of a connection the calls since a Begin are of one request, those with the mark first.
+-- By the grammar of a connection the calls since a Begin are of one request, those with the mark
+-- first.
 use Rattle.std.proofs.Common.{◌≡◌, refl, ap, subst, ◌∙◌, Bool, true, false, ℕ, ◌&&◌, ◌||◌, List, [], ◌∷◌, ◌++◌, fold, Option, Some, None, if◌then◌else◌}
 use Rattle.std.specs.Prelude.{◌==◌, not, is_some, is_none}
 use Rattle.std.specs.List.{list_all}

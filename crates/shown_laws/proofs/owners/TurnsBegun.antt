@@ -1,4 +1,5 @@
--- The last Begin of each connection is of the request by whose step its session was acquired before, event by event.
+-- The last Begin of each connection is of the request by whose step its session was acquired
+-- before, event by event.
 use Rattle.std.proofs.Common.{◌≡◌, ◌≢◌, refl, sym, ap, subst, ◌∙◌, Bool, true, false, ℕ, suc, ◌+◌, ◌<◌, ◌&&◌, length, List, [], ◌∷◌, ◌++◌, map, Option, Some, None, option_map, ◌⊎◌, inl, inr, if◌then◌else◌, arith}
 use Rattle.std.specs.Prelude.{◌==◌, ◌*◌, is_some, is_none, nat_lt}
 use Rattle.std.specs.List.{list_all}

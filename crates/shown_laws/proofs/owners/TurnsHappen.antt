@@ -1,4 +1,5 @@
--- The calls that are told of the turn of each connection are those that its session served since its last Begin, event by event.
+-- The calls that are told of the turn of each connection are those that its session served since
+-- its last Begin, event by event.
 use Rattle.std.proofs.Common.{◌≡◌, ◌≢◌, refl, sym, ap, ◌∙◌, Bool, true, false, ℕ, ◌<◌, List, [], ◌∷◌, ◌++◌, map, fold, Option, Some, None, option_map, ◌⊎◌, inl, inr, if◌then◌else◌}
 use Rattle.std.specs.Option.{option_map_or}
 use Rattle.svc_values.specs.declared.entry.SessionId.{SessionId}

@@ -1,4 +1,5 @@
--- Wherever a run has come to, the turns that are told of connections, and those that are told as over, are what sessions served since a Begin.
+-- Wherever a run has come to, the turns that are told of connections, and those that are told as
+-- over, are what sessions served since a Begin.
 use Rattle.std.proofs.Common.{refl, sym, subst, ◌+◌, ◌<◌, List, [], ◌∷◌, ◌++◌, zero, suc, arith}
 use Rattle.outage_schedule.specs.declared.event.Event.{Event}
 use Rattle.outage_schedule.specs.declared.item.Served.{Served}

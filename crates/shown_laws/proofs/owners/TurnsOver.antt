@@ -1,4 +1,5 @@
--- Each turn that is told as over has the calls that a session had served since a Begin when it served the next one, event by event.
+-- Each turn that is told as over has the calls that a session had served since a Begin when it
+-- served the next one, event by event.
 use Rattle.std.proofs.Common.{◌≡◌, ◌≢◌, refl, sym, ap, subst, ◌∙◌, false, ℕ, ◌<◌, List, [], ◌∷◌, ◌++◌, map, Option, Some, None, ◌⊎◌, inl, inr}
 use Rattle.std.specs.Option.{option_map_or}
 use Rattle.std.proofs.lemmas.List.{append-nil, append_assoc}

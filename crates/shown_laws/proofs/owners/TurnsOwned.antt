@@ -1,4 +1,5 @@
--- At the end of a whole run each turn that is told is of a request that has the step by which its session was acquired, and right for it.
+-- At the end of a whole run each turn that is told is of a request that has the step by which its
+-- session was acquired, and right for it.
 use Rattle.std.proofs.Common.{◌≡◌, refl, sym, ap, subst, ◌∙◌, append-nil, true, ℕ, suc, List, [], ◌∷◌, ◌++◌, map, Option, Some, None, option_map}
 use Rattle.std.specs.Prelude.{◌==◌, flat_map, slice_get}
 use Rattle.std.specs.List.{list_all}

@@ -1,4 +1,5 @@
--- Each turn that is told is right for a request that held its connection: the calls that it served are of one request, which held it.
+-- Each turn that is told is right for a request that held its connection: the calls that it served
+-- are of one request, which held it.
 use Rattle.std.proofs.Common.{◌≡◌, refl, sym, ap, subst, ◌∙◌, arith, Bool, true, false, ℕ, zero, suc, ◌+◌, ◌&&◌, ◌||◌, append-nil, List, [], ◌∷◌, ◌++◌, map, fold, reverse, Option, Some, None, ◌⊎◌, inl, inr}
 use Rattle.std.specs.Prelude.{◌==◌, not, is_none, is_some, slice_get}
 use Rattle.std.specs.List.{list_all, list_any}

@@ -1,4 +1,5 @@
--- Wherever a run has come to, each turn that is told is right for a request that held its connection.
+-- Wherever a run has come to, each turn that is told is right for a request that held its
+-- connection.
 use Rattle.invariant_laws.specs.FirstBegins.{begin_once}
 use Rattle.invariant_laws.specs.Invariant.{Invariant}
 use Rattle.invariant_laws.specs.KeptLaws.{RunsKeepInvariant, FinishesKeepInvariant}

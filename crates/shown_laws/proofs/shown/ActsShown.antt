@@ -1,4 +1,5 @@
--- What a request shows at an input: a call where it takes a reply to one, or an outcome that says committed and completed, and else nothing.
+-- What a request shows at an input: a call where it takes a reply to one, or an outcome that says
+-- committed and completed, and else nothing.
 use Rattle.std.proofs.Common.{◌≡◌, refl, Bool, true, false, ℕ, ◌&&◌, List, [], ◌∷◌, Option, Some, None, if◌then◌else◌}
 use Rattle.std.specs.Prelude.{nat_le, not, ◌-◌, ◌+◌, Result, Ok, Err}
 use Rattle.svc_values.specs.declared.answer.Answer.{Answer}

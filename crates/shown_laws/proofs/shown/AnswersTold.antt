@@ -1,4 +1,5 @@
--- Each call of a report was answered: by a reply to that call of the script, of a session of the report, or by an outcome that the report has.
+-- Each call of a report was answered: by a reply to that call of the script, of a session of the
+-- report, or by an outcome that the report has.
 use Rattle.std.proofs.Common.{◌≡◌, refl, sym, ap, subst, ◌∙◌, append_assoc, Bool, true, false, ◌&&◌, ◌||◌, List, [], ◌∷◌, ◌++◌, map, Option, Some, None, option_to_list}
 use Rattle.std.specs.Prelude.{filter_map, option_and_then}
 use Rattle.std.specs.List.{list_all, list_any, cons_option}

@@ -1,4 +1,5 @@
--- Where a connection was opened last, or an outcome asked, its session has committed nothing: so says the identifier that is held on it.
+-- Where a connection was opened last, or an outcome asked, its session has committed nothing: so
+-- says the identifier that is held on it.
 use Rattle.std.proofs.Common.{◌≡◌, refl, sym, ap, subst, ◌∙◌, Bool, true, false, ℕ, ◌+◌, ◌≤◌, ◌&&◌, List, [], ◌∷◌, ◌++◌, append-nil, map, count_by, Option, Some, None, ◌⊎◌, inl, inr, arith, if◌then◌else◌}
 use Rattle.std.specs.Prelude.{◌==◌, not, nat_le, is_none}
 use Rattle.std.specs.List.{list_all, last_or}

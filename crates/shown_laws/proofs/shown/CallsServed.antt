@@ -1,4 +1,5 @@
--- Each call of a report was served: by a reply to it, or as a lone commit whose identifier stands in the list of its transaction.
+-- Each call of a report was served: by a reply to it, or as a lone commit whose identifier stands
+-- in the list of its transaction.
 use Rattle.std.proofs.Common.{◌≡◌, refl, sym, ap, subst, ◌∙◌, Bool, true, ℕ, ◌&&◌, List, [], ◌∷◌, map, Some}
 use Rattle.std.specs.Prelude.{slice_get}
 use Rattle.std.specs.List.{list_all}

@@ -1,5 +1,6 @@
--- The reply that a request takes has the number of its session's entries that a report tells to be stored up to the event of its item, and so has
--- the identifier that is held where an outcome is taken.
+-- The reply that a request takes has the number of its session's entries that a report tells to be
+-- stored up to the event of its item, and so has the identifier that is held where an outcome is
+-- taken.
 use Rattle.std.proofs.Common.{◌≡◌, refl, sym, ap, subst, ◌∙◌, Bool, true, false, ℕ, ◌&&◌, length, List, [], ◌∷◌, ◌++◌, Option, Some, None}
 use Rattle.std.specs.Prelude.{◌==◌, is_some}
 use Rattle.std.specs.Option.{option_map_or}

@@ -1,4 +1,5 @@
--- What a request was shown before it acquired the session of a connection that it opened is what it was shown before it opened this connection.
+-- What a request was shown before it acquired the session of a connection that it opened is what it
+-- was shown before it opened this connection.
 use Rattle.std.proofs.Common.{◌≡◌, refl, sym, ap, subst, ◌∙◌, append-nil, append_assoc, Bool, true, false, ℕ, List, [], ◌∷◌, ◌++◌, Option, Some, None, inl, inr, if◌then◌else◌}
 use Rattle.std.specs.Prelude.{◌==◌, is_some}
 use Rattle.std.specs.List.{list_any, cons_option}

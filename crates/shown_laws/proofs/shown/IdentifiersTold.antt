@@ -1,5 +1,5 @@
--- In a whole run that a report tells, each call was shown under the identifier of the item that the step took, with the number of its session's
--- entries that were stored up to the event of it.
+-- In a whole run that a report tells, each call was shown under the identifier of the item that the
+-- step took, with the number of its session's entries that were stored up to the event of it.
 use Rattle.std.proofs.Common.{◌≡◌, refl, sym, subst, Bool, true, length, List, [], ◌∷◌, ◌++◌, IsTrue}
 use Rattle.outage_schedule.specs.declared.document.Document.{Document}
 use Rattle.outage_schedule.specs.declared.event.Event.{Event}

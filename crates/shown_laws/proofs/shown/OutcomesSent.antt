@@ -1,4 +1,5 @@
--- Where an outcome showed a call of a request, it was a lone commit of its script, which the request had sent under that identifier.
+-- Where an outcome showed a call of a request, it was a lone commit of its script, which the
+-- request had sent under that identifier.
 use Rattle.std.proofs.Common.{◌≡◌, refl, sym, ap, subst, ◌∙◌, append-nil, Bool, true, false, ℕ, ◌&&◌, fold, length, List, [], ◌∷◌, ◌++◌, map, Option, Some, None, option_to_list, ◌⊎◌, inl, inr}
 use Rattle.std.specs.Prelude.{◌==◌, is_none, slice_get, option_and_then}
 use Rattle.std.specs.List.{list_any}

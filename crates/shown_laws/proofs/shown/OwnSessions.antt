@@ -1,4 +1,5 @@
--- The sessions by which a request goes are among those that it reached, and so are those that showed its calls.
+-- The sessions by which a request goes are among those that it reached, and so are those that
+-- showed its calls.
 use Rattle.std.proofs.Common.{◌≡◌, refl, sym, ap, subst, ◌∙◌, Bool, true, false, ℕ, ◌||◌, length, List, [], ◌∷◌, ◌++◌, Option, Some, None}
 use Rattle.std.specs.Prelude.{fold, slice_get}
 use Rattle.std.specs.List.{list_any, cons_option}

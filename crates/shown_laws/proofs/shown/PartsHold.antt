@@ -1,4 +1,5 @@
--- What holds of each request of a client with the steps that are told of it holds of each of its parts.
+-- What holds of each request of a client with the steps that are told of it holds of each of its
+-- parts.
 use Rattle.std.proofs.Common.{◌≡◌, refl, sym, ap, subst, ◌∙◌, Bool, true, ℕ, ◌+◌, List, [], ◌∷◌, map}
 use Rattle.std.specs.Prelude.{IsTrue}
 use Rattle.std.specs.List.{list_all}

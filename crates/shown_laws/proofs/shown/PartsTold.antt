@@ -1,4 +1,5 @@
--- The parts of a client that is at no request are its requests', each with the sessions of its report.
+-- The parts of a client that is at no request are its requests', each with the sessions of its
+-- report.
 use Rattle.std.proofs.Common.{◌≡◌, refl, sym, ap, subst, ◌∙◌, append-nil, append_assoc, Bool, true, false, ℕ, ◌+◌, ◌||◌, length, List, [], ◌∷◌, ◌++◌, map, Option, Some, None, inl}
 use Rattle.std.proofs.lemmas.List.{map-append}
 use Rattle.outage_schedule.specs.declared.document.Request.{Request}
@@ -116,7 +117,8 @@ pub whole_told : (setting : Setting) (client : ℕ) (own : Client) (told : List 
 whole_told setting client own told rests tells =
     tells.all ∙ ap steps_in_tellings (ap (λ (now : List Telling). joined tells.past ++ now) (now_none setting client (length own.past) own.now tells.now tells.tells_now rests) ∙ append-nil (joined tells.past))
 
--- The steps of a client at no request, cut by the sessions of its reports, are those of its requests.
+-- The steps of a client at no request, cut by the sessions of its reports, are those of its
+-- requests.
 pub parts_told : (setting : Setting) (client : ℕ) (own : Client) (told : List StepTold) → AreThrough setting.terms own.past → own.now ≡ None → (tells : TellsClient setting client own told)
     → ArePartsOf own.past tells.past (parts_of (map submission_of own.past) told)
 parts_told setting client own told through rests tells =

@@ -83,7 +83,8 @@ last_meets keep test (one ∷ all) found sent last kept before is =
     rest true is = (and_parts (test one) (list_all test (filter keep all)) is).1
     rest false is = is
 
--- of the request that a client is at, on its connection: the call that it sent last is the script's of its index
+-- of the request that a client is at, on its connection: the call that it sent last is the script's
+-- of its index
 pub sent_scripts : (t : Traced) → Invariant t → (client : ℕ) (own : Client) (doing : Doing) → client_at t.machine.clients client ≡ Some own → own.now ≡ Some doing → Talks t.setting.terms false doing
     → (connection : ℕ) (link : Link) (sent : Sent) → doing.connection ≡ Some connection → link_at t.machine.links connection ≡ Some link → last_or None link.sent ≡ Some sent
     → owned_by (record { client = client; place = length own.past }) sent ≡ true → is_call sent.frame ≡ true → is_scripts (course_now t.setting client (length own.past) doing) sent sent.frame ≡ true

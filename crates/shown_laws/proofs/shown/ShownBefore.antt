@@ -1,4 +1,5 @@
--- How many calls were shown before a step, as a part tells it: those that its request was shown by then.
+-- How many calls were shown before a step, as a part tells it: those that its request was shown by
+-- then.
 use Rattle.std.proofs.Common.{◌≡◌, refl, sym, ap, subst, ◌∙◌, append-nil, append_assoc, Bool, true, false, ℕ, suc, ◌<◌, ◌≤◌, ◌&&◌, length, List, [], ◌∷◌, ◌++◌, map, filter, Option, Some, None, ◌⊎◌, inl, inr, if◌then◌else◌, arith}
 use Rattle.std.specs.Prelude.{is_some, is_none, nat_lt}
 use Rattle.std.specs.List.{list_all, cons_option}

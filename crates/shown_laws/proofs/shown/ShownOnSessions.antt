@@ -61,7 +61,8 @@ held_by x (Some y) is = ap Some (sym ((same_ltxid_decides x y).0 is))
 -- A STEP ------------------------------------------------------------------------------------------
 
 module _ (t : Traced) (inv : Invariant t) (client : ℕ) (own : Client) (here : client_at t.machine.clients client ≡ Some own) (doing : Doing) (now : own.now ≡ Some doing) (reaches : Reaches (account_of t.setting.terms doing.request.calls (dones_of doing.steps)) (sessions_reached doing.steps)) where
-  -- what it takes on its connection, while it goes by an identifier, is of a session that it reached
+  -- what it takes on its connection, while it goes by an identifier, is of a session that it
+  -- reached
   pub reply_own : (connection : ℕ) (link : Link) (x : Ltxid) (session : SessionId) → doing.connection ≡ Some connection → link_at t.machine.links connection ≡ Some link → link.session ≡ Some session → goes_by doing.talk.phase ≡ Some x
       → Among session (sessions_reached doing.steps)
   reply_own connection link x session has there its goes =

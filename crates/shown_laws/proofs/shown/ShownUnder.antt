@@ -1,4 +1,5 @@
--- Under which identifier a call is shown: that of the reply, or that of the session which says that it was committed and completed.
+-- Under which identifier a call is shown: that of the reply, or that of the session which says that
+-- it was committed and completed.
 use Rattle.std.proofs.Common.{◌≡◌, refl, ap, ◌∙◌, Bool, true, false, ℕ, List, [], ◌∷◌, ◌&&◌, Option, Some, None, if◌then◌else◌}
 use Rattle.std.specs.Prelude.{not, nat_le, Result, Ok, Err}
 use Rattle.std.specs.Option.{option_map_or}
@@ -104,7 +105,8 @@ outcome_under x terms talk asking false completed alive now same = ap (is_under 
 
 -- A FRAME -----------------------------------------------------------------------------------------
 
--- the identifier of a reply is this one, and where an outcome is taken so is that of the session which tells it
+-- the identifier of a reply is this one, and where an outcome is taken so is that of the session
+-- which tells it
 pub data GoesUnder (x : Ltxid) : Phase → Down → Type 0 where
   ByReply : (phase : Phase) (answers : List Answer) (draws : List Draw) (y : Ltxid) → same_ltxid y x ≡ true → GoesUnder x phase (down.Reply answers draws y)
   ByOutcome : (asking : Asking) (committed completed : Bool) → same_ltxid asking.fresh x ≡ true → GoesUnder x (Asked asking) (down.OutcomeIs committed completed)

@@ -1,4 +1,5 @@
--- What a step shows is shown under the identifier of the item that it takes, with the number that the report tells.
+-- What a step shows is shown under the identifier of the item that it takes, with the number that
+-- the report tells.
 use Rattle.std.proofs.Common.{◌≡◌, refl, sym, ap, subst, ◌∙◌, true, ℕ, List, [], ◌∷◌, ◌++◌, Option, Some, None}
 use Rattle.std.specs.List.{list_all}
 use Rattle.std.specs.Option.{option_map_or}

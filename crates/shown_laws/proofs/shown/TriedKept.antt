@@ -1,4 +1,5 @@
--- A call that a request sent stays among its sendings, and where it was shown as committed its identifier is in the list of its transaction.
+-- A call that a request sent stays among its sendings, and where it was shown as committed its
+-- identifier is in the list of its transaction.
 use Rattle.std.proofs.Common.{◌≡◌, refl, sym, ap, subst, ◌∙◌, Bool, true, false, ℕ, ◌+◌, ◌<◌, ◌&&◌, cond, fold, filter, length, List, [], ◌∷◌, ◌++◌, map, Option, Some, None, is_some, ◌⊎◌, inl, inr}
 use Rattle.std.specs.Prelude.{◌==◌, slice_get}
 use Rattle.std.specs.List.{list_all, list_any}
@@ -153,7 +154,8 @@ reversed_any test (one ∷ all) done either = reversed_any test all (one ∷ don
     by (inl is) = pick (or_cases (test (tried_one one)) (list_any (λ sending. test (tried_one sending)) all) is)
     by (inr is) = inr (or_right (test (tried_one one)) (list_any test (map tried_one done)) is)
 
--- The list of a call that was shown as committed has the identifier of each commit that was sent at its place.
+-- The list of a call that was shown as committed has the identifier of each commit that was sent at
+-- its place.
 pub commit_tried : (blocked : List Ltxid) (course : Course) (place : ℕ) (x : Ltxid) → tells_tried course ≡ true → list_all (is_known blocked course.report.calls course.report.outcomes) (commit_sendings course) ≡ true
     → place < length course.report.calls → shows_at ends_committed course.report.calls place ≡ true → list_any (is_commit_at place x) (sendings_of course) ≡ true → HasList (tried_by_call course.report) place x
 commit_tried blocked course place x tried known less committed any =

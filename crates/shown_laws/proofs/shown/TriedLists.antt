@@ -1,4 +1,5 @@
--- The identifier of a sending that may have committed is in the list of the transaction of its call.
+-- The identifier of a sending that may have committed is in the list of the transaction of its
+-- call.
 use Rattle.std.proofs.Common.{◌≡◌, refl, sym, ap, subst, ◌∙◌, Bool, true, false, ℕ, zero, suc, ◌+◌, ◌-◌, ◌<◌, ◌≤◌, ◌&&◌, cond, fold, filter, length, List, [], ◌∷◌, ◌++◌, map, Some, ◌⊎◌, inl, inr, if◌then◌else◌, arith}
 use Rattle.std.specs.Prelude.{◌==◌, nat_le, nat_lt, slice_get, flat_map}
 use Rattle.std.specs.Cmp.Lexicographic.{pointwise}
@@ -165,7 +166,8 @@ lists_same (x ∷ a) (y ∷ b) is =
     let both = and_parts (pointwise same_ltxid x y) (pointwise (pointwise same_ltxid) a b) is in
     ap (λ (z : List Ltxid). z ∷ a) (ids_same x y both.0) ∙ ap (λ (l : List (List Ltxid)). y ∷ l) (lists_same a b both.1)
 
--- Where a report has the lists of these sendings, the list of a shown call has the identifier of each sending of that call that may have committed.
+-- Where a report has the lists of these sendings, the list of a shown call has the identifier of
+-- each sending of that call that may have committed.
 pub call_tried : (copy : RequestReport) (sendings : List Sending) (place : ℕ) (x : Ltxid) → is_tried copy sendings ≡ true → place < length copy.calls → list_any (is_sent_at place x) sendings ≡ true → HasList (tried_by_call copy) place x
 call_tried copy sendings place x tried less any =
     subst (λ (lists : List (List Ltxid)). HasList (by_call (with_tried (txns copy.calls) lists)) place x) (sym (lists_same copy.tried (tried_of copy.calls sendings) tried))

@@ -68,7 +68,8 @@ with_long clients (suc index) client = set_long clients index client
 
 -- ONE STEP MORE -----------------------------------------------------------------------------------
 
--- what is told of a client with one telling more, of the request in course or of one that is over by it
+-- what is told of a client with one telling more, of the request in course or of one that is over
+-- by it
 pub data IsLonger (one : Telling) (past : List (List Telling)) (now : List Telling) : List (List Telling) → List Telling → Type 0 where
   InCourse : IsLonger one past now past (now ++ one ∷ [])
   AtEnd : IsLonger one past now (past ++ (now ++ one ∷ []) ∷ []) []

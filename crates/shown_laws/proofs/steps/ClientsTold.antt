@@ -71,7 +71,8 @@ none_told document = record {
 
 -- EVENTS ------------------------------------------------------------------------------------------
 
--- What holds of the clients and of the steps that are told holds behind each event, if it does behind each step of a client.
+-- What holds of the clients and of the steps that are told holds behind each event, if it does
+-- behind each step of a client.
 module _ (Q : List Client → List StepTold → Type 0) (t : Traced) (inv : Invariant t) (notes : List Note) (items : List Served) (are : AreTold notes items t) (unclosed : AllUnclosed t.machine) (told : List StepTold) (before : Q t.machine.clients told)
     (grows : (client : ℕ) (did : GoNote) (n : Machine) → Acts t (seen_told notes items) client did n → Q n.clients (told ++ told_step t (seen_told notes items) client did ∷ [])) where
   -- no step is told

@@ -1,4 +1,5 @@
--- What the invariant says of each request holds of those of a client that are over: so each shows all calls of its script, or it failed.
+-- What the invariant says of each request holds of those of a client that are over: so each shows
+-- all calls of its script, or it failed.
 use Rattle.std.proofs.Common.{◌≡◌, refl, ap, subst, ◌∙◌, Bool, true, false, ℕ, zero, suc, ◌+◌, ◌≤◌, ◌<◌, ◌&&◌, cond, length, List, [], ◌∷◌, Option, Some, None, is_some, ◌⊎◌, inl, inr, arith}
 use Rattle.std.specs.Prelude.{◌==◌, is_none, nat_le, filter, slice_get}
 use Rattle.std.specs.List.{list_all, list_any}

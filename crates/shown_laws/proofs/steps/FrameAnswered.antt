@@ -121,7 +121,8 @@ expected_last t session commits frame (item.Call marked served answered draws) l
 expected_last t session commits frame (item.Outcome asked result) last answers says stand = absurd answers
 expected_last t session commits frame one last answers says stand = absurd (let none : ⊥ = cc in none)
 
--- The reply is that to its item, the item answers the last frame, and the reply is one that is expected.
+-- The reply is that to its item, the item answers the last frame, and the reply is one that is
+-- expected.
 pub record IsAnswer (last : Option Up) (one : Item) (frame : Down) : Type 0 where
   pub replies : Replies one frame
   pub answers : Answers last one

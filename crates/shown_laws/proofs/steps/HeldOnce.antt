@@ -1,4 +1,5 @@
--- A request holds each connection once: it is lent one before all others, and each that it opens is new.
+-- A request holds each connection once: it is lent one before all others, and each that it opens is
+-- new.
 use Rattle.std.proofs.Common.{◌≡◌, refl, sym, ap, subst, ◌∙◌, append-nil, Bool, true, false, ℕ, zero, suc, ◌+◌, ◌&&◌, ◌||◌, length, List, [], ◌∷◌, ◌++◌, Option, Some, None, ◌⊎◌, inl, inr, if◌then◌else◌, arith}
 use Rattle.std.specs.Prelude.{◌==◌, not}
 use Rattle.std.specs.List.{list_all, list_any, cons_option}
@@ -74,7 +75,8 @@ apart_from one number (first ∷ numbers) all there same = by (or_cases (first =
         none
     by (inr later) rest = rest later
 
--- of the connections that steps brought, one that a step brought is not among those of the steps before it
+-- of the connections that steps brought, one that a step brought is not among those of the steps
+-- before it
 held_here : (number : ℕ) (step : Step) (steps : List Step) → brought step.done.input ≡ Some number → held_in (step ∷ steps) ≡ number ∷ held_in steps
 held_here number step steps is = ap (λ (one : Option ℕ). cons_option one (held_in steps)) is
 

@@ -1,4 +1,5 @@
--- A step at which a request was lent a connection, or took a reply, is told as one that has a session or a reply.
+-- A step at which a request was lent a connection, or took a reply, is told as one that has a
+-- session or a reply.
 use Rattle.std.proofs.Common.{◌≡◌, refl, sym, ap, ◌∙◌, Bool, true, false, ℕ, ◌+◌, ◌&&◌, ◌||◌, List, [], ◌∷◌, ◌⊎◌, inl, inr}
 use Rattle.std.specs.Prelude.{◌==◌, is_some}
 use Rattle.std.specs.List.{list_any}

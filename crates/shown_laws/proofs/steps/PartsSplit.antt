@@ -1,4 +1,5 @@
--- Where each request's steps are quiet up to its first session, the parts of a client are its requests' from there on.
+-- Where each request's steps are quiet up to its first session, the parts of a client are its
+-- requests' from there on.
 use Rattle.std.proofs.Common.{◌≡◌, refl, sym, ap, subst, ◌∙◌, append-nil, append_assoc, Bool, true, false, ℕ, zero, suc, length, List, [], ◌∷◌, ◌++◌, map, cond, Option, Some, None, ◌⊎◌, inl, inr, arith}
 use Rattle.std.specs.Prelude.{filter_map, is_some}
 use Rattle.std.specs.List.{cons_option}
@@ -103,7 +104,8 @@ cut_own count (step ∷ own) rest all is = by count step.session all.0 is (λ mo
 
 -- REQUESTS ----------------------------------------------------------------------------------------
 
--- Each request has as many sessions in its report as its steps acquired, and is quiet up to the first.
+-- Each request has as many sessions in its report as its steps acquired, and is quiet up to the
+-- first.
 pub data AreSplit : List Past → List (List Telling) → Type 0 where
   NoneSplit : AreSplit [] []
   OneSplit : (one : Past) (past : List Past) (tellings : List Telling) (more : List (List Telling)) → Split (steps_in_tellings tellings) → OfEach HasIts (steps_in_tellings tellings)

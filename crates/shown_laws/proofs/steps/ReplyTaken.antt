@@ -1,4 +1,5 @@
--- The reply that a request takes, as it is told: the item of the frame that it sent last on its connection.
+-- The reply that a request takes, as it is told: the item of the frame that it sent last on its
+-- connection.
 use Rattle.std.proofs.Common.{◌≡◌, refl, sym, ap, subst, ◌∙◌, Bool, true, false, ℕ, zero, suc, ◌+◌, ◌&&◌, length, List, [], ◌∷◌, ◌++◌, map, filter, cond, Option, Some, None, ◌⊎◌, inl, inr, arith}
 use Rattle.std.specs.Prelude.{is_none, slice_get, option_map}
 use Rattle.std.specs.List.{list_all, last_or, cons_option}

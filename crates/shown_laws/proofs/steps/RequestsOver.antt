@@ -1,4 +1,5 @@
--- Of a client at no request each request is over, and what is over stands at its place with its steps.
+-- Of a client at no request each request is over, and what is over stands at its place with its
+-- steps.
 use Rattle.std.proofs.Common.{◌≡◌, refl, sym, ap, subst, ◌∙◌, append-nil, ℕ, zero, suc, List, [], ◌∷◌, ◌++◌, map, Option, Some, None, option_map}
 use Rattle.std.specs.Prelude.{slice_get}
 use Rattle.std.specs.Option.{option_map_or}

@@ -60,7 +60,8 @@ told_step t seen client did = told_at_step seen.links (next_told t.machine (note
 abbrev pub told_steps : Traced → Seen → ℕ → GoNote → List StepTold
 told_steps t seen client did = steps_at seen (next_told t.machine (note.Go client did) []) (note.Go client did)
 
--- A client that is finished is told to make no step. Each other one is told, with what its request did, and the request goes on or is over.
+-- A client that is finished is told to make no step. Each other one is told, with what its request
+-- did, and the request goes on or is over.
 pub record Acts (t : Traced) (seen : Seen) (client : ℕ) (did : GoNote) (n : Machine) : Type 0 where
   pub own : Client
   pub here : client_at t.machine.clients client ≡ Some own

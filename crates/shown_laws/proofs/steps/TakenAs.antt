@@ -1,4 +1,5 @@
--- What a reply that is taken is, by the phase of its request: the item, and the frame with which it was answered.
+-- What a reply that is taken is, by the phase of its request: the item, and the frame with which it
+-- was answered.
 use Rattle.std.proofs.Common.{◌≡◌, refl, sym, ap, subst, ◌∙◌, Bool, true, false, ℕ, List, Option, Some}
 use Rattle.std.proofs.lemmas.Bool.{and_parts}
 use Rattle.svc_values.specs.declared.answer.Answer.{Answer}

@@ -1,4 +1,5 @@
--- A step that is told to be lent a connection, or to take a reply there, is a step of its request now; and what was taken, by its kind.
+-- A step that is told to be lent a connection, or to take a reply there, is a step of its request
+-- now; and what was taken, by its kind.
 use Rattle.std.proofs.Common.{◌≡◌, refl, sym, ap, subst, ◌∙◌, true, ℕ, ◌+◌, List, [], ◌∷◌, Option, Some, None, if◌then◌else◌}
 use Rattle.std.specs.Prelude.{◌==◌, is_some}
 use Rattle.std.proofs.lemmas.Bool.{and_from, or_left}

@@ -23,7 +23,8 @@ abbrev pub seen_at : List PlainRow → Option Place → List (List Value)
 seen_at tables None = []
 seen_at tables (Some at) = map (λ one. one.row) (rows_at tables at)
 
--- what a statement does: its answer, its writes, the place that it read, if any, and the draws that are left
+-- what a statement does: its answer, its writes, the place that it read, if any, and the draws that
+-- are left
 pub record OneDone : Type 0 where
   pub answer : Answer
   pub writes : List Write
@@ -37,7 +38,8 @@ done_at tables (Some (Ok asked, left)) =
     let done = effect asked (seen_at tables (place_of asked)) in
     Some (record { answer = done.answer; writes = option_to_list done.write; reads = option_to_list (place_of asked); rest = left })
 
--- One statement: what its text and operands ask for, done on the rows at its place. None where the draws differ from those asked for.
+-- One statement: what its text and operands ask for, done on the rows at its place. None where the
+-- draws differ from those asked for.
 abbrev pub mean1 : Shape → List PlainRow → NamedValues → Statement → List Draw → Option OneDone
 mean1 shape tables settings asked draws = done_at tables (plan_of shape settings asked draws)
 
@@ -64,13 +66,15 @@ abbrev pub and_on : Option OneDone → (OneDone → Option AllDone) → Option A
 and_on None next = None
 and_on (Some one) next = if is_refusal one.answer then ended_by one else after_first one (next one)
 
--- The statements in order, each on the tables with the writes of those before it. The first refusal ends them.
+-- The statements in order, each on the tables with the writes of those before it. The first refusal
+-- ends them.
 abbrev pub statements_done : Shape → List PlainRow → NamedValues → List Statement → List Draw → Option AllDone
 statements_done shape tables settings [] draws = Some (record { answers = []; writes = []; reads = []; rest = draws; refused = false })
 statements_done shape tables settings (first ∷ rest) draws =
     and_on (mean1 shape tables settings first draws) (λ one. statements_done shape (with_writes tables one.writes) settings rest one.rest)
 
--- what a call does: its answers, the tables and settings after it, its writes, the places that it read, and the draws that are left
+-- what a call does: its answers, the tables and settings after it, its writes, the places that it
+-- read, and the draws that are left
 pub record Meant : Type 0 where
   pub answers : List Answer
   pub tables : List PlainRow

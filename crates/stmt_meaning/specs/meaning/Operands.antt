@@ -20,8 +20,8 @@ drawn_value (draw.Seq name n) = value.Int n
 drawn_value (draw.Clock tick) = value.Int (pos (min tick (2 ^ 63 - 1)))
 drawn_value (draw.Id id) = value.Bytes id
 
--- What reading gives: a value or the fault that refuses the statement, beside the draws that are left;
--- and nothing at all where the draws don't begin with the one that is asked for.
+-- What reading gives: a value or the fault that refuses the statement, beside the draws that are
+-- left; and nothing at all where the draws don't begin with the one that is asked for.
 abbrev pub Reading : Type 0 → Type 0
 Reading A = Option (Result A StatementFault × List Draw)
 

@@ -1,4 +1,5 @@
--- What a statement asks to be done, from its text and the values of its operands. No row is looked at.
+-- What a statement asks to be done, from its text and the values of its operands. No row is looked
+-- at.
 use Rattle.std.specs.Prelude.{ℕ, ◌==◌, Bool, List, [], Option, Some, None, Result, Ok, Err, slice_get, if◌then◌else◌}
 use Rattle.svc_values.specs.declared.value.Value.{Value}
 use Rattle.svc_values.specs.declared.value.Value.TheVariants as value
@@ -27,7 +28,8 @@ use Rattle.svc_values.specs.meaning.Schemas.{schema_of, column_of, is_column_kin
 use Rattle.svc_values.specs.meaning.Calls.{operands_of}
 use Rattle.svc_values.specs.meaning.SettingsList.{NamedValues}
 
--- where a statement works: the columns of its table, and the place of the column that it names (0 where it names none)
+-- where a statement works: the columns of its table, and the place of the column that it names (0
+-- where it names none)
 pub record Aim : Type 0 where
   pub columns : List Column
   pub at : ℕ
@@ -51,7 +53,8 @@ abbrev pub but_key : Result Aim StatementFault → Result Aim StatementFault
 but_key (Err refusal) = Err refusal
 but_key (Ok aim) = if aim.at == 0 then Err fault.KeyColumn else Ok aim
 
--- What is checked before an operand is read: the table, the column, and that an update's is not the key.
+-- What is checked before an operand is read: the table, the column, and that an update's is not the
+-- key.
 abbrev pub aim_of : List Schema → Statement → Result Aim StatementFault
 aim_of schemas (statement.Insert table operands) = in_table (schema_of schemas table) whole
 aim_of schemas (statement.Update table key column by) = but_key (in_table (schema_of schemas table) (in_column column))

@@ -4,7 +4,8 @@ use Rattle.svc_values.specs.declared.tables.PlainRow.{PlainRow}
 use Rattle.svc_values.specs.declared.tables.Place.{Place}
 use Rattle.svc_values.specs.meaning.Tables.{rows_at}
 
--- A place was read, and these rows were committed there: the row of its key or none, or all rows of the table in order of key.
+-- A place was read, and these rows were committed there: the row of its key or none, or all rows of
+-- the table in order of key.
 pub record Read : Type 0 where
   pub at : Place
   pub found : List PlainRow

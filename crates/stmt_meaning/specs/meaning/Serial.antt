@@ -8,7 +8,8 @@ use Rattle.svc_values.specs.declared.tables.PlainRow.{PlainRow}
 use Rattle.stmt_meaning.specs.meaning.Meaning.{Meant, mean}
 use Rattle.svc_values.specs.meaning.SettingsList.{NamedValues}
 
--- The piece's call, run on these tables and settings with the piece's draws, uses them all and gives exactly the piece's answers.
+-- The piece's call, run on these tables and settings with the piece's draws, uses them all and
+-- gives exactly the piece's answers.
 pub record Replays (shape : Shape) (tables : List PlainRow) (settings : NamedValues) (piece : Piece) (meant : Meant) : Type 0 where
   pub run : mean shape tables settings piece.call piece.draws ≡ Some meant
   pub draws : meant.rest ≡ []

@@ -54,7 +54,8 @@ from_sequence _ = 0
 abbrev pub from_sequences : List Operand → ℕ
 from_sequences operands = sum_by from_sequence operands
 
--- how many operands of a frame's call are the next value of a sequence: none where the frame has no call
+-- how many operands of a frame's call are the next value of a sequence: none where the frame has no
+-- call
 abbrev pub sequences_in : Up → ℕ
 sequences_in (up.Call replay kept (call.Work statements commit)) = sum_by (λ one. from_sequences (operands_of one)) statements
 sequences_in _ = 0

@@ -18,7 +18,8 @@ has_fit None key row = false
 has_fit (Some schema) key None = key_fits schema.columns key
 has_fit (Some schema) key (Some row) = is_row_of (Some schema) key row
 
--- a write names a declared table and a key of the first column's kind, and its row, if it has one, is a row of that table and key
+-- a write names a declared table and a key of the first column's kind, and its row, if it has one,
+-- is a row of that table and key
 abbrev pub write_fits : List Schema → Write → Bool
 write_fits schemas write = has_fit (schema_of schemas write.table) write.key write.row
 

@@ -1,4 +1,5 @@
--- Plain tables: a list of rows, each with its table and key, in the order of table and key. No table and key stands twice.
+-- Plain tables: a list of rows, each with its table and key, in the order of table and key. No
+-- table and key stands twice.
 use Rattle.std.specs.Prelude.{ℕ, ◌&&◌, Bool, true, false, not, List, [], ◌∷◌, Option, Some, None, filter, if◌then◌else◌}
 use Rattle.std.specs.Str.{bytes_eq}
 use Rattle.std.specs.Ordering.{nat_cmp, match_ordering}
@@ -37,7 +38,8 @@ abbrev pub put_if_any : List PlainRow → List ℕ → Value → Option (List Va
 put_if_any tables table key None = tables
 put_if_any tables table key (Some row) = put_row (record { table = table; key = key; row = row }) tables
 
--- the tables after a write: what stood at its table and key is gone, and its row, if it has one, is there
+-- the tables after a write: what stood at its table and key is gone, and its row, if it has one, is
+-- there
 abbrev pub with_write : List PlainRow → Write → List PlainRow
 with_write tables write = put_if_any (without tables write.table write.key) write.table write.key write.row
 

@@ -1,4 +1,5 @@
--- Where served items may stand: their events rise, and each names a note at which such an item may stand.
+-- Where served items may stand: their events rise, and each names a note at which such an item may
+-- stand.
 use Rattle.std.specs.Prelude.{ℕ, ◌-◌, ◌&&◌, Bool, true, false, nat_lt, List, Option, Some, slice_get}
 use Rattle.std.specs.Option.{option_map_or}
 use Rattle.outage_schedule.specs.declared.note.FrameName.{FrameName}
@@ -8,8 +9,8 @@ use Rattle.outage_schedule.specs.declared.note.Note.TheVariants as note
 use Rattle.told_reports.specs.declared.place.ServedWord.{ServedWord}
 use Rattle.told_reports.specs.declared.place.ServedWord.TheVariants as word
 
--- A `serve` of a frame has the item of that frame; a refused item may be of any. A crashed item is of no
--- `serve`.
+-- A `serve` of a frame has the item of that frame; a refused item may be of any. A crashed item is
+-- of no `serve`.
 abbrev pub is_of_frame : FrameName → ServedWord → Bool
 is_of_frame frame.Connect word.Connect = true
 is_of_frame frame.Begin word.Begin = true

@@ -18,8 +18,8 @@ use Rattle.server_model.specs.ServiceCalls.{ServedOne}
 use Rattle.world_model.specs.meaning.Serving.{Front, identifier, outcome_frame}
 use Rattle.world_model.specs.Traced.{Traced}
 
--- What a session that has answered so many commits answers to a frame: an identifier that comes with it has the number of them
--- behind the frame.
+-- What a session that has answered so many commits answers to a frame: an identifier that comes
+-- with it has the number of them behind the frame.
 pub data Answers (session : SessionId) (commits : ℕ) : Up → Option Down → Type 0 where
   Connects : Answers session commits up.Connect (Some (down.Hello (identifier session commits)))
   Begins : (settings : List (List ℕ × Value)) → Answers session commits (up.Begin settings) None

@@ -35,8 +35,9 @@ abbrev pub LivedInOrder : Seen → Traced → ℕ → Front → Type 0
 LivedInOrder seen t number front =
     (reply : Option Down) (new : Seen) → IsHistory new → (served : ServedWith seen number t.machine.tick front.first.frame reply new) → life_by seen.history served.session ≡ life_of front.link.served
 
--- Where a frame may be served on the connection of this number, the server is up, the sessions that live are of its incarnation and no
--- two are one, the frame is Connect exactly where its session has no name yet, and it is answered in order.
+-- Where a frame may be served on the connection of this number, the server is up, the sessions that
+-- live are of its incarnation and no two are one, the frame is Connect exactly where its session
+-- has no name yet, and it is answered in order.
 pub record ServesInOrder (seen : Seen) (t : Traced) (number : ℕ) (front : Front) : Type 0 where
   pub is_up : t.machine.server.is_up ≡ true
   pub now : IsTrue (living_now t)

@@ -1,4 +1,5 @@
--- A request that goes on behind an input has begun and is not over, and by an input that brings no connection nothing is sent.
+-- A request that goes on behind an input has begun and is not over, and by an input that brings no
+-- connection nothing is sent.
 use Rattle.std.proofs.Common.{◌≡◌, ◌⊎◌, inl, inr, ℕ, ◌+◌, ◌-◌, ◌<◌, Bool, true, false, List, [], ◌∷◌, ◌++◌, Option, Some, None, refl, sym, subst}
 use Rattle.std.specs.Prelude.{nat_le, if◌then◌else◌}
 use Rattle.svc_values.specs.declared.call.Call.{Call}

@@ -1,4 +1,5 @@
--- The sessions of connections and those made outside: how they grow, and that they stay apart, made and counted.
+-- The sessions of connections and those made outside: how they grow, and that they stay apart, made
+-- and counted.
 use Rattle.std.proofs.Common.{◌≡◌, refl, sym, ap, ◌∙◌, Bool, true, false, ℕ, ◌+◌, ◌<◌, ◌&&◌, ◌||◌, cond, List, [], ◌∷◌, ◌++◌, count_by, arith}
 use Rattle.std.specs.Prelude.{◌==◌, nat_le, nat_lt, not}
 use Rattle.std.specs.List.{list_all, list_any}

@@ -1,4 +1,5 @@
--- The tests of Basic that speak of the sessions of all connections, at the start and behind each event.
+-- The tests of Basic that speak of the sessions of all connections, at the start and behind each
+-- event.
 use Rattle.std.proofs.Common.{◌≡◌, refl, sym, ap, ◌∙◌, Bool, true, ◌++◌, List, [], Some, None}
 use Rattle.std.specs.List.{list_all}
 use Rattle.svc_values.specs.declared.entry.SessionId.{SessionId}

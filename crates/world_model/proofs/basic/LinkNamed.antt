@@ -1,4 +1,5 @@
--- Of each connection: it has its name once its Connect was served, and each item and identifier is of that session.
+-- Of each connection: it has its name once its Connect was served, and each item and identifier is
+-- of that session.
 use Rattle.std.proofs.Common.{◌≡◌, refl, sym, ap, subst, Bool, true, false, ◌&&◌, length, List, [], ◌∷◌, ◌++◌, Option, Some, None}
 use Rattle.std.specs.Prelude.{◌==◌, not, is_some, is_none}
 use Rattle.std.specs.List.{list_all}

@@ -1,4 +1,5 @@
--- A session that lives is of this incarnation; while the server is down nothing is open and none lives.
+-- A session that lives is of this incarnation; while the server is down nothing is open and none
+-- lives.
 use Rattle.std.proofs.Common.{◌≡◌, refl, ap, ◌∙◌, Bool, true, false, ℕ, ◌&&◌, ◌||◌, List, map, Option, Some, None}
 use Rattle.std.specs.Prelude.{◌==◌, not}
 use Rattle.std.specs.List.{list_all}

@@ -1,4 +1,5 @@
--- What is read off the sessions and the items of all connections stays, but where a frame is served.
+-- What is read off the sessions and the items of all connections stays, but where a frame is
+-- served.
 use Rattle.std.proofs.Common.{◌≡◌, refl, ◌∙◌, Bool, true, false, ℕ, suc, zero, List, [], ◌∷◌, ◌++◌, map, fold, Option, Some, None, if◌then◌else◌}
 use Rattle.std.specs.Prelude.{slice_get, slice_set, unwrap_or}
 use Rattle.std.specs.Option.{option_map_or}

@@ -1,4 +1,5 @@
--- A test over all connections is kept in an event if it is kept by each thing that may happen to one of them.
+-- A test over all connections is kept in an event if it is kept by each thing that may happen to
+-- one of them.
 use Rattle.std.proofs.Common.{◌≡◌, refl, sym, ap, subst, Bool, true, false, ℕ, suc, zero, ◌||◌, List, [], ◌∷◌, map, fold, Option, Some, None, if◌then◌else◌}
 use Rattle.std.specs.Prelude.{option_and_then, nat_le, not, slice_set, unwrap_or}
 use Rattle.std.specs.List.{list_all}
@@ -90,7 +91,8 @@ open_is links number link e = opened_found links number (link_at links number) l
 
 -- EVENTS ------------------------------------------------------------------------------------------
 
--- What may happen to a connection but by its client keeps the test. `before` holds of all connections when the event begins.
+-- What may happen to a connection but by its client keeps the test. `before` holds of all
+-- connections when the event begins.
 pub record KeepsServed (m : Machine) (before test : Link → Bool) : Type 0 where
   pub at_serves : (number : ℕ) (front : Front) (served : Served) → IsFront m.links number front → is_ordinary m front served ≡ true → before front.link ≡ true → test front.link ≡ true
       → test (handled m.event front served) ≡ true
@@ -154,7 +156,8 @@ module _ (setting : Setting) (m : Machine) (before test : Link → Bool) (keeps 
       let ordinary : is_ordinary m front served ≡ true = (and_parts (is_ordinary m front served) (not (has_stored m.server served.item) || nat_le m.server.per_record after) over).0 in
       fall (with_link m.links number (handled m.event front served)) (served_keep number front served is ordinary old all)
 
-  -- the test holds of all connections after the event, if it held of all when the event began, and steps of clients and drains keep it
+  -- the test holds of all connections after the event, if it held of all when the event began, and
+  -- steps of clients and drains keep it
   pub happens_keep : (items left : List Served) (happened : Noted) (n : Machine) → Happens setting m items left happened n → ((number : ℕ) (a : Machine) → Goes setting m number a → list_all test a.links ≡ true)
       → list_all test (drained m).links ≡ true → list_all before m.links ≡ true → list_all test m.links ≡ true → list_all test n.links ≡ true
   happens_keep items left happened _ (Nothing kind quiet) goes drains old all = all

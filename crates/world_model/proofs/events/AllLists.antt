@@ -1,4 +1,5 @@
--- A test that holds of each item of a list: where one is changed, where all are, and where one comes behind them.
+-- A test that holds of each item of a list: where one is changed, where all are, and where one
+-- comes behind them.
 use Rattle.std.proofs.Common.{◌≡◌, refl, subst, ◌∙◌, Bool, true, false, ℕ, suc, zero, List, [], ◌∷◌, ◌++◌, map, filter, Some, if◌then◌else◌}
 use Rattle.std.specs.Prelude.{slice_get, slice_set}
 use Rattle.std.specs.List.{list_all}

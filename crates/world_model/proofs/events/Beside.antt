@@ -1,5 +1,5 @@
--- What an event leaves: no event but a step of a client changes a client, none turns the clock back, and each is one event, with one
--- opening at most.
+-- What an event leaves: no event but a step of a client changes a client, none turns the clock
+-- back, and each is one event, with one opening at most.
 use Rattle.std.proofs.Common.{◌≡◌, refl, sym, ap, ◌∙◌, arith, ℕ, ◌+◌, ◌≤◌, ◌&&◌, Bool, true, false, List, ◌∷◌, Some, if◌then◌else◌}
 use Rattle.std.specs.Prelude.{not, nat_le}
 use Rattle.std.proofs.lemmas.Bool.{and_parts}

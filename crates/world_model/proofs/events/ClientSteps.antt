@@ -1,4 +1,5 @@
--- What an event does to the clients and to what was sent: nothing, or one client steps and sends, or idle connections are closed.
+-- What an event does to the clients and to what was sent: nothing, or one client steps and sends,
+-- or idle connections are closed.
 use Rattle.std.proofs.Common.{◌≡◌, refl, sym, ap, subst, ◌∙◌, Bool, true, false, ℕ, ◌+◌, ◌-◌, fold, List, [], ◌∷◌, ◌++◌, map, Option, Some, None, ◌⊎◌, inl, inr, suc, zero, if◌then◌else◌}
 use Rattle.std.specs.Prelude.{nat_le, unwrap_or, option_and_then}
 use Rattle.std.proofs.lemmas.List.{map-append}
@@ -60,12 +61,14 @@ pub data Brings (m : Machine) (lists : List (List Sent)) : Input → Type 0 wher
   IdleOne : (connection : ℕ) (ltxid : Ltxid) (link : Link) → link_at m.links connection ≡ Some link → Brings m lists (Lent connection ltxid)
   NewOne : lists ≡ sent_lists m.links ++ [] ∷ [] → Brings m lists (Opened (next_number m))
 
--- before its frames are sent every other connection is as it was, and one that is lent has the identifier that comes with it
+-- before its frames are sent every other connection is as it was, and one that is lent has the
+-- identifier that comes with it
 pub record LeftAlone (m : Machine) (links : List Link) (connection : Option ℕ) (input : Input) : Type 0 where
   pub others : (number : ℕ) (link : Link) → link_at m.links number ≡ Some link → (connection ≡ Some number → ⊥) → link_at links number ≡ Some link
   pub lent : (number : ℕ) (ltxid : Ltxid) → input ≡ Lent number ltxid → (link : Link) × ((link_at m.links number ≡ Some link) × ((link_at links number ≡ Some link) × (link.held ≡ Some ltxid)))
 
--- behind a step: the loss of its connection is heard exactly where the request goes on and the connection is not open
+-- behind a step: the loss of its connection is heard exactly where the request goes on and the
+-- connection is not open
 pub data Behind (setting : Setting) (first : Doing) (held : Hold) (opens : Bool) (ended : Option ℕ) : Doing → Type 0 where
   AsFirst : (opens ≡ false → held ≡ hold.Keep → ⊥) → Behind setting first held opens ended first
   LostBehind : (event tick : ℕ) → opens ≡ false → held ≡ hold.Keep → Behind setting first held opens ended (heard setting.terms event tick (record first { connection = None }) (Gone (unwrap_or ended 0)))
@@ -81,7 +84,8 @@ pub data HeardOn (setting : Setting) (m n : Machine) (who : ℕ) (first : Doing)
   OfEnded : (had : Option ℕ) (connection : ℕ) (link : Link) → had ≡ Some connection → link_at m.links connection ≡ Some link → link.is_open ≡ false → link_at n.links connection ≡ Some link → after ≡ first
       → HeardOn setting m n who first held said after had (Gone (unwrap_or link.ended 0))
 
--- Of this client: what its request hears on which connection, and where it stands then; and what it sends there.
+-- Of this client: what its request hears on which connection, and where it stands then; and what it
+-- sends there.
 pub record HasStepped (setting : Setting) (m : Machine) (number : ℕ) (n : Machine) : Type 0 where
   pub client : Client
   pub here : client_at m.clients number ≡ Some client

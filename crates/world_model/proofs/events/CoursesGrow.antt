@@ -1,4 +1,5 @@
--- What holds of some request that was submitted holds still when a client steps, if further steps keep it.
+-- What holds of some request that was submitted holds still when a client steps, if further steps
+-- keep it.
 use Rattle.std.proofs.Common.{◌≡◌, refl, sym, subst, ◌∙◌, Bool, true, false, ℕ, suc, zero, ◌+◌, ◌||◌, length, append_assoc, List, [], ◌∷◌, ◌++◌, Option, Some, None, ◌⊎◌, inl, inr, ⊎_elim, arith}
 use Rattle.std.specs.Prelude.{slice_get, slice_set, option_map}
 use Rattle.std.specs.List.{list_any}

@@ -1,4 +1,5 @@
--- A test of all requests where a client steps: of the others as before, and of its own as it stands then.
+-- A test of all requests where a client steps: of the others as before, and of its own as it stands
+-- then.
 use Rattle.std.proofs.Common.{◌≡◌, ◌≢◌, refl, sym, ap, subst, ◌∙◌, Bool, true, ℕ, suc, zero, ◌+◌, ◌<◌, ◌&&◌, length, List, [], ◌∷◌, ◌++◌, Option, Some, None, arith}
 use Rattle.std.specs.Prelude.{slice_get, slice_set}
 use Rattle.std.specs.List.{list_all}

@@ -1,4 +1,5 @@
--- Where a run began, which is sound, that each state that it comes to is coupled with its service, and that its finish goes on from its schedule.
+-- Where a run began, which is sound, that each state that it comes to is coupled with its service,
+-- and that its finish goes on from its schedule.
 use Rattle.std.proofs.Common.{◌≡◌, subst, ◌∙◌, List, [], ◌∷◌, ◌++◌}
 use Rattle.outage_schedule.specs.declared.document.Document.{Document}
 use Rattle.outage_schedule.specs.declared.event.Event.{Event}
@@ -36,7 +37,8 @@ pub finishing_sound : (document : Document) (place : Place) (notes : List Note) 
 finishing_sound document _ _ _ _ _ (Scheduled notes items seen t reached) = reached_sound document document.schedule notes items seen t reached
 finishing_sound document _ _ _ _ _ (Finishes place later notes items more before after old new event note finishing next one forgets) = finishing_sound document place notes items before old finishing
 
--- The finish goes on from the schedule, event by event, so its end is reached by one list of events.
+-- The finish goes on from the schedule, event by event, so its end is reached by one list of
+-- events.
 pub finishing_reached : (document : Document) (place : Place) (notes : List Note) (items : List Served) (seen : Seen) (t : Traced) → IsFinishing document place notes items seen t → (events : List Event) × Reached document events notes items seen t
 finishing_reached document _ _ _ _ _ (Scheduled notes items seen t reached) = (document.schedule, reached)
 finishing_reached document _ _ _ _ _ (Finishes place later notes items more before after old new event note finishing next one forgets) =

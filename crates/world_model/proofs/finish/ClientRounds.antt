@@ -145,7 +145,8 @@ in_tick terms now opens talk (Asked asking) last from = omega arith
 in_tick terms now opens talk (Running state) last from = omega arith
 in_tick terms now opens talk (Replaying state) last from = omega arith
 
--- A request whose step of the round is done takes a round less behind the tick, where no frame is left to be served.
+-- A request whose step of the round is done takes a round less behind the tick, where no frame is
+-- left to be served.
 pub doing_tick : (setting : Setting) (m n : Machine) (doing : Doing) → n.tick ≡ m.tick + 1 → n.links ≡ m.links → may_serve m.links doing.connection ≡ false → at_most m.tick doing.talk.last_try ≡ true → at_most m.tick (waits_from doing.talk.phase) ≡ true
     → doing_rounds setting n false doing + 1 ≤ doing_rounds setting m true doing
 doing_tick setting m n doing tick links none last from =

@@ -1,4 +1,5 @@
--- What the finish does at the server and at connections leaves less of it: the opening, reaps, frames that are served, and the tick.
+-- What the finish does at the server and at connections leaves less of it: the opening, reaps,
+-- frames that are served, and the tick.
 use Rattle.std.proofs.Common.{◌≡◌, refl, sym, ap, subst, ◌∙◌, Bool, true, false, ℕ, ◌+◌, ◌*◌, ◌≤◌, ◌<◌, ◌&&◌, List, [], ◌∷◌, Option, Some, None, if◌then◌else◌, arith}
 use Rattle.std.specs.Prelude.{◌==◌, option_map, option_and_then}
 use Rattle.std.specs.Option.{option_map_or}

@@ -87,7 +87,8 @@ any_left terms event tick script past None None doing is follows = absurd (let n
 
 -- A STEP ------------------------------------------------------------------------------------------
 
--- The client stands so afterwards, with no more rounds left; two frames were sent at most; and the connections of other requests are as before.
+-- The client stands so afterwards, with no more rounds left; two frames were sent at most; and the
+-- connections of other requests are as before.
 pub record Went (t : Traced) (who : ℕ) (n : Machine) : Type 0 where
   pub client : Client
   pub here : client_at t.machine.clients who ≡ Some client

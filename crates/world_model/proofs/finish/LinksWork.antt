@@ -1,4 +1,5 @@
--- What is left on the connections, where one is changed, where a frame is served on one, and where one is opened.
+-- What is left on the connections, where one is changed, where a frame is served on one, and where
+-- one is opened.
 use Rattle.std.proofs.Common.{◌≡◌, refl, ap, true, ℕ, suc, zero, ◌+◌, ◌≤◌, ◌&&◌, length, length-append, List, [], ◌∷◌, ◌++◌, Option, Some, None, arith}
 use Rattle.std.specs.Prelude.{not, slice_get, slice_set}
 use Rattle.std.specs.Option.{option_map_or}

@@ -1,4 +1,5 @@
--- What the connection of a request, or the one that the pool lends it, is like at an event, and that nothing is said on one that has ended.
+-- What the connection of a request, or the one that the pool lends it, is like at an event, and
+-- that nothing is said on one that has ended.
 use Rattle.std.proofs.Common.{◌≡◌, refl, sym, ap, subst, ◌∙◌, Bool, true, false, ℕ, zero, suc, ◌+◌, ◌<◌, ◌≤◌, ◌&&◌, cond, length, List, [], ◌∷◌, ◌++◌, count_by, drop, Option, Some, None, if◌then◌else◌, arith}
 use Rattle.std.specs.Prelude.{◌==◌, nat_le, is_some}
 use Rattle.std.specs.List.{list_all}
@@ -123,7 +124,8 @@ awaits_frame t inv number client doing here does wanted =
 
 -- THE CONNECTION THAT IS LENT ---------------------------------------------------------------------
 
--- A connection that the pool lends is open and has an identifier, and behind that it is idle no more.
+-- A connection that the pool lends is open and has an identifier, and behind that it is idle no
+-- more.
 pub record IsLent (t : Traced) (connection : ℕ) (after : Slots) : Type 0 where
   pub link : Link
   pub ltxid : Ltxid
@@ -209,7 +211,8 @@ idle_open_once t inv = let known : IsHeld t.setting (at_event t.machine) = held_
 
 -- FRAMES ------------------------------------------------------------------------------------------
 
--- Where a frame is taken from a connection that has ended nothing is sent, whatever the request does.
+-- Where a frame is taken from a connection that has ended nothing is sent, whatever the request
+-- does.
 pub dead_sends_none : (terms : Terms) (talk : Talk) (frame : Down) (now : ℕ) (back : Back) → (takes terms talk talk.phase frame false now).1.send ++ closing (takes terms talk talk.phase frame false now).1.hold back ≡ []
 dead_sends_none terms talk frame now back =
     dead_silent talk.phase (has_next talk) false (is_hushed frame) (takes terms talk talk.phase frame false now).0.phase (takes terms talk talk.phase frame false now).1.send (takes terms talk talk.phase frame false now).1.hold back

@@ -65,8 +65,8 @@ had_all t each =
 
 -- ONE CONNECTION ----------------------------------------------------------------------------------
 
--- What becomes of a connection: it stays with who has it, it closes, it is given back, or it is lent. `had` and `has`: the one client that goes on has it, before
--- and then.
+-- What becomes of a connection: it stays with who has it, it closes, it is given back, or it is
+-- lent. `had` and `has`: the one client that goes on has it, before and then.
 pub data HadMove (opens : Bool) (idle : ℕ) (had has now : Bool) (idle_now : ℕ) : Type 0 where
   Stays : has ≡ had → now ≡ opens → idle_now ≡ idle → HadMove opens idle had has now idle_now
   Closes : now ≡ false → (has ≡ true → had ≡ true) → HadMove opens idle had has now idle_now

@@ -1,4 +1,5 @@
--- An open connection is one request's or idle, where a client takes a frame or loses its connection.
+-- An open connection is one request's or idle, where a client takes a frame or loses its
+-- connection.
 use Rattle.std.proofs.Common.{◌≡◌, ◌≢◌, refl, sym, ap, subst, ◌∙◌, Bool, true, false, ℕ, ◌+◌, cond, List, [], ◌∷◌, ◌++◌, count_by, Option, Some, None, if◌then◌else◌, arith}
 use Rattle.std.specs.Prelude.{◌==◌, option_and_then, unwrap_or}
 use Rattle.std.specs.Option.{option_map_or}

@@ -82,7 +82,8 @@ lent_count pool number connection answer = by (has_to_wait pool number) answer
 abbrev pub Stands : List Link → Owner → Doing → Type 0
 Stands links owner doing = (holds_rightly links owner doing ≡ true) × (goes_rightly links doing ≡ true)
 
--- the client stands so afterwards, holds its connection rightly, and the connections of others are as before
+-- the client stands so afterwards, holds its connection rightly, and the connections of others are
+-- as before
 pub record Stepped (m : Machine) (who : ℕ) (client : Client) (n : Machine) : Type 0 where
   pub next : Client
   pub clients : n.clients ≡ with_client m.clients who next

@@ -31,7 +31,8 @@ use Rattle.world_model.proofs.hold.HeldSaid.{out_by, said_on}
 
 -- THE TEST ----------------------------------------------------------------------------------------
 
--- the request has a connection exactly in the phases that hold one, and there is out what the phase waits for
+-- the request has a connection exactly in the phases that hold one, and there is out what the phase
+-- waits for
 abbrev pub holds_rightly : List Link → Owner → Doing → Bool
 holds_rightly links owner doing =
     same_bool (is_some doing.connection) (holds_connection doing.talk.phase)

@@ -171,7 +171,8 @@ front_loud (x ∷ xs) (y ∷ ys) is here =
     let two = and_parts (loud y) (list_all loud ys) here in
     and_from (loud x) (list_all loud xs) (same_loud x.frame y.frame (and_parts (same_sent x.to y.to) (same_down x.frame y.frame) one.0).1 two.0) (front_loud xs ys one.1 two.1)
 
--- where the session lives, no reply ends the connection, of those that were taken and that may be taken
+-- where the session lives, no reply ends the connection, of those that were taken and that may be
+-- taken
 pub all_said_loud : (link : Link) → is_orderly link ≡ true → link.is_living ≡ true → list_all loud (link.taken ++ link.down) ≡ true
 all_said_loud link orderly living =
     let one = and_parts (is_sent_front link) (is_reply_front link && (handled_from 0 link.served && lives_rightly link)) orderly in

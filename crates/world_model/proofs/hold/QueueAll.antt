@@ -1,4 +1,5 @@
--- The clients that wait are in the queue, in the order in which they waited first, behind each event.
+-- The clients that wait are in the queue, in the order in which they waited first, behind each
+-- event.
 use Rattle.std.proofs.Common.{◌≡◌, refl, sym, ap, subst, ◌∙◌, Bool, true, false, ℕ, ◌+◌, ◌-◌, length, List, [], ◌∷◌, ◌++◌, flat_map, fold, Option, Some, None, ◌⊎◌, inl, inr, if◌then◌else◌, arith}
 use Rattle.std.specs.Prelude.{◌==◌, nat_le, option_map, option_and_then, unwrap_or, drop}
 use Rattle.std.specs.List.{list_all}

@@ -1,4 +1,5 @@
--- How a service answers the question for an outcome: it refuses it, or it tells what the table says on its store.
+-- How a service answers the question for an outcome: it refuses it, or it tells what the table says
+-- on its store.
 use Rattle.std.proofs.Common.{◌≡◌, refl, sym, ap, ◌∙◌, true, ℕ, ◌||◌, List, [], ◌∷◌, ◌⊎◌, inl, inr}
 use Rattle.std.specs.List.{list_any}
 use Rattle.std.proofs.lemmas.Bool.{or_left, or_right, or_cases}
@@ -27,7 +28,8 @@ use Rattle.world_model.proofs.number.GainedOne.{first_frame}
 
 -- THE MOVE ----------------------------------------------------------------------------------------
 
--- an answer to the question for an outcome: it was refused, or is by the table on the store, which gained no entry
+-- an answer to the question for an outcome: it was refused, or is by the table on the store, which
+-- gained no entry
 abbrev pub IsAnswer : Core → Core → Ltxid → Down → Type 0
 IsAnswer core after x frame = (frame ≡ down.Refused 2) ⊎ ((frame ≡ down_of (verdict_on core x)) × (after.entries ≡ core.entries))
 

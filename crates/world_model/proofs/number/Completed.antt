@@ -1,4 +1,5 @@
--- What the table says of an identifier: committed, its entry is there and is its session's last; and where it says ahead, its session is not near it.
+-- What the table says of an identifier: committed, its entry is there and is its session's last;
+-- and where it says ahead, its session is not near it.
 use Rattle.std.proofs.Common.{◌≡◌, refl, sym, ap, ◌∙◌, Bool, true, false, ℕ, zero, suc, ◌+◌, ◌<◌, ◌≤◌, ◌&&◌, cond, length, List, [], ◌∷◌, map, Option, Some, arith, if◌then◌else◌}
 use Rattle.std.specs.Prelude.{◌==◌, not, nat_lt, find, option_map}
 use Rattle.std.proofs.lemmas.Bool.Decides.{nat_tests}

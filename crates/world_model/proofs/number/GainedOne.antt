@@ -1,4 +1,5 @@
--- A session that lives gains one entry at most in a frame that is served: one for a call that was answered Committed, and none for a call without a commit.
+-- A session that lives gains one entry at most in a frame that is served: one for a call that was
+-- answered Committed, and none for a call without a commit.
 use Rattle.std.proofs.Common.{◌≡◌, refl, sym, ap, subst, ◌∙◌, Bool, true, false, ℕ, ◌+◌, ◌<◌, ◌≤◌, cond, List, [], ◌∷◌, ◌++◌, ◌⊎◌, inl, inr, arith}
 use Rattle.std.specs.Prelude.{Contains}
 use Rattle.std.specs.List.{list_all}

@@ -1,4 +1,5 @@
--- A session whose frame an event does not serve gains no entry, and one that lives has as many as it answered Committed.
+-- A session whose frame an event does not serve gains no entry, and one that lives has as many as
+-- it answered Committed.
 use Rattle.std.proofs.Common.{◌≡◌, ◌≢◌, refl, sym, ap, subst, ◌∙◌, Bool, true, false, ℕ, ◌+◌, cond, List, [], ◌∷◌, ◌++◌, Option, Some, None, ◌⊎◌, inl, inr, if◌then◌else◌}
 use Rattle.std.specs.Prelude.{All, Contains}
 use Rattle.std.specs.Option.{option_map_or}

@@ -1,4 +1,5 @@
--- Of which sessions an event stores entries: of the one whose frame was served, or of the one that was made outside.
+-- Of which sessions an event stores entries: of the one whose frame was served, or of the one that
+-- was made outside.
 use Rattle.std.proofs.Common.{◌≡◌, ◌≢◌, refl, sym, ap, subst, ◌∙◌, Bool, true, false, ℕ, suc, zero, ◌+◌, ◌<◌, ◌≤◌, ◌&&◌, cond, List, [], ◌∷◌, ◌++◌, filter_map, Option, Some, None, arith, if◌then◌else◌}
 use Rattle.std.specs.Prelude.{◌==◌, ◌||◌, not, nat_lt, nat_le, slice_get, All, Contains, ◌⊎◌}
 use Rattle.std.proofs.Common.{inl, inr}

@@ -1,4 +1,5 @@
--- What a client goes by where it takes a frame or is lent a connection: the identifier that is held there then.
+-- What a client goes by where it takes a frame or is lent a connection: the identifier that is held
+-- there then.
 use Rattle.std.proofs.Common.{◌≡◌, refl, sym, ap, ◌∙◌, Bool, true, false, ℕ, ◌&&◌, List, [], ◌∷◌, Option, Some, None, if◌then◌else◌}
 use Rattle.std.specs.Prelude.{not, nat_le, Ok, Err}
 use Rattle.std.specs.Option.{option_or, option_map_or}
@@ -107,7 +108,8 @@ same_by phase x y is same = ap (λ (one : Option Ltxid). same_held one (Some y))
 same_self : (x : Ltxid) → same_held (Some x) (Some x) ≡ true
 same_self x = (same_ltxid_decides x x).1 refl
 
--- It goes by what is held behind the frame, where a reply to a repeated call brings the identifier that is held.
+-- It goes by what is held behind the frame, where a reply to a repeated call brings the identifier
+-- that is held.
 pub by_taken : (terms : Terms) (talk : Talk) (phase : Phase) (frame : Down) (alive : Bool) (now : ℕ) (held : Option Ltxid) → talk.phase ≡ phase → alive ≡ true → is_hushed frame ≡ false → same_held (goes_by phase) held ≡ true
     → ((state : Repeating) → phase ≡ Replaying state → (x : Ltxid) → told_by (Took frame true) ≡ Some x → same_held (Some state.ltxid) (Some x) ≡ true)
     → (takes terms talk phase frame alive now).1.hold ≡ Keep → same_held (goes_by (takes terms talk phase frame alive now).0.phase) (option_or (told_by (Took frame alive)) held) ≡ true

@@ -1,4 +1,5 @@
--- Of Number: the entries of each session are numbered in order, and none of them is blocked, at the start and behind each event.
+-- Of Number: the entries of each session are numbered in order, and none of them is blocked, at the
+-- start and behind each event.
 use Rattle.std.proofs.Common.{◌≡◌, refl, sym, ap, subst, ◌∙◌, true, ℕ, List, [], ◌++◌, Option, Some, None}
 use Rattle.std.specs.Prelude.{◌==◌, Result, Ok, Err}
 use Rattle.std.specs.List.{list_all}

@@ -1,4 +1,5 @@
--- Each entry is of a session that was made, and one of the run is of a connection's session or of one that was made outside.
+-- Each entry is of a session that was made, and one of the run is of a connection's session or of
+-- one that was made outside.
 use Rattle.std.proofs.Common.{◌≡◌, refl, sym, ap, subst, ◌∙◌, Bool, true, false, ℕ, suc, zero, ◌+◌, ◌<◌, ◌≤◌, ◌||◌, length, List, [], ◌∷◌, ◌++◌, filter_map, Option, Some, None, ◌⊎◌, inl, inr, arith, append_assoc, append-nil, if◌then◌else◌}
 use Rattle.std.specs.Prelude.{Result, Ok, Err, All, Contains, nat_lt, drop, slice_get}
 use Rattle.std.specs.List.{list_all, list_any, cons_option}

@@ -1,4 +1,5 @@
--- Of a connection, by how many entries its session has: what is held, what is counted, and what is out where the session is ahead of what is held.
+-- Of a connection, by how many entries its session has: what is held, what is counted, and what is
+-- out where the session is ahead of what is held.
 use Rattle.std.proofs.Common.{◌≡◌, refl, sym, ap, subst, ◌∙◌, Bool, true, false, ℕ, ◌+◌, ◌≤◌, ◌&&◌, length, length-append, List, [], ◌∷◌, ◌++◌, count_by, Option, Some, None, arith, if◌then◌else◌}
 use Rattle.std.specs.Prelude.{◌==◌, ◌||◌, nat_le, is_none, option_map}
 use Rattle.std.specs.List.{list_any, last_or}
@@ -35,7 +36,8 @@ pub record Known (link : Link) : Type 0 where
   pub counts : counts_commits link ≡ true
   pub held : tells_held link ≡ true
 
--- the session has so many entries: as many as what is held says, or one more, which is that of what is out
+-- the session has so many entries: as many as what is held says, or one more, which is that of what
+-- is out
 pub record Right (n : ℕ) (link : Link) : Type 0 where
   pub least : held_number link ≤ n
   pub most : n ≤ held_number link + cond_held link

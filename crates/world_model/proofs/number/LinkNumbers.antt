@@ -1,4 +1,5 @@
--- Of a connection: which item the next reply is of, and that what was answered counts what its session committed.
+-- Of a connection: which item the next reply is of, and that what was answered counts what its
+-- session committed.
 use Rattle.std.proofs.Common.{◌≡◌, refl, sym, ap, subst, ◌∙◌, Bool, true, false, ℕ, ◌+◌, ◌≤◌, ◌&&◌, cond, length, List, [], ◌∷◌, filter, filter_map, fold, Option, Some, None, ◌⊎◌, inl, inr, arith, if◌then◌else◌}
 use Rattle.std.specs.Prelude.{◌==◌, is_some, is_none, option_map, option_and_then}
 use Rattle.std.specs.List.{last_or, cons_option}

@@ -1,4 +1,5 @@
--- Of a connection: by whatever happens to it, its session stays as far ahead of what is held as what is out explains.
+-- Of a connection: by whatever happens to it, its session stays as far ahead of what is held as
+-- what is out explains.
 use Rattle.std.proofs.Common.{◌≡◌, refl, sym, ap, subst, ◌∙◌, Bool, true, false, ℕ, ◌+◌, ◌≤◌, ◌&&◌, length, List, ◌∷◌, Option, Some, None, ◌⊎◌, inl, inr, arith, if◌then◌else◌}
 use Rattle.std.specs.Prelude.{◌==◌, ◌||◌, is_some}
 use Rattle.std.specs.List.{list_any}

@@ -1,4 +1,5 @@
--- Of a connection whose first frame is served: its session stays as far ahead of what is held as what is out explains.
+-- Of a connection whose first frame is served: its session stays as far ahead of what is held as
+-- what is out explains.
 use Rattle.std.proofs.Common.{◌≡◌, refl, sym, ap, subst, ◌∙◌, Bool, true, false, ◌+◌, ◌≤◌, ◌&&◌, cond, length, length-append, List, [], ◌∷◌, ◌++◌, map, filter, Option, Some, None, arith}
 use Rattle.std.specs.Prelude.{◌==◌, ◌||◌, nat_le, is_some, is_none}
 use Rattle.std.specs.List.{list_any, last_or}

@@ -1,4 +1,5 @@
--- Of a connection that a request awaits a frame on: what may be served there, and when its reply has come.
+-- Of a connection that a request awaits a frame on: what may be served there, and when its reply
+-- has come.
 use Rattle.std.proofs.Common.{◌≡◌, refl, ap, subst, ◌∙◌, Bool, true, false, ℕ, ◌+◌, ◌&&◌, cond, length, length-append, List, [], ◌∷◌, ◌++◌, map, filter, Option, Some, None, arith}
 use Rattle.std.specs.Prelude.{◌==◌}
 use Rattle.std.specs.List.{last_or}

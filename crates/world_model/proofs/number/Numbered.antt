@@ -1,4 +1,5 @@
--- The entries of each session are numbered in order: those of an image, and behind them what a service gained.
+-- The entries of each session are numbered in order: those of an image, and behind them what a
+-- service gained.
 use Rattle.std.proofs.Common.{◌≡◌, refl, sym, ap, subst, ◌∙◌, Bool, true, false, ℕ, zero, suc, ◌+◌, ◌<◌, cond, length, List, [], ◌∷◌, ◌++◌, map, filter, ◌⊎◌, inl, inr, arith}
 use Rattle.std.specs.Prelude.{◌==◌, not, nat_lt}
 use Rattle.std.specs.List.{list_all, list_any, range_with_len}

@@ -1,4 +1,5 @@
--- Behind an event each connection's session is as far ahead of what is held as what is out explains.
+-- Behind an event each connection's session is as far ahead of what is held as what is out
+-- explains.
 use Rattle.std.proofs.Common.{◌≡◌, ◌≢◌, refl, sym, ap, subst, ◌∙◌, Bool, true, false, ℕ, ◌+◌, ◌≤◌, ◌&&◌, List, [], ◌∷◌, count_by, Option, Some, None, ◌⊎◌, inl, inr, arith, if◌then◌else◌, le_refl}
 use Rattle.std.specs.Prelude.{◌==◌, ◌||◌, not, is_some, option_and_then}
 use Rattle.std.specs.List.{list_all}

@@ -1,4 +1,5 @@
--- Behind an event each connection's session is as far ahead of what is held as what is out explains.
+-- Behind an event each connection's session is as far ahead of what is held as what is out
+-- explains.
 use Rattle.std.proofs.Common.{◌≡◌, refl, sym, ap, ◌∙◌, Bool, true, false, ℕ, suc, ◌+◌, ◌<◌, ◌&&◌, cond, List, [], ◌∷◌, Option, Some, None, ◌⊎◌, inl, inr, arith, if◌then◌else◌}
 use Rattle.std.specs.Prelude.{◌==◌, ◌||◌, nat_lt, nat_le, slice_get}
 use Rattle.std.specs.List.{list_all}

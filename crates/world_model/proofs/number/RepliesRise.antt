@@ -1,4 +1,5 @@
--- The numbers of the identifiers in the replies of a connection rise, up to what its session committed.
+-- The numbers of the identifiers in the replies of a connection rise, up to what its session
+-- committed.
 use Rattle.std.proofs.Common.{◌≡◌, refl, sym, ap, subst, ◌∙◌, Bool, true, false, ℕ, ◌+◌, ◌≤◌, ◌&&◌, List, [], ◌∷◌, ◌++◌, filter_map, fold, count_by, Option, Some, None, ◌⊎◌, inl, inr, arith, if◌then◌else◌, le_refl}
 use Rattle.std.specs.Prelude.{◌==◌, is_none, nat_le, option_map}
 use Rattle.std.specs.List.{cons_option}
@@ -177,7 +178,8 @@ behind_taken high held (reply ∷ taken) later here =
     behind_taken high (told_in held reply) taken later
     (subst (λ (n : ℕ). rises_in high n (taken ++ later) ≡ true) (told_number held reply) (and_parts (nat_le next high) (rises_in high next (taken ++ later)) parts.1).1)
 
--- the number in the reply that is taken next is not below the one that was told last, nor above what the session committed
+-- the number in the reply that is taken next is not below the one that was told last, nor above
+-- what the session committed
 pub next_number : (link : Link) (reply : Reply) (left : List Reply) (x : Ltxid) → counts_commits link ≡ true → handled_from 0 link.served ≡ true → is_reply_front link ≡ true → link.down ≡ reply ∷ left → told_by (Took reply.frame true) ≡ Some x
     → (number_in (last_told link.taken) ≤ x.number) × (x.number ≤ link.commits)
 next_number link reply left x counts handled wire down tells =

@@ -1,4 +1,5 @@
--- As many answered frames were served as were taken, or one more: what Wire says of a connection has it so.
+-- As many answered frames were served as were taken, or one more: what Wire says of a connection
+-- has it so.
 use Rattle.std.proofs.Common.{◌≡◌, refl, sym, ap, ◌∙◌, Bool, true, false, ℕ, ◌+◌, ◌≤◌, ◌&&◌, cond, length, length-append, List, [], ◌∷◌, ◌++◌, map, filter, filter_map, Option, Some, None, ◌⊎◌, inl, inr, arith, le_refl}
 use Rattle.std.specs.Prelude.{nat_le, is_some, is_none, option_map}
 use Rattle.std.specs.List.{list_all, cons_option}

@@ -276,7 +276,8 @@ module _ (setting : Setting) (right : AreRight setting.terms.rules) (scripts : l
   unless_ready a clients number ended client doing held false now here all whole out = lost_ready a clients number ended client doing held now here all whole out
 
   module _ (m : Machine) (all : all_ready m.clients ≡ true) where
-    -- EVENTS ----------------------------------------------------------------------------------------
+    -- EVENTS
+    -- ----------------------------------------------------------------------------------------
 
     is_now : (number : ℕ) (doing : Doing) (wanted : Wants) → IsDoing setting m number doing wanted → is_ready setting.terms doing ≡ true
     is_now number doing wanted is = doing_ready setting m number doing wanted all is

@@ -1,4 +1,5 @@
--- A test of the frames of each request stays true of all that were sent: where what a request says at its step passes, and what it said before still does.
+-- A test of the frames of each request stays true of all that were sent: where what a request says
+-- at its step passes, and what it said before still does.
 use Rattle.std.proofs.Common.{◌≡◌, ◌≢◌, refl, sym, ap, subst, ◌∙◌, Bool, true, false, ℕ, suc, length, List, [], ◌∷◌, map, Option, Some, None}
 use Rattle.std.specs.Prelude.{◌==◌, not, unwrap_or, option_map}
 use Rattle.std.specs.List.{list_all}

@@ -37,7 +37,8 @@ use Rattle.world_model.proofs.script.TalkTracks.{IsOfTracks}
 
 -- RULES -------------------------------------------------------------------------------------------
 
--- Each call is a reason against a replay; or where a transaction was decided recording begins anew, or no replay comes behind it.
+-- Each call is a reason against a replay; or where a transaction was decided recording begins anew,
+-- or no replay comes behind it.
 pub data IsRuled (rules : Rules) : Type 0 where
   Never : ((call : Call) (index : ℕ) → is_some (rules.submit call index) ≡ true) → IsRuled rules
   Purges : ((answers : List Answer) → rules.reply answers ≡ (if ends_decided answers then after.Purge else after.Record)) → IsRuled rules

@@ -1,4 +1,5 @@
--- Of Script: a marked call carries the draws that were shown of its call, at the start and behind each event.
+-- Of Script: a marked call carries the draws that were shown of its call, at the start and behind
+-- each event.
 use Rattle.std.proofs.Common.{◌≡◌, refl, sym, ap, subst, ◌∙◌, true, false, ℕ, ◌&&◌, length, append_assoc, List, [], ◌∷◌, map, Option, Some, None}
 use Rattle.std.specs.Prelude.{◌==◌, unwrap_or, slice_get}
 use Rattle.std.specs.Option.{option_map_or}

@@ -1,4 +1,5 @@
--- Of Script: the sendings of a request are the unmarked calls that it sent, at the start and behind each event.
+-- Of Script: the sendings of a request are the unmarked calls that it sent, at the start and behind
+-- each event.
 use Rattle.std.proofs.Common.{◌≡◌, ◌≢◌, refl, sym, ap, subst, ◌∙◌, Bool, true, false, ℕ, suc, zero, ◌+◌, ◌&&◌, ◌||◌, fold, length, List, [], ◌∷◌, ◌++◌, map, Option, Some, None, arith}
 use Rattle.std.specs.Prelude.{◌==◌, not, unwrap_or, option_map, if◌then◌else◌}
 use Rattle.std.specs.List.{list_all, list_any, cons_option}

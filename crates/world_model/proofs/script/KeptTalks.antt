@@ -1,4 +1,5 @@
--- Of Script: the conversations of all requests, and their reports, at the start and behind each event.
+-- Of Script: the conversations of all requests, and their reports, at the start and behind each
+-- event.
 use Rattle.std.proofs.Common.{sym, subst}
 use Rattle.world_model.specs.meaning.Settings.{Setting, setting_of}
 use Rattle.world_model.specs.records.Conversing.{AllTalk}

@@ -1,4 +1,5 @@
--- Of Script: what the track of a request keeps is what the account of its steps tells, at the start and behind each event.
+-- Of Script: what the track of a request keeps is what the account of its steps tells, at the start
+-- and behind each event.
 use Rattle.std.proofs.Common.{◌≡◌, refl, sym, ap, subst, ◌∙◌, Bool, true, false, ℕ, ◌+◌, ◌&&◌, length, List, map, Option, Some, None, arith}
 use Rattle.std.specs.Prelude.{◌==◌, nat_le, is_some, is_none}
 use Rattle.std.specs.Option.{option_map_or}

@@ -1,4 +1,5 @@
--- Each frame with an owner was sent by that request, on a connection that it held, in each event of a run.
+-- Each frame with an owner was sent by that request, on a connection that it held, in each event of
+-- a run.
 use Rattle.std.proofs.Common.{◌≡◌, refl, sym, ap, subst, ◌∙◌, Bool, true, false, ℕ, suc, zero, ◌+◌, ◌&&◌, fold, length, List, [], ◌∷◌, ◌++◌, map, Option, Some, None, arith}
 use Rattle.std.specs.Prelude.{◌==◌, unwrap_or}
 use Rattle.std.specs.List.{list_all, list_any, cons_option}

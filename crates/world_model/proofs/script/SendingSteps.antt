@@ -1,4 +1,5 @@
--- Where a client steps, its sendings are the unmarked calls that it sent, on each connection that it held.
+-- Where a client steps, its sendings are the unmarked calls that it sent, on each connection that
+-- it held.
 use Rattle.std.proofs.Common.{◌≡◌, refl, sym, ap, subst, ◌∙◌, Bool, true, false, ℕ, ◌+◌, ◌&&◌, cond, fold, length, append_assoc, List, [], ◌∷◌, ◌++◌, map, Option, Some, None}
 use Rattle.std.specs.Prelude.{◌==◌, is_some, unwrap_or}
 use Rattle.std.specs.List.{list_all, list_any, cons_option}

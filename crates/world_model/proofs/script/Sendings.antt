@@ -1,4 +1,5 @@
--- The unmarked calls that a request sent on a connection agree with what the scan of its steps says, and go on to.
+-- The unmarked calls that a request sent on a connection agree with what the scan of its steps
+-- says, and go on to.
 use Rattle.std.proofs.Common.{◌≡◌, refl, sym, ap, subst, ◌∙◌, Bool, true, false, ℕ, ◌&&◌, fold, filter, append_assoc, List, [], ◌∷◌, ◌++◌, map, Option, Some, None}
 use Rattle.std.specs.Prelude.{◌==◌, is_some, if◌then◌else◌}
 use Rattle.std.specs.List.{list_all}

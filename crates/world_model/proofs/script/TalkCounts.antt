@@ -1,4 +1,5 @@
--- The track of a request counts the calls that were shown, and one that sent a Begin, or asks for an outcome, was told its identifier.
+-- The track of a request counts the calls that were shown, and one that sent a Begin, or asks for
+-- an outcome, was told its identifier.
 use Rattle.std.proofs.Common.{◌≡◌, refl, ap, subst, ◌∙◌, Bool, true, false, ℕ, ◌+◌, ◌-◌, cond, length, List, [], ◌∷◌, ◌++◌, Option, Some, None, if◌then◌else◌, arith}
 use Rattle.std.specs.Prelude.{◌==◌, ◌&&◌, not, nat_le, is_some, Ok, Err}
 use Rattle.std.specs.Option.{option_map_or}

@@ -1,4 +1,5 @@
--- What a step of a client may send: a call without the mark where it runs then, and one with the mark where it is the next that is repeated.
+-- What a step of a client may send: a call without the mark where it runs then, and one with the
+-- mark where it is the next that is repeated.
 use Rattle.std.proofs.Common.{◌≡◌, refl, subst, Bool, true, false, ℕ, ◌-◌, ◌+◌, ◌&&◌, length, List, [], ◌∷◌, ◌++◌, Option, Some, None, if◌then◌else◌}
 use Rattle.std.specs.Prelude.{◌==◌, nat_le}
 use Rattle.std.specs.List.{list_all}

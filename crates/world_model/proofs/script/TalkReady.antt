@@ -39,7 +39,8 @@ use Rattle.world_model.proofs.events.Tests.{implied_by, met, none_some}
 
 -- RULES -------------------------------------------------------------------------------------------
 
--- What alters the service is a reason against a replay. A call that was answered Committed is not recorded, or each call is a reason.
+-- What alters the service is a reason against a replay. A call that was answered Committed is not
+-- recorded, or each call is a reason.
 pub record AreRight (rules : Rules) : Type 0 where
   pub alters : (line : List ℕ) (index : ℕ) → is_some (rules.submit (call.Alter line) index) ≡ true
   pub commits : (is_recording (rules.reply (answer.Committed ∷ [])) ≡ false) ⊎ ((one : Call) (index : ℕ) → is_some (rules.submit one index) ≡ true)

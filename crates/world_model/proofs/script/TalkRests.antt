@@ -1,4 +1,5 @@
--- Behind each step a request has a connection on which it waits, or goes on without one, or is over.
+-- Behind each step a request has a connection on which it waits, or goes on without one, or is
+-- over.
 use Rattle.std.proofs.Common.{◌≡◌, refl, ap, ◌∙◌, Bool, true, false, ℕ, ◌+◌, ◌-◌, List, [], ◌∷◌, Option, Some, None, if◌then◌else◌}
 use Rattle.std.specs.Prelude.{◌&&◌, not, nat_le, Ok, Err}
 use Rattle.std.specs.Str.{bytes_eq}

@@ -1,4 +1,5 @@
--- A request that sent a Begin, or asks for an outcome, was told an identifier; and what the scan of its steps says of it.
+-- A request that sent a Begin, or asks for an outcome, was told an identifier; and what the scan of
+-- its steps says of it.
 use Rattle.std.proofs.Common.{◌≡◌, refl, sym, ap, subst, ◌∙◌, Bool, true, false, ℕ, ◌+◌, ◌-◌, cond, fold, List, [], ◌∷◌, Option, Some, None, if◌then◌else◌}
 use Rattle.std.specs.Prelude.{nat_le, not, ◌||◌, is_some}
 use Rattle.std.specs.Option.{option_or, option_map_or}

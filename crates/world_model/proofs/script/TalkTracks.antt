@@ -1,4 +1,5 @@
--- What holds of the track of a request, whatever comes in: of the first one, and of each that comes of it.
+-- What holds of the track of a request, whatever comes in: of the first one, and of each that comes
+-- of it.
 use Rattle.std.proofs.Common.{◌≡◌, refl, ap, ◌∙◌, Bool, true, false, ℕ, ◌+◌, ◌-◌, List, [], ◌∷◌, Option, Some, None, if◌then◌else◌}
 use Rattle.std.specs.Prelude.{◌&&◌, not, nat_le, Ok, Err}
 use Rattle.std.specs.Option.{option_map_or}

@@ -1,4 +1,5 @@
--- Of each connection: each item is that of its frame, or the frame was stopped, and each reply is that of the item.
+-- Of each connection: each item is that of its frame, or the frame was stopped, and each reply is
+-- that of the item.
 use Rattle.std.proofs.Common.{◌≡◌, refl, sym, ap, subst, ◌∙◌, Bool, true, false, ℕ, ◌+◌, ◌&&◌, cond, List, [], ◌∷◌, ◌++◌, count_by, Option, None, if◌then◌else◌, arith}
 use Rattle.std.specs.Prelude.{is_none}
 use Rattle.std.proofs.lemmas.Bool.{and_parts, and_from, or_left, or_right}

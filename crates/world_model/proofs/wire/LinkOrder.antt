@@ -1,4 +1,5 @@
--- Of each connection: the replies answer the answered frames, in the order in which these were sent.
+-- Of each connection: the replies answer the answered frames, in the order in which these were
+-- sent.
 use Rattle.std.proofs.Common.{◌≡◌, refl, sym, ap, subst, ◌∙◌, Bool, true, false, ℕ, ◌&&◌, cond, length, append_assoc, List, [], ◌∷◌, ◌++◌, map, filter_map, Option, Some, None, ◌⊎◌, inl, inr, if◌then◌else◌, arith}
 use Rattle.std.specs.Prelude.{◌==◌, filter, is_some, is_none, option_map}
 use Rattle.std.specs.List.{list_any, cons_option}

@@ -1,4 +1,5 @@
--- Of each connection: at most one answered frame is out, and before Hello was taken only Connect was sent.
+-- Of each connection: at most one answered frame is out, and before Hello was taken only Connect
+-- was sent.
 use Rattle.std.proofs.Common.{◌≡◌, refl, sym, ap, subst, ◌∙◌, Bool, true, false, ℕ, ◌+◌, ◌≤◌, ◌&&◌, cond, length, length-append, List, [], ◌∷◌, ◌++◌, map, fold, filter_map, Option, Some, None, ◌⊎◌, inl, inr, arith}
 use Rattle.std.specs.Prelude.{◌==◌, nat_le, is_some, is_none, option_map}
 use Rattle.std.specs.List.{cons_option}

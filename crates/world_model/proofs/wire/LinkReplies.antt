@@ -1,4 +1,5 @@
--- Of each connection: what was taken and may be taken is a front of the replies, and all of them while it is open.
+-- Of each connection: what was taken and may be taken is a front of the replies, and all of them
+-- while it is open.
 use Rattle.std.proofs.Common.{◌≡◌, refl, sym, ap, subst, ◌∙◌, Bool, true, false, ℕ, ◌+◌, ◌&&◌, length, append_assoc, length-append, List, [], ◌∷◌, ◌++◌, filter_map, Option, Some, None, if◌then◌else◌}
 use Rattle.std.specs.Prelude.{◌==◌, option_map, option_to_list}
 use Rattle.std.specs.List.{cons_option}

@@ -1,4 +1,5 @@
--- Of each connection: what was served and may be served is a front of what was sent; where frames are left to be served, its session lives, or it was cut.
+-- Of each connection: what was served and may be served is a front of what was sent; where frames
+-- are left to be served, its session lives, or it was cut.
 use Rattle.std.proofs.Common.{◌≡◌, refl, sym, ap, subst, ◌∙◌, Bool, true, false, ℕ, ◌+◌, ◌&&◌, ◌||◌, length, append_assoc, length-append, List, [], ◌∷◌, ◌++◌, map, Option, None, ◌⊎◌, inl, inr}
 use Rattle.std.specs.Prelude.{◌==◌, not, is_none}
 use Rattle.std.specs.List.{list_any}

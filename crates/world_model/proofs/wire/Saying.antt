@@ -1,4 +1,5 @@
--- What a client sends where it takes a frame or is lent a connection, by cases: nothing, a Close, an End, or one answered frame last.
+-- What a client sends where it takes a frame or is lent a connection, by cases: nothing, a Close,
+-- an End, or one answered frame last.
 use Rattle.std.proofs.Common.{◌≡◌, refl, sym, ap, subst, ◌∙◌, Bool, true, false, ℕ, List, [], ◌∷◌, ◌++◌, Option, Some, None, if◌then◌else◌}
 use Rattle.std.specs.Prelude.{◌&&◌, ◌||◌, not, nat_le, is_some, is_none, Ok, Err}
 use Rattle.std.specs.Str.{bytes_eq}
@@ -66,8 +67,9 @@ repeats_in (Replaying state) = alters_none state.track.recorder.calls
 repeats_in (Asked asking) = implies (is_none asking.track.why) (alters_none asking.track.recorder.calls)
 repeats_in _ = true
 
--- What is sent in a phase, with the phase that it leads to, and what becomes of the connection. `left`: a call is left; `alive`: the connection is open;
--- `hushed`: the frame that was taken ends the connection, and asks for nothing.
+-- What is sent in a phase, with the phase that it leads to, and what becomes of the connection.
+-- `left`: a call is left; `alive`: the connection is open; `hushed`: the frame that was taken ends
+-- the connection, and asks for nothing.
 pub data Spoken (before : Phase) (left alive hushed : Bool) : Phase → List Up → Hold → Type 0 where
   Quiet : (phase : Phase) → (hushed || not alive) ≡ true → (has_slot before ≡ true → has_slot phase ≡ true) → Spoken before left alive hushed phase [] Keep
   Fails : Spoken before left alive hushed Idle (if_alive alive (up.Close ∷ [])) Drop

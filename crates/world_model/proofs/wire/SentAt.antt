@@ -1,4 +1,5 @@
--- What was sent on the connection of a number, and what a request sends on one that it never held: nothing.
+-- What was sent on the connection of a number, and what a request sends on one that it never held:
+-- nothing.
 use Rattle.std.proofs.Common.{◌≡◌, ◌≢◌, refl, sym, ap, subst, ◌∙◌, Bool, true, false, ℕ, suc, zero, ◌+◌, ◌||◌, cond, fold, filter, length, List, [], ◌∷◌, ◌++◌, Option, Some, None, arith}
 use Rattle.std.specs.Prelude.{◌==◌, not, slice_get, option_map, is_some, if◌then◌else◌}
 use Rattle.std.specs.List.{list_all, list_any, cons_option}

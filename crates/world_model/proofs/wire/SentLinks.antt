@@ -1,4 +1,5 @@
--- A test over all connections is kept in an event if it is kept by what a client says on its connection, by a drain, and by all that may happen otherwise.
+-- A test over all connections is kept in an event if it is kept by what a client says on its
+-- connection, by a drain, and by all that may happen otherwise.
 use Rattle.std.proofs.Common.{◌≡◌, ◌≢◌, refl, sym, ap, subst, ◌∙◌, Bool, true, false, ℕ, suc, zero, ◌+◌, ◌-◌, ◌&&◌, length, List, [], ◌∷◌, ◌++◌, map, fold, append-nil, Option, Some, None, if◌then◌else◌, add-one}
 use Rattle.std.specs.Prelude.{◌==◌, not, nat_le, unwrap_or, option_map, slice_get, slice_set}
 use Rattle.std.specs.List.{list_all, last_or}
@@ -51,7 +52,8 @@ awaits owner phase link = is_out link && option_map_or (λ sent. is_answered sen
 abbrev pub is_strange : Owner → Link → Bool
 is_strange owner link = list_all (λ sent. not (owned_by owner sent)) link.sent
 
--- All that may happen to a connection keeps the test. `before` holds of all connections when the event begins.
+-- All that may happen to a connection keeps the test. `before` holds of all connections when the
+-- event begins.
 pub record KeepsSent (setting : Setting) (m : Machine) (before test : Link → Bool) : Type 0 where
   pub at_opens : (owner : Owner) → m.server.is_up ≡ true → test (sends m.event (sent_by owner 0 up.Connect ∷ []) new_link) ≡ true
   pub at_lends : (owner : Owner) (doing : Doing) (ltxid : Ltxid) (pool : Slots) (number : ℕ) (link : Link) → is_ready setting.terms doing ≡ true → is_waiting doing.talk.phase ≡ true → is_strange owner link ≡ true → is_idle link ≡ true
@@ -67,7 +69,8 @@ pub record KeepsSent (setting : Setting) (m : Machine) (before test : Link → B
 abbrev pub differ : ℕ → ℕ → Bool
 differ a b = not (a == b)
 
--- Idle connections are idle, each once, and on that of a request is out what it waits for. Each request is ready, and one without a slot sent nothing.
+-- Idle connections are idle, each once, and on that of a request is out what it waits for. Each
+-- request is ready, and one without a slot sent nothing.
 pub record IsHeld (setting : Setting) (m : Machine) : Type 0 where
   pub idle : list_all (λ number. option_map_or is_idle (link_at m.links number) false) m.pool.idle ≡ true
   pub apart : each_pair differ m.pool.idle ≡ true

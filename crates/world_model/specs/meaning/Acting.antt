@@ -1,4 +1,5 @@
--- What a step of a client does: its frames are sent, and the pool gets back what the request lets go.
+-- What a step of a client does: its frames are sent, and the pool gets back what the request lets
+-- go.
 use Rattle.std.specs.Prelude.{ℕ, Bool, true, List, [], ◌∷◌, ◌++◌, map, Option, Some, None, unwrap_or}
 use Rattle.svc_values.specs.declared.frame.Up.{Up}
 use Rattle.svc_values.specs.declared.frame.Up.TheVariants as up
@@ -40,7 +41,8 @@ sent_by owner call frame = record { owner = Some owner; call = call; frame = fra
 abbrev pub owner_at : Machine → ℕ → Owner
 owner_at m client = record { client = client; place = place_of m.clients client }
 
--- The connection of the request, and 0 where it has none. (Then nothing is sent, and none is given back.)
+-- The connection of the request, and 0 where it has none. (Then nothing is sent, and none is given
+-- back.)
 abbrev pub connection_of : Doing → ℕ
 connection_of doing = unwrap_or doing.connection 0
 

@@ -18,7 +18,8 @@ pub record Step : Type 0 where
   pub event : ℕ
   pub done : Done
 
--- A request in course: where its conversation stands, the connection that it has, and all its steps in order.
+-- A request in course: where its conversation stands, the connection that it has, and all its steps
+-- in order.
 pub record Doing : Type 0 where
   pub request : Request
   pub talk : Talk
@@ -31,7 +32,8 @@ pub record Past : Type 0 where
   pub steps : List Step
   pub report : RequestReport
 
--- A client: the requests that it submitted and that are over, the one that it submits next, if one is left, and the one in course.
+-- A client: the requests that it submitted and that are over, the one that it submits next, if one
+-- is left, and the one in course.
 pub record Client : Type 0 where
   pub past : List Past
   pub next : Option Request

@@ -25,7 +25,8 @@ is_crashed_item (up.Call replay kept call) (item.CrashedCall marked served) = sa
 is_crashed_item (up.Outcome ltxid) (item.CrashedOutcome asked) = same_ltxid asked ltxid
 is_crashed_item _ _ = false
 
--- It can be stopped only within so many device calls: one record, and one for each sequence operand.
+-- It can be stopped only within so many device calls: one record, and one for each sequence
+-- operand.
 abbrev pub is_stopped : Machine → ℕ → Front → Served → Bool
 is_stopped m after front served =
     is_of_front m front served && (is_crashed_item front.first.frame served.item && nat_lt after (m.server.per_record * (1 + sequences_in front.first.frame)))
@@ -56,7 +57,8 @@ with_doubt server _ = server
 abbrev pub after_stopped : Machine → ℕ → Front → Served → Machine
 after_stopped m number front served = record m { links = with_link m.links number (after_front front served None); server = with_doubt m.server served.item }
 
--- no connection is open, no session lives, and nothing is on its way but the replies that a cut let arrive before
+-- no connection is open, no session lives, and nothing is on its way but the replies that a cut let
+-- arrive before
 abbrev pub fallen_link : ℕ → Link → Link
 fallen_link event link = record (ends event link) { is_living = false; up = []; down = if link.is_cut then link.down else [] }
 

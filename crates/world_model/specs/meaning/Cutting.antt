@@ -9,7 +9,8 @@ use Rattle.world_model.specs.meaning.Links.{Link, link_at, with_link, changed, e
 use Rattle.world_model.specs.meaning.Machines.{Machine}
 use Rattle.world_model.specs.meaning.Noting.{only_if, same_reached}
 
--- so many bytes still arrive: those of the event, or all that are on their way where these are fewer
+-- so many bytes still arrive: those of the event, or all that are on their way where these are
+-- fewer
 abbrev pub reached_of : Link → ℕ → ℕ → Reached
 reached_of link up down = record { up = min up (sum_by up_size link.up); down = min down (sum_by down_size link.down) }
 

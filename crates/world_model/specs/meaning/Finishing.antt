@@ -13,8 +13,8 @@ use Rattle.world_model.specs.meaning.Machines.{Machine}
 use Rattle.world_model.specs.meaning.Serving.{front_of}
 use Rattle.world_model.specs.meaning.Walking.{follow}
 
--- How far the finish has come: before all, at the orphans, at the start of a round, in a round at the clients behind this one, or at the
--- connections.
+-- How far the finish has come: before all, at the orphans, at the start of a round, in a round at
+-- the clients behind this one, or at the connections.
 pub data Place : Type 0 where
   AtServer : Place
   AtOrphans : Place

@@ -31,10 +31,11 @@ same_outcome a b = same_ltxid a.ltxid b.ltxid && (same_bool a.committed b.commit
 abbrev pub same_lists : List (List Ltxid) → List (List Ltxid) → Bool
 same_lists lists others = pointwise (pointwise same_ltxid) lists others
 
--- A request's `sessions` are those that were lent to it or whose Hello it took, its `outcomes` are the answers that it took, each with
--- the identifier that was asked, and its `tried` are, transaction by transaction, the identifiers under which it may have committed: those
--- of the calls with a commit that it sent without the mark and that have no reply, or one that ends with Committed (`tried_of` of
--- client_model, which is that of run_clauses).
+-- A request's `sessions` are those that were lent to it or whose Hello it took, its `outcomes` are
+-- the answers that it took, each with the identifier that was asked, and its `tried` are,
+-- transaction by transaction, the identifiers under which it may have committed: those of the calls
+-- with a commit that it sent without the mark and that have no reply, or one that ends with
+-- Committed (`tried_of` of client_model, which is that of run_clauses).
 abbrev pub tells_steps : RequestReport → RequestReport → Bool
 tells_steps told reported =
     pointwise same_session told.sessions reported.sessions && (pointwise same_outcome told.outcomes reported.outcomes && same_lists told.tried reported.tried)

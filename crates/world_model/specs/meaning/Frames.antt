@@ -6,12 +6,14 @@ use Rattle.canon_bytes.specs.meaning.UpBytes.{up_frame}
 use Rattle.canon_bytes.specs.meaning.DownBytes.{down_frame}
 use Rattle.outage_schedule.specs.declared.item.Served.{Served}
 
--- Whose frame it is: the client, by its number, and which of the requests that it submitted, from 0.
+-- Whose frame it is: the client, by its number, and which of the requests that it submitted, from
+-- 0.
 pub record Owner : Type 0 where
   pub client : ℕ
   pub place : ℕ
 
--- A frame to the server. The Close of a drain is nobody's. `call` is the index in its request where it is a call.
+-- A frame to the server. The Close of a drain is nobody's. `call` is the index in its request where
+-- it is a call.
 pub record Sent : Type 0 where
   pub owner : Option Owner
   pub call : ℕ

@@ -1,6 +1,7 @@
--- What a run's service did, for its judgement: the plain items of a report, one for each frame that was served, each call that was run
--- outside and each identifier that was asked, in the order of events. Each frame is the one that stands first on its connection, where the
--- walk over the events has come.
+-- What a run's service did, for its judgement: the plain items of a report, one for each frame that
+-- was served, each call that was run outside and each identifier that was asked, in the order of
+-- events. Each frame is the one that stands first on its connection, where the walk over the events
+-- has come.
 use Rattle.std.specs.Prelude.{◌+◌, Bool, false, List, [], ◌∷◌, ◌++◌, map, Option, Some, if◌then◌else◌}
 use Rattle.std.specs.Option.{option_map_or}
 use Rattle.svc_values.specs.declared.call.Call.{Call}
@@ -34,7 +35,8 @@ abbrev pub front_items : Machine → Option Front → List Served → List Item
 front_items m (Some front) (served ∷ items) = Did m.event m.tick served.session (thing_of front.first.frame (front_telling front served)) ∷ []
 front_items m _ _ = []
 
--- The calls that were run outside, with what they came to; and where the run ended before them the next call, which met a block.
+-- The calls that were run outside, with what they came to; and where the run ended before them the
+-- next call, which met a block.
 abbrev pub things_outside : List Call → List NoteRun → List Thing
 things_outside [] runs = []
 things_outside (call ∷ calls) [] = MetBlock false call ∷ []
@@ -82,9 +84,9 @@ judged_items document report = items_with document report.notes report.served
 
 -- THE JUDGEMENT -----------------------------------------------------------------------------------
 
--- What was served is legal: each call is answered as it means on what was committed before it and its own transaction; a commit comes
--- exactly where nothing that its transaction read has changed; the entries and alerts are those of the commits and lines; what is drawn
--- anew is the next value.
+-- What was served is legal: each call is answered as it means on what was committed before it and
+-- its own transaction; a commit comes exactly where nothing that its transaction read has changed;
+-- the entries and alerts are those of the commits and lines; what is drawn anew is the next value.
 abbrev pub is_legal : Document → Report → Bool
 is_legal document report = legal (service_base document) (judged_items document report) report.entries report.alerts
 

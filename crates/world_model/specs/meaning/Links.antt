@@ -11,10 +11,11 @@ use Rattle.client_model.specs.declared.input.Input.{Input}
 use Rattle.client_model.specs.declared.input.Input.TheVariants.{Lent, Took}
 use Rattle.world_model.specs.meaning.Frames.{Sent, Reply, Handled}
 
--- A connection. It is open until a cut, a crash, an answer Blocked or a Close that is sent on it; `ended` is the event of that.
--- Its session lives from its opening on. The session has its name once Connect was served, and `commits` counts what it
--- answered Committed. `held` is the identifier that was taken last. `sent`, `served` and `taken` is all that ever was, in order;
--- `up` are the frames that may still be served, and `down` the replies that may still be taken.
+-- A connection. It is open until a cut, a crash, an answer Blocked or a Close that is sent on it;
+-- `ended` is the event of that. Its session lives from its opening on. The session has its name
+-- once Connect was served, and `commits` counts what it answered Committed. `held` is the
+-- identifier that was taken last. `sent`, `served` and `taken` is all that ever was, in order; `up`
+-- are the frames that may still be served, and `down` the replies that may still be taken.
 pub record Link : Type 0 where
   pub is_open : Bool
   pub is_cut : Bool

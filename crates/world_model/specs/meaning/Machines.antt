@@ -10,9 +10,10 @@ use Rattle.run_clauses.specs.meaning.Before.{journal_before}
 use Rattle.world_model.specs.meaning.Links.{Link}
 use Rattle.world_model.specs.meaning.Clients.{Client, resting}
 
--- The server: the incarnation of its last opening; how many openings were stopped since; how many sessions the incarnation has;
--- how many device calls a record takes; the identifiers that were answered uncommitted, with those of the image; and those that a
--- crashed item carries, of which a block may stand or not.
+-- The server: the incarnation of its last opening; how many openings were stopped since; how many
+-- sessions the incarnation has; how many device calls a record takes; the identifiers that were
+-- answered uncommitted, with those of the image; and those that a crashed item carries, of which a
+-- block may stand or not.
 pub record Server : Type 0 where
   pub is_up : Bool
   pub incarnation : ℕ

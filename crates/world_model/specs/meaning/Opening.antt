@@ -4,7 +4,8 @@ use Rattle.svc_values.specs.meaning.Same.{same_bool}
 use Rattle.world_model.specs.meaning.Machines.{Server, Machine}
 use Rattle.world_model.specs.meaning.Noting.{only_if}
 
--- One more than that of the last opening, and more by at most the number of openings that were stopped since.
+-- One more than that of the last opening, and more by at most the number of openings that were
+-- stopped since.
 abbrev pub may_open : Server → ℕ → Bool
 may_open server incarnation = nat_le (server.incarnation + 1) incarnation && nat_le incarnation (server.incarnation + 1 + server.stopped)
 

@@ -1,4 +1,5 @@
--- What a service's history has of an event: the frames that were served then and the identifiers that were asked, in order.
+-- What a service's history has of an event: the frames that were served then and the identifiers
+-- that were asked, in order.
 use Rattle.std.specs.Prelude.{ℕ}
 use Rattle.svc_values.specs.declared.entry.SessionId.{SessionId}
 use Rattle.outage_schedule.specs.declared.item.Item.{Item}
@@ -7,7 +8,8 @@ use Rattle.outage_schedule.specs.declared.item.Served.{Served}
 use Rattle.server_model.specs.meaning.Outcomes.{Telling, Stopped, telling_of}
 use Rattle.world_model.specs.meaning.Serving.{Front, reply_of, commits_after}
 
--- what is told of the frame of this item, by a session that has answered so many commits: nothing at a stop
+-- what is told of the frame of this item, by a session that has answered so many commits: nothing
+-- at a stop
 abbrev pub item_telling : SessionId → ℕ → Item → Telling
 item_telling session commits (item.CrashedCall marked call) = Stopped
 item_telling session commits (item.CrashedOutcome asked) = Stopped

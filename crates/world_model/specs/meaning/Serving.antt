@@ -25,7 +25,8 @@ use Rattle.world_model.specs.meaning.Links.{Link, link_at, with_link, ends}
 use Rattle.world_model.specs.meaning.Machines.{Server, Machine, next_session}
 use Rattle.world_model.specs.meaning.Noting.{only_if, name_of, same_name}
 
--- A frame that may be served now: it is the first one of a connection whose session lives, and others come later.
+-- A frame that may be served now: it is the first one of a connection whose session lives, and
+-- others come later.
 pub record Front : Type 0 where
   pub link : Link
   pub first : Sent
@@ -145,7 +146,8 @@ after_served m number front served = record m {
   pool = pool_after m.pool number served.item;
 }
 
--- The note names the frame, and there is one item, the frame's. Without a frame the note is none, and there is no item.
+-- The note names the frame, and there is one item, the frame's. Without a frame the note is none,
+-- and there is no item.
 abbrev pub serves : Machine → ℕ → Option FrameName → List Served → Option Front → Option (Machine × List Served)
 serves m number None items None = Some (m, items)
 serves m number (Some name) (served ∷ items) (Some front) = only_if (same_name name (name_of front.first.frame) && is_ordinary m front served) (after_served m number front served, items)

@@ -66,7 +66,8 @@ items_differ t = each_pair (λ a b. not (a == b)) (flat_map item_events t.machin
 abbrev pub is_down : Traced → Bool
 is_down t = t.machine.server.is_up || list_all (λ link. not link.is_open && not link.is_living) t.machine.links
 
--- it is open as long as no event ended it; one that is closed or was cut is not open; the session of one that is open lives
+-- it is open as long as no event ended it; one that is closed or was cut is not open; the session
+-- of one that is open lives
 abbrev pub ends_rightly : Traced → Link → Bool
 ends_rightly t link =
     same_bool link.is_open (is_none link.ended)
@@ -112,7 +113,8 @@ abbrev pub first_is_connect : List Handled → Bool
 first_is_connect [] = false
 first_is_connect (one ∷ others) = is_connect one.served.item && list_all (λ other. not (is_connect other.served.item)) others
 
--- It has its name once its Connect was served, which is its first item; each item is its, and the identifier that was taken last.
+-- It has its name once its Connect was served, which is its first item; each item is its, and the
+-- identifier that was taken last.
 abbrev pub is_named : Link → Bool
 is_named link =
     same_bool (is_some link.session) (first_is_connect link.served)
@@ -132,7 +134,8 @@ is_stopped (item.CrashedCall replay call) = true
 is_stopped (item.CrashedOutcome x) = true
 is_stopped _ = false
 
--- nothing is served behind Blocked, Close or a stopped frame; a session that lives served none of these
+-- nothing is served behind Blocked, Close or a stopped frame; a session that lives served none of
+-- these
 abbrev pub ends_life : Handled → Bool
 ends_life one = is_last one.served.item || is_stopped one.served.item
 

@@ -45,7 +45,8 @@ is_counted t link = (number_of t.entries link == link.commits) || ((number_of t.
 abbrev pub are_counted : Traced → Bool
 are_counted t = list_all (is_counted t) t.machine.links
 
--- N1c: what is held is the identifier of the last reply taken that tells one: all Committed replies that were taken are counted in it
+-- N1c: what is held is the identifier of the last reply taken that tells one: all Committed replies
+-- that were taken are counted in it
 abbrev pub told_in : Option Ltxid → Reply → Option Ltxid
 told_in held reply = option_or (told_by (Took reply.frame true)) held
 
@@ -58,7 +59,8 @@ is_told link = same_held (last_told link.taken) link.held
 abbrev pub are_told : Traced → Bool
 are_told t = list_all is_told t.machine.links
 
--- N2: ahead by one: the frame that is out was served and committed, or was stopped, and no other commit call is left to be served
+-- N2: ahead by one: the frame that is out was served and committed, or was stopped, and no other
+-- commit call is left to be served
 abbrev pub made_entry : Item → Bool
 made_entry one = is_commit one || is_stopped_call one
 
@@ -97,8 +99,8 @@ numbered_after before (entry ∷ entries) = (entry.ltxid.number == entries_of be
 abbrev pub entries_numbered : Traced → Bool
 entries_numbered t = numbered_after [] t.entries
 
--- N6: an entry is of an incarnation before this one, or of a session that was made; one of this run is of a connection's session, or of
--- an `outside`
+-- N6: an entry is of an incarnation before this one, or of a session that was made; one of this run
+-- is of a connection's session, or of an `outside`
 abbrev pub is_session : Ltxid → SessionId → Bool
 is_session x session = is_of_session session x
 

@@ -25,7 +25,8 @@ use Rattle.world_model.specs.records.Wire.{is_alter}
 abbrev pub has_calls : Request → Bool
 has_calls request = not (length request.calls == 0)
 
--- a call that may stand before the last one of a transaction: it ends nothing, and stores nothing by itself
+-- a call that may stand before the last one of a transaction: it ends nothing, and stores nothing
+-- by itself
 abbrev pub is_inside : Call → Bool
 is_inside call.Rollback = false
 is_inside (call.Alter line) = false
@@ -102,8 +103,8 @@ records_rightly terms talk phase = option_map_or (is_repeatable terms) (track_of
 
 -- REQUESTS ----------------------------------------------------------------------------------------
 
--- A request that sent no Begin has a call to send, and one without a slot had no connection so far. Where no reason stands against a
--- replay, and in one, no recorded call alters the service.
+-- A request that sent no Begin has a call to send, and one without a slot had no connection so far.
+-- Where no reason stands against a replay, and in one, no recorded call alters the service.
 abbrev pub is_ready : Terms → Doing → Bool
 is_ready terms doing =
     implies (is_unbegun doing.talk.phase) (not (length doing.talk.left == 0))

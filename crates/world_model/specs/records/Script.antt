@@ -36,8 +36,9 @@ use Rattle.world_model.specs.Parts.{Sending, sendings_of, implies, is_unmarked}
 
 -- S0: A CONVERSATION ------------------------------------------------------------------------------
 
--- Each step is that of the client at its input, which may come then; and the request stands where they lead. By client_model's laws that
--- is S1 to S5: KeepsWhatIsTold, FewReplays, FailsForCause, FailsAtCause, BeginsKnown, ReleasesRightly and ReplaysOnlyVerified speak of it.
+-- Each step is that of the client at its input, which may come then; and the request stands where
+-- they lead. By client_model's laws that is S1 to S5: KeepsWhatIsTold, FewReplays, FailsForCause,
+-- FailsAtCause, BeginsKnown, ReleasesRightly and ReplaysOnlyVerified speak of it.
 abbrev pub may_all_come : Terms → Talk → Bool → List Timed → Bool
 may_all_come terms talk gone_next [] = true
 may_all_come terms talk gone_next (one ∷ inputs) =
@@ -194,7 +195,8 @@ carries_draws course link = list_all (λ sent. implies (owned_by course.owner se
 abbrev pub carry_draws : Traced → Bool
 carry_draws t = list_all (λ course. list_all (carries_draws course) t.machine.links) (courses_of t)
 
--- `talks` says the conversations to the letter, where the tests tell them apart by frames, showings and phases.
+-- `talks` says the conversations to the letter, where the tests tell them apart by frames, showings
+-- and phases.
 pub record Script (t : Traced) : Type 0 where
   pub talks : AllTalk t.setting.terms t.machine.clients
   pub conversations : IsTrue (are_conversations t)

@@ -15,7 +15,8 @@ use Rattle.world_model.specs.Traced.{Traced}
 use Rattle.world_model.specs.Sames.{same_owners, same_sent, same_down, same_reply, is_front}
 use Rattle.world_model.specs.Parts.{is_rep, count_reps, is_closed, implies}
 
--- wire1: what was served and what may be served is a front of what was sent, and all of it as long as nothing was lost
+-- wire1: what was served and what may be served is a front of what was sent, and all of it as long
+-- as nothing was lost
 abbrev pub up_of : Link → List Sent
 up_of link = map (λ one. one.sent) link.served ++ link.up
 
@@ -41,7 +42,8 @@ is_reply_front link = is_front same_reply (link.taken ++ link.down) (replies_of 
 abbrev pub reply_fronts : Traced → Bool
 reply_fronts t = list_all is_reply_front t.machine.links
 
--- wire2b: each item is that of its frame, or the frame was stopped; and the reply is that of the item
+-- wire2b: each item is that of its frame, or the frame was stopped; and the reply is that of the
+-- item
 abbrev pub same_replies : Option Down → Option Down → Bool
 same_replies None None = true
 same_replies (Some a) (Some b) = same_down a b
@@ -63,8 +65,10 @@ handled_from commits (one ∷ others) = is_handled (counted_with commits one.ser
 abbrev pub are_handled : Traced → Bool
 are_handled t = list_all (λ link. handled_from 0 link.served) t.machine.links
 
--- wire3: the grammar of a connection. (End may come behind an outcome with no Begin: where the last call was shown by it.) `Repeated`: a request is in course whose outcome was asked here, and no call without the mark was
--- sent; `Begun`: one is in course, and calls are without the mark from now on.
+-- wire3: the grammar of a connection. (End may come behind an outcome with no Begin: where the last
+-- call was shown by it.) `Repeated`: a request is in course whose outcome was asked here, and no
+-- call without the mark was sent; `Begun`: one is in course, and calls are without the mark from
+-- now on.
 pub data Stage : Type 0 where
   New : Stage
   Greeted : (owner : Option Owner) → Stage
@@ -119,7 +123,8 @@ one_is_out link = nat_le (length link.taken) (count_reps link.sent) && nat_le (c
 abbrev pub one_out : Traced → Bool
 one_out t = list_all one_is_out t.machine.links
 
--- wire4b: an answered frame is sent only once all before it were answered and taken: so the k-th reply taken is to the k-th answered frame
+-- wire4b: an answered frame is sent only once all before it were answered and taken: so the k-th
+-- reply taken is to the k-th answered frame
 abbrev pub reps_of : Link → List Sent
 reps_of link = filter is_rep link.sent
 
@@ -129,7 +134,8 @@ is_answered_in_order link = is_front same_sent (map (λ reply. reply.to) (link.t
 abbrev pub answered_in_order : Traced → Bool
 answered_in_order t = list_all is_answered_in_order t.machine.links
 
--- wire6: the session that may still serve a frame served all before it without a stop: where frames are left to be served it lives, or was cut off
+-- wire6: the session that may still serve a frame served all before it without a stop: where frames
+-- are left to be served it lives, or was cut off
 abbrev pub up_lives : Traced → Bool
 up_lives t = list_all (λ link. link.is_living || (list_any (λ one. is_last one.served.item) link.served || ((length link.up == 0) || link.is_cut))) t.machine.links
 
