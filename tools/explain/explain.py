@@ -6,9 +6,9 @@ import pathlib
 import re
 import sys
 
-ABOUT = """Prints what docs/CODES.md and docs/REPORT.md say of a WORD: a code (7), a clause (serial), another answer
-of check (undecided), an error or a reason of a report (mismatch, statelost), or another word that begins a row of their tables
-or is one of their headings. Status 0; 2 where no page has the word, with a list of those that have."""
+ABOUT = """Prints what docs/CODES.md and docs/REPORT.md say of a WORD: a code (7), a clause (serial), an error or a
+reason of a report (mismatch, statelost), or another word that begins a row of their tables or is one of their headings.
+Status 0; 2 where no page has the word, with a list of those that have."""
 
 DOCS = pathlib.Path(__file__).resolve().parents[2] / "docs"
 CODES, REPORT = "CODES.md", "REPORT.md"
@@ -95,9 +95,9 @@ def known(rows):
 
 
 def line_of(word, rows):
-    """The program's code, clause or answer in one line."""
+    """The program's code or clause in one line."""
     for row in rows:
-        is_told = row.heads[0] in ("Code", "Clause", "Answer") or row.heading.startswith("Codes")
+        is_told = row.heads[0] in ("Code", "Clause") or row.heading.startswith("Codes")
         if row.page == CODES and is_told and row.words() == [word]:
             where = f"; {WHERE[word]}" if word in WHERE else ""
             return f"continuity: {word}: {row.cells[1]}{where}; see docs/{row.page}"
@@ -107,7 +107,7 @@ def line_of(word, rows):
 def main(arguments=None):
     parser = argparse.ArgumentParser(prog="continuity explain", description=ABOUT,
                                      formatter_class=argparse.RawDescriptionHelpFormatter)
-    parser.add_argument("--line", action="store_true", help="of a code, a clause or an answer, one line")
+    parser.add_argument("--line", action="store_true", help="of a code or a clause, one line")
     parser.add_argument("--docs", type=pathlib.Path, default=DOCS, help="the folder of the pages")
     parser.add_argument("word", metavar="WORD", nargs="+")
     given = parser.parse_args(arguments)

@@ -319,7 +319,7 @@ unproved() {
         status=70
     else
         grep '^continuity: ' "$room/told" >&2
-        ((status < 5 || status > 7)) || in_words <"$room/told" >&2
+        { [ "$status" != 5 ] && [ "$status" != 6 ]; } || in_words <"$room/told" >&2
     fi
     say "UNPROVED"
     exit "$status"

@@ -15,16 +15,13 @@ CLAUSES = {
     "stored": "Each outcome, block, horizon and image that is told has to be that of the store",
     "whole": "Each request has to be shown its whole script in order, or one failure",
 }
-UNDECIDED = "undecided"     # what it tells in the place of a clause
-DOUBT = ("A call met a block there, and more values that it may have drawn are in doubt than are tried, "
-         "so neither legal nor a clause behind it is judged")
-RIGHT, FAULTY, WRONG, OPEN = 0, 5, 6, 7     # the program's statuses
+RIGHT, WRONG, FAULTY = 0, 6, 5      # the program's statuses
 TOLD = re.compile(r"^continuity: (?:document: (?P<code>\d+)|check: (?P<clause>\w+)) at (?P<path>.*)$", re.MULTILINE)
 
 
 @dataclass(frozen=True)
 class Answer:
-    word: str           # yes, a clause, undecided, or the code of a fault
+    word: str           # yes, a clause, or the code of a fault
     path: str = ""      # in the report; of a fault, in the object of both
     is_fault: bool = False
 
@@ -32,8 +29,6 @@ class Answer:
         """The answer in a few words, and what it means."""
         if self.word == "yes":
             return "yes", "all seven clauses hold"
-        if self.word == UNDECIDED:
-            return UNDECIDED, DOUBT
         if not self.is_fault:
             return f"{self.word} is false", CLAUSES.get(self.word, "")
         if self.path.startswith("/report"):
@@ -52,16 +47,9 @@ def answer_of(ended):
     if ended.status == RIGHT and ended.printed == b"yes\n":
         return Answer("yes")
     told = TOLD.search(ended.told)
-    if not told or ended.status != status_of(told):
+    if not told or ended.status != (FAULTY if told["code"] else WRONG):
         raise Misfit(f"check gave no answer: {ended.why()}")
     return Answer(told["code"] or told["clause"], told["path"], bool(told["code"]))
-
-
-def status_of(told):
-    """The status that a line of the program comes with."""
-    if told["code"]:
-        return FAULTY
-    return OPEN if told["clause"] == UNDECIDED else WRONG
 
 
 class Places:

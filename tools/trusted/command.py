@@ -6,12 +6,11 @@ from trusted.sources import read_files
 from trusted.walk import reached_from
 
 # What is believed once the proofs are: the headline, and the clauses of the call that the program makes: of an end with an answer,
-# of a report that is denied, and of one that is undecided.
+# and of a report that is denied.
 ROOTS = {
     "Headline": "Rattle.continuity_run.specs.meaning.Headline",
     "IsDone": "Rattle.continuity_run.specs.meaning.Clauses",
     "IsDenied": "Rattle.continuity_run.specs.meaning.Clauses",
-    "IsLeftInDoubt": "Rattle.continuity_run.specs.meaning.Clauses",
 }
 # The folder of a crate's specs/ with what the roots reach of it, and nothing else.
 FOLDER = "/specs/meaning/"

@@ -17,15 +17,13 @@ use Rattle.program_ends.specs.declared.status.Status.TheVariants as status
 use Rattle.byte_streams.specs.Causes.{AppendsFront, Rose}
 use Rattle.continuity_run.specs.Checking.{IsVerdict, IsToldAs, IsJudgement}
 use Rattle.continuity_run.specs.Clauses.{IfDocument, IfNo}
-use Rattle.continuity_run.specs.Complete.{IsUndecided}
-use Rattle.continuity_run.specs.meaning.Check.{IsRight, IsWrong, LeavesDoubt, right_text}
+use Rattle.continuity_run.specs.meaning.Check.{IsRight, IsWrong, right_text}
 
 -- a verdict on a pair is one on the bytes that it was read of
 pub judged : (bytes : List ℕ) (document : Document) (report : Report) (one : Verdict) → pair_at bytes ≡ Ok (document, report)
     → IsJudged document report one → IsVerdict bytes one
-judged bytes document report verdict.Yes accepted says = record { document = document; report = report; accepted = accepted; decided = says.0; right = says.1 }
-judged bytes document report (verdict.No one path) accepted says = record { document = document; report = report; accepted = accepted; decided = says.0; first = says.1 }
-judged bytes document report (verdict.Undecided path) accepted doubt = record { document = document; report = report; accepted = accepted; doubt = doubt }
+judged bytes document report verdict.Yes accepted right = record { document = document; report = report; accepted = accepted; right = right }
+judged bytes document report (verdict.No one path) accepted first = record { document = document; report = report; accepted = accepted; first = first }
 
 -- each end that a verdict leads to
 pub by_verdict : (P : Status → Type 0) (bytes : List ℕ) (read : Result Verdict DocFault) (end : Status) (held_before held_after : Option (List ℕ)) (before now : ℕ)
@@ -34,20 +32,17 @@ pub by_verdict : (P : Status → Type 0) (bytes : List ℕ) (read : Result Verdi
     → P status.NoMemory
     → ((code : DocCode) (path : List ℕ) → pair_at bytes ≡ Err (record { code = code; path = path }) → P (status.Document code path))
     → ((one : Clause) (path : List ℕ) → IsWrong bytes one path → P (status.No one path))
-    → ((path : List ℕ) → LeavesDoubt bytes → P (status.Undecided path))
     → IfOk read (IsVerdict bytes) → IfErr read (λ e. Fails e (pair_at bytes)) → IsToldAs read end held_before held_after before now → P end
-by_verdict P bytes (Ok verdict.Yes) status.Done held_before held_after before now done cut lacked refused denied left says fails told = done says told
-by_verdict P bytes (Ok verdict.Yes) status.Write held_before held_after before now done cut lacked refused denied left says fails told = cut says told.0 told.1
-by_verdict P bytes (Ok verdict.Yes) status.NoMemory held_before held_after before now done cut lacked refused denied left says fails told = absurd told
-by_verdict P bytes (Ok verdict.Yes) status.Words held_before held_after before now done cut lacked refused denied left says fails told = absurd told
-by_verdict P bytes (Ok verdict.Yes) status.Read held_before held_after before now done cut lacked refused denied left says fails told = absurd told
-by_verdict P bytes (Ok verdict.Yes) (status.Document code path) held_before held_after before now done cut lacked refused denied left says fails told = absurd told
-by_verdict P bytes (Ok verdict.Yes) (status.No one path) held_before held_after before now done cut lacked refused denied left says fails told = absurd told
-by_verdict P bytes (Ok verdict.Yes) (status.Undecided path) held_before held_after before now done cut lacked refused denied left says fails told = absurd told
-by_verdict P bytes (Ok (verdict.No one path)) end held_before held_after before now done cut lacked refused denied left says fails told = subst P (sym told) (denied one path says)
-by_verdict P bytes (Ok (verdict.Undecided path)) end held_before held_after before now done cut lacked refused denied left says fails told = subst P (sym told) (left path says)
-by_verdict P bytes (Err fault.NoMemory) end held_before held_after before now done cut lacked refused denied left says fails told = subst P (sym told) lacked
-by_verdict P bytes (Err (fault.At code path)) end held_before held_after before now done cut lacked refused denied left says fails told = subst P (sym told) (refused code path fails)
+by_verdict P bytes (Ok verdict.Yes) status.Done held_before held_after before now done cut lacked refused denied says fails told = done says told
+by_verdict P bytes (Ok verdict.Yes) status.Write held_before held_after before now done cut lacked refused denied says fails told = cut says told.0 told.1
+by_verdict P bytes (Ok verdict.Yes) status.NoMemory held_before held_after before now done cut lacked refused denied says fails told = absurd told
+by_verdict P bytes (Ok verdict.Yes) status.Words held_before held_after before now done cut lacked refused denied says fails told = absurd told
+by_verdict P bytes (Ok verdict.Yes) status.Read held_before held_after before now done cut lacked refused denied says fails told = absurd told
+by_verdict P bytes (Ok verdict.Yes) (status.Document code path) held_before held_after before now done cut lacked refused denied says fails told = absurd told
+by_verdict P bytes (Ok verdict.Yes) (status.No one path) held_before held_after before now done cut lacked refused denied says fails told = absurd told
+by_verdict P bytes (Ok (verdict.No one path)) end held_before held_after before now done cut lacked refused denied says fails told = subst P (sym told) (denied one path says)
+by_verdict P bytes (Err fault.NoMemory) end held_before held_after before now done cut lacked refused denied says fails told = subst P (sym told) lacked
+by_verdict P bytes (Err (fault.At code path)) end held_before held_after before now done cut lacked refused denied says fails told = subst P (sym told) (refused code path fails)
 
 -- ---- what each end says
 
@@ -62,7 +57,6 @@ right_done bytes read end held_before held_after before now says fails told =
     (λ is. absurd (let none : ⊥ = cc in none))
     (λ code path refused is. absurd (let none : ⊥ = cc in none))
     (λ one path wrong is. absurd (let none : ⊥ = cc in none))
-    (λ path doubt is. absurd (let none : ⊥ = cc in none))
     says fails told
 
 -- one that was cut wrote a front of it
@@ -76,7 +70,6 @@ right_cut bytes read end held_before held_after before now says fails told =
     (λ is. absurd (let none : ⊥ = cc in none))
     (λ code path refused is. absurd (let none : ⊥ = cc in none))
     (λ one path wrong is. absurd (let none : ⊥ = cc in none))
-    (λ path doubt is. absurd (let none : ⊥ = cc in none))
     says fails told
 
 -- and met a fault
@@ -90,7 +83,6 @@ raised bytes read end held_before held_after before now says fails told =
     (λ is. absurd (let none : ⊥ = cc in none))
     (λ code path refused is. absurd (let none : ⊥ = cc in none))
     (λ one path wrong is. absurd (let none : ⊥ = cc in none))
-    (λ path doubt is. absurd (let none : ⊥ = cc in none))
     says fails told
 
 -- a fault is that of the bytes
@@ -104,7 +96,6 @@ refused_so bytes read end held_before held_after before now says fails told =
     (tt)
     (λ code path refused. refused)
     (λ one path wrong. tt)
-    (λ path doubt. tt)
     says fails told
 
 -- a report that is denied is wrong
@@ -118,21 +109,6 @@ denied_so bytes read end held_before held_after before now says fails told =
     (tt)
     (λ code path refused. tt)
     (λ one path wrong. wrong)
-    (λ path doubt. tt)
-    says fails told
-
--- one that is undecided leaves more in doubt than is tried
-pub undecided_so : (bytes : List ℕ) (read : Result Verdict DocFault) (end : Status) (held_before held_after : Option (List ℕ)) (before now : ℕ)
-    → IfOk read (IsVerdict bytes) → IfErr read (λ e. Fails e (pair_at bytes)) → IsToldAs read end held_before held_after before now
-    → IsUndecided end → LeavesDoubt bytes
-undecided_so bytes read end held_before held_after before now says fails told =
-    by_verdict (λ at. IsUndecided at → LeavesDoubt bytes) bytes read end held_before held_after before now
-    (λ right wrote none. absurd none)
-    (λ right front rose none. absurd none)
-    (λ none. absurd none)
-    (λ code path refused none. absurd none)
-    (λ one path wrong none. absurd none)
-    (λ path doubt is. doubt)
     says fails told
 
 -- there is no other end
@@ -146,5 +122,4 @@ replied bytes read end held_before held_after before now says fails told =
     (tt)
     (λ code path refused. tt)
     (λ one path wrong. tt)
-    (λ path doubt. tt)
     says fails told

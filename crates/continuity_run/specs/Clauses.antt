@@ -94,7 +94,6 @@ abbrev pub IsReply : Status → Type 0
 IsReply status.Words = ⊥
 IsReply status.Read = ⊥
 IsReply (status.No one path) = ⊥
-IsReply (status.Undecided path) = ⊥
 IsReply _ = Unit {0}
 
 -- nothing but the sink may be at fault: neither the words, nor the source, nor a document or its

@@ -32,13 +32,7 @@ abbrev pub IsNo : Status → Type 0
 IsNo (status.No one path) = Unit {0}
 IsNo _ = ⊥
 
--- the report leaves more in doubt than is tried
-abbrev pub IsUndecided : Status → Type 0
-IsUndecided (status.Undecided path) = Unit {0}
-IsUndecided _ = ⊥
-
--- The command ended with its answer, or for want of memory. A report that was judged may be denied
--- or undecided.
+-- The command ended with its answer, or for want of memory. A report that was judged may be denied.
 abbrev pub HasAnswered : Command → Status → Type 0
-HasAnswered command.Check end = (end ≡ status.Done) ⊎ ((end ≡ status.NoMemory) ⊎ (IsNo end ⊎ IsUndecided end))
+HasAnswered command.Check end = (end ≡ status.Done) ⊎ ((end ≡ status.NoMemory) ⊎ IsNo end)
 HasAnswered _ end = (end ≡ status.Done) ⊎ (end ≡ status.NoMemory)

@@ -5,10 +5,10 @@ ghost use Rattle.json_form.specs.Faults.{Fails};
 ghost use Rattle.report_check.specs.meaning.Pairs.{pair_at, check_limit};
 ghost use Rattle.byte_streams.specs.Causes.{AppendsFront, Rose};
 ghost use Rattle.continuity_run.specs.Checking.{IsVerdict, IsToldAs, IsJudgement};
-ghost use Rattle.continuity_run.specs.meaning.Check.{IsRight, IsWrong, LeavesDoubt, right_text};
-ghost use Rattle.continuity_run.specs.meaning.Clauses.{IsChecked, IsDenied, IsLeftInDoubt, IsRead};
+ghost use Rattle.continuity_run.specs.meaning.Check.{IsRight, IsWrong, right_text};
+ghost use Rattle.continuity_run.specs.meaning.Clauses.{IsChecked, IsDenied, IsRead};
 ghost use Rattle.continuity_run.specs.Clauses.{IsCheckedInPart, HasFault, IfDocument, IfNo, IsBefore, UnlessRead};
-ghost use Rattle.continuity_run.specs.Complete.{IsFaultlessOn, IsNo, IsUndecided};
+ghost use Rattle.continuity_run.specs.Complete.{IsFaultlessOn, IsNo};
 
 use crate::leaving::leave;
 use byte_streams::{ReadError, Sink, Source, read_to_limit, write_whole};
@@ -37,7 +37,7 @@ fn verdict_on(alloc: Global, bytes: Vec<u8>) -> Result<Verdict, DocFault>
     }
 }
 
-/// Writes that a report is right, or tells why that is not said.
+/// Writes that a report is right, or tells why it is not.
 fn tell_verdict<K: Sink>(verdict: Result<Verdict, DocFault>, sink: &mut K) -> Status
     ensures told { IsToldAs verdict result (K.held sink.old) (K.held sink.new) (K.faults sink.old)
         (K.faults sink.new) }
@@ -46,7 +46,6 @@ fn tell_verdict<K: Sink>(verdict: Result<Verdict, DocFault>, sink: &mut K) -> St
     match verdict {
         Ok(Verdict::Yes) => {}
         Ok(Verdict::No { clause, path }) => return Status::No { clause, path },
-        Ok(Verdict::Undecided { path }) => return Status::Undecided { path },
         Err(DocFault::NoMemory) => return Status::NoMemory,
         Err(DocFault::At { code, path }) => return Status::Document { code, path },
     }
@@ -66,7 +65,6 @@ fn respond<K: Sink>(alloc: Global, bytes: Vec<u8>, sink: &mut K) -> Status
     ensures write { result ≡ Status.Write → Rose (K.faults sink.old) (K.faults sink.new) }
     ensures document { IfDocument result (λ fault. pair_at bytes.items ≡ Err fault) }
     ensures denied { IfNo result (IsWrong bytes.items) }
-    ensures undecided { IsUndecided result → LeavesDoubt bytes.items }
     ensures untouched { IsBefore result → sink.new ≡ sink.old }
     ensures others { IsJudgement result }
 {
@@ -98,16 +96,13 @@ pub(crate) fn tell_of_check<S: Source, K: Sink>(
     ensures document { IfDocument result
         (HasFault check_limit pair_at (S.left source.old) (S.left source.new)) }
     ensures denied { IfNo result (IsDenied (S.left source.old) (S.left source.new)) }
-    ensures undecided { IsUndecided result
-        → IsLeftInDoubt (S.left source.old) (S.left source.new) }
     ensures done { result ≡ Status.Done → IsChecked (S.left source.old) (S.left source.new)
         (K.held sink.old) (K.held sink.new) }
     ensures cut { result ≡ Status.Write → IsCheckedInPart (S.left source.old) (S.left source.new)
         (K.held sink.old) (K.held sink.new) }
     ensures complete { IsFaultlessOn pair_at (S.left source.old)
         (S.faults source.old) (S.faults source.new) (K.faults sink.old) (K.faults sink.new)
-        → (result ≡ Status.Done) ⊎ ((result ≡ Status.NoMemory)
-        ⊎ (IsNo result ⊎ IsUndecided result)) }
+        → (result ≡ Status.Done) ⊎ ((result ≡ Status.NoMemory) ⊎ IsNo result) }
     ensures untouched { IsBefore result → sink.new ≡ sink.old }
 {
     let bytes = match read_pair(alloc, source) {

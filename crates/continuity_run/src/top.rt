@@ -5,9 +5,9 @@ ghost use Rattle.doc_reader.specs.meaning.Documents.{document_at, limit};
 ghost use Rattle.byte_streams.specs.Causes.{Rose};
 ghost use Rattle.command_words.specs.Words.{command_of as command_of_def, reads_source};
 ghost use Rattle.command_words.specs.LoadWords.{HasLoadNumbers};
-ghost use Rattle.continuity_run.specs.meaning.Clauses.{Tells, IsDone, IsDenied, IsLeftInDoubt, IsAnswered, LoadIsDone, IsRead};
+ghost use Rattle.continuity_run.specs.meaning.Clauses.{Tells, IsDone, IsDenied, IsAnswered, LoadIsDone, IsRead};
 ghost use Rattle.continuity_run.specs.Clauses.{IsCut, IsAnsweredInPart, HasFault, IsRefused, Writes, WritesFront, IfDocument, IfNo, IsBefore, IsReply, UnlessRead, EndsAtSink, LoadIsCut};
-ghost use Rattle.continuity_run.specs.Complete.{IsFaultless, IsFaultlessOn, HasAnswered, IsNo, IsUndecided};
+ghost use Rattle.continuity_run.specs.Complete.{IsFaultless, IsFaultlessOn, HasAnswered, IsNo};
 ghost use Rattle.continuity_run.specs.InnerEnds.{ended_as, IsWritten};
 
 use crate::answer::{Telling, text_of};
@@ -111,7 +111,6 @@ fn tell_of_read<S: Source, K: Sink>(
         → IsAnsweredInPart telling (S.left source.old) (S.left source.new) (K.held sink.old)
         (K.held sink.new) }
     ensures judges { IsNo result → ⊥ }
-    ensures doubts { IsUndecided result → ⊥ }
     ensures complete { IsFaultlessOn document_at (S.left source.old)
         (S.faults source.old) (S.faults source.new) (K.faults sink.old) (K.faults sink.new)
         → (result ≡ Status.Done) ⊎ (result ≡ Status.NoMemory) }
@@ -148,13 +147,13 @@ fn tell_load<K: Sink>(alloc: Global, seed: u64, clients: u64, requests: u64, sin
 /// Carries out a command. `run` and `cover` read a document from the source and run its clients'
 /// scripts under its schedule: `run` writes the report to the sink as compact JSON, and `cover` how
 /// many calls of each report were shown and protected. `check` reads a document with a report of
-/// it, and writes `yes` where each clause of the report holds and no more is in doubt than is
-/// tried. `load` makes its document of three numbers, and writes a line of counts. The words are
-/// looked at first, which may want memory; then the source is read, to one byte past the limit of
-/// 8,388,608 bytes at most, which for `check` is 67,108,864; then the document is judged. Memory is
-/// proportional to the input, and the cost of reading, judging and writing is n log n in it. What
-/// is large and used to the end, a report with its document, is left to the end of the process and
-/// not given back, so a caller who goes on, as a test does, loses that memory at each call.
+/// it, and writes `yes` where each clause of the report holds. `load` makes its document of three
+/// numbers, and writes a line of counts. The words are looked at first, which may want memory; then
+/// the source is read, to one byte past the limit of 8,388,608 bytes at most, which for `check` is
+/// 67,108,864; then the document is judged. Memory is proportional to the input, and the cost of
+/// reading, judging and writing is n log n in it. What is large and used to the end, a report with
+/// its document, is left to the end of the process and not given back, so a caller who goes on, as
+/// a test does, loses that memory at each call.
 pub fn continuity<S: Source, K: Sink>(
     alloc: Global,
     words: &[String],
@@ -181,11 +180,6 @@ pub fn continuity<S: Source, K: Sink>(
     // This clause of the report is the first that is false, which `check` alone tells.
     ensures denied { IfNo result (IsDenied (S.left source.old) (S.left source.new)) }
     ensures denies { IsNo result → command_of_def words.now ≡ Some Command.Check }
-
-    // What the report tells leaves more in doubt than is tried, which `check` alone tells too.
-    ensures undecided { IsUndecided result
-        → IsLeftInDoubt (S.left source.old) (S.left source.new) }
-    ensures doubts { IsUndecided result → command_of_def words.now ≡ Some Command.Check }
 
     // The sink took the text of the command, or a front of it: of a report with its headline, of
     // how many of its calls were protected, of a report of which each clause holds, or of the

@@ -1,3 +1,2 @@
 mod Beginning
-mod Legality
 mod Lines

@@ -8,4 +8,4 @@ mod place;
 mod sequences;
 mod walked;
 
-pub use judge::{Judged, judge_legal};
+pub use judge::judge_legal;

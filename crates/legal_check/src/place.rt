@@ -1,4 +1,5 @@
 //! Places of a report at fault.
+ghost use Rattle.std.specs.Prelude.{◌≡◌, is_none, IfOk};
 
 use json_form::{DocCode, DocFault, Pointer};
 use report_moments::At;
@@ -33,10 +34,15 @@ fn fault_of(alloc: Global, place: Place) -> DocFault {
     }
 }
 
-/// The pointer to a place.
-pub(crate) fn pointer_to(alloc: Global, place: Place) -> Result<Pointer, NoMemory> {
+/// The pointer to a place, if there is one.
+pub(crate) fn pointer_to(alloc: Global, place: Option<Place>) -> Result<Option<Pointer>, NoMemory>
+    ensures { IfOk result (λ pointer. is_none pointer ≡ is_none place) }
+{
+    let Some(place) = place else {
+        return Ok(None);
+    };
     match fault_of(alloc, place) {
-        DocFault::At { path, .. } => Ok(path),
+        DocFault::At { path, .. } => Ok(Some(path)),
         DocFault::NoMemory => Err(NoMemory),
     }
 }

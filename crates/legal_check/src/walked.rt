@@ -1,18 +1,18 @@
 //! The walk of a report's items from what stands before event 1.
-ghost use Rattle.std.specs.Prelude.{◌≡◌, map, IfOk};
+ghost use Rattle.std.specs.Prelude.{◌≡◌, is_none, map, IfOk};
 ghost use Rattle.doc_reader.specs.Keeping.{IsDocument};
 ghost use Rattle.legal_items.specs.Views.{item_in};
 ghost use Rattle.plain_items.specs.Views.{item_as};
 ghost use Rattle.run_clauses.specs.meaning.ServiceBase.{service_base};
+ghost use Rattle.server_model.specs.meaning.Legal.{items_hold};
 ghost use Rattle.server_model.specs.meaning.Walk.{walk_of};
-ghost use Rattle.legal_walk.specs.Told.{IsTold};
 
 use crate::sequences::sequences_of;
 use before_run::{indexes_of, journal_before};
 use commit_log::Journal;
 use journal_tables::indexed_tables_of;
 use legal_items::PlacedItem;
-use legal_walk::{Start, Walked, first_unlawful};
+use legal_walk::{Start, Unlawful, first_unlawful};
 use mutable_values::Grants;
 use outage_schedule::{Document, Report};
 use plain_items::Item;
@@ -31,16 +31,16 @@ fn plain_of<'a>(alloc: Global, items: &[PlacedItem<'a>]) -> Result<Vec<Item<'a>>
     Ok(plain)
 }
 
-/// What a walk over the items tells from what stands before event 1 of a document, with the entries
-/// of the report.
-pub(crate) fn walk_items(
+/// The first item that does not hold, from what stands before event 1 of a document, or behind all
+/// of them the first entry of the report that none stored.
+pub(crate) fn wrong_item(
     alloc: Global,
     document: &Document,
     report: &Report,
     items: &[PlacedItem<'_>],
-) -> Result<Walked, NoMemory>
+) -> Result<Option<Unlawful>, NoMemory>
     requires { IsDocument document.now }
-    ensures { IfOk result (IsTold (service_base document.now)
+    ensures { IfOk result (λ one. is_none one ≡ items_hold (service_base document.now)
         (walk_of (service_base document.now) report.now.entries) (map item_in items.now)) }
 {
     let plain = plain_of(alloc, items)?;

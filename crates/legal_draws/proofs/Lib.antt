@@ -1,6 +1,5 @@
 mod Firsts
 mod Giving
 mod Searching
-mod WaysCounted
 mod WaysGiven
 mod WaysTaken

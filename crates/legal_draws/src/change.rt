@@ -1,7 +1,7 @@
 //! What happens to all sequences of an opening at once.
 ghost use Rattle.std.specs.Prelude.{◌≡◌, IfOk, if◌then◌else◌, map};
 ghost use Rattle.std.specs.Str.{bytes_eq};
-ghost use Rattle.server_model.specs.meaning.NewValues.{gave, reopened, settled};
+ghost use Rattle.server_model.specs.meaning.NewValues.{gave, reopened};
 ghost use Rattle.legal_draws.specs.Asking.{stopped_by, unseen_by};
 
 use crate::asked::asks_for;
@@ -44,18 +44,6 @@ impl Change for Nothing {
 
     fn of(&self, count: &Count) -> Result<Count, NoMemory> {
         Ok(count.copied())
-    }
-}
-
-/// None of the blocks stands that may do so.
-#[derive(Drop)]
-pub(crate) struct Settled;
-
-impl Change for Settled {
-    ghost change = { λ s count. settled count };
-
-    fn of(&self, count: &Count) -> Result<Count, NoMemory> {
-        Ok(count.settled())
     }
 }
 

@@ -1,7 +1,7 @@
 //! One sequence, as far as what was served tells it.
 ghost use Rattle.std.specs.Prelude.{◌≡◌, ◌+◌, ◌*◌, ◌+ℤ◌, pos, IfOk};
 ghost use Rattle.std.specs.Str.{bytes_eq};
-ghost use Rattle.server_model.specs.meaning.NewValues.{blocks_for as blocks_for_def, count_of, gave as gave_def, gave_often as gave_often_def, if_gave, reopened as reopened_def, settled as settled_def, upto_with as upto_with_def};
+ghost use Rattle.server_model.specs.meaning.NewValues.{blocks_for as blocks_for_def, count_of, gave as gave_def, gave_often as gave_often_def, if_gave, reopened as reopened_def, upto_with as upto_with_def};
 ghost use Rattle.legal_draws.specs.Ways.{HasBefore, way_at};
 
 use crate::sequence::Sequence;
@@ -113,18 +113,6 @@ impl Count {
         ensures { result ≡ self.now.maybe }
     {
         self.maybe
-    }
-
-    /// The sequence where none of the blocks stands that may do so. It takes no memory.
-    pub(crate) fn settled(&self) -> Count
-        ensures { result ≡ settled_def self.now }
-    {
-        Count {
-            name: self.name.copied(),
-            next: self.next,
-            upto: self.upto,
-            maybe: 0,
-        }
     }
 
     /// The sequence in a later opening.

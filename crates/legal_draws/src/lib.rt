@@ -8,7 +8,6 @@
 mod asked;
 mod change;
 mod count;
-mod doubts;
 mod kept;
 mod numbers;
 mod search;

@@ -1,5 +1,5 @@
 //! The numbers that an opening gives anew.
-ghost use Rattle.std.specs.Prelude.{◌≡◌, ◌<◌, ◌+◌, ◌-◌, IfOk, IfSome, OnErr, OnOk, is_some, length, map, position};
+ghost use Rattle.std.specs.Prelude.{◌≡◌, ◌<◌, ◌+◌, IfOk, IfSome, OnErr, OnOk, is_some, length, map, position};
 ghost use Rattle.std.specs.List.{find};
 ghost use Rattle.std.specs.Option.{option_copied};
 ghost use Rattle.std.specs.Str.{bytes_eq};
@@ -7,14 +7,11 @@ ghost use Rattle.mutable_values.specs.meaning.Sources.{identifier as identifier_
 ghost use Rattle.svc_values.specs.declared.draw.Draw.TheVariants as draw;
 ghost use Rattle.server_model.specs.meaning.NewValues.{count_of, counted as counted_def, counts_after, drawn_by, if_next, left_by, next_identifier as next_identifier_def, one_drawn, opened, origin_of, stopped_in, unseen_in, with_counts, with_way as with_way_def};
 ghost use Rattle.server_model.specs.meaning.Walk.{or_same};
-ghost use Rattle.legal_draws.specs.Doubting.{at_most};
 ghost use Rattle.legal_draws.specs.Origins.{told};
-ghost use Rattle.legal_draws.specs.meaning.InDoubt.{settled_in, ways_to_draw};
 
 use crate::asked::{asked_by_call, identifiers_in};
-use crate::change::{Gave, Nothing, Reopened, Settled, Stopped, Unseen, all_changed};
+use crate::change::{Gave, Nothing, Reopened, Stopped, Unseen, all_changed};
 use crate::count::{Count, sum};
-use crate::doubts::doubts_in;
 use crate::kept::Kept;
 use crate::sequence::Sequence;
 use equality_laws::tests_equality;
@@ -97,29 +94,6 @@ impl Numbers {
             identifiers: self.identifiers,
             counts: all_changed(alloc, &Nothing, self.counts.as_slice())?,
         })
-    }
-
-    /// The numbers where none of the blocks stands that may do so. Linear in the sequences.
-    pub fn settled(&self, alloc: Global) -> Result<Numbers, NoMemory>
-        ensures { IfOk result (λ numbers. numbers ≡ settled_in self.now) }
-    {
-        Ok(Numbers {
-            incarnation: self.incarnation,
-            identifiers: self.identifiers,
-            counts: all_changed(alloc, &Settled, self.counts.as_slice())?,
-        })
-    }
-
-    /// In how many ways beside the first the values may be drawn that a call asks for: `None` where
-    /// there are more than `most`. Of each sequence that it asks for the first value is in doubt,
-    /// among one more than the blocks that may stand. Linear in the sequences, and for each of them
-    /// in what the call asks for.
-    pub fn doubts(&self, alloc: Global, call: &Call, most: u64) -> Result<Option<u64>, NoMemory>
-        ensures { IfOk result (λ doubts.
-            doubts ≡ at_most most (ways_to_draw call.now self.now.counts - 1)) }
-    {
-        let asked = asked_by_call(alloc, call)?;
-        Ok(doubts_in(self.counts.as_slice(), asked.as_slice(), most))
     }
 
     /// A later opening begins: each sequence goes on behind its last block, and identifiers are

@@ -86,9 +86,9 @@ impl<T: Trial> Search<'_, T> {
 /// fail behind the values before it; where it is, no other one is tried.
 ///
 /// So a call that meets the test with the first values costs one trial. One that meets it with no
-/// values costs at most the product of these numbers over its sequences, and twice that in trials:
-/// `Numbers::doubts` tells the product before anything is tried. Each trial takes a copy of the
-/// sequences for each value besides.
+/// values costs at most the product of these numbers over its sequences, and twice that in trials.
+/// No limit is set to it, since a call with a limit could not tell what is so. Each trial takes a
+/// copy of the sequences for each value besides.
 pub fn meets_with<T: Trial>(
     alloc: Global,
     trial: &T,

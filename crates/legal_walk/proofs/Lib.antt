@@ -1,6 +1,5 @@
 mod Blocking
 mod Counting
-mod Doubting
 mod Drawing
 mod Goings
 mod Holding

@@ -26,7 +26,7 @@ use Rattle.legal_walk.specs.declared.service.Service.{Service}
 use Rattle.legal_walk.specs.declared.walker.Walker.{Walker}
 use Rattle.legal_walk.specs.Beside.{Moves}
 use Rattle.legal_walk.specs.Going.{AllGo, GoesAt, begins_with, ongoing_in}
-use Rattle.legal_walk.specs.Items.{after_does, after_item, after_stopped, begins, commits_from, does_hold, item_holds_here, may_stop, standing, stopped_holds}
+use Rattle.legal_walk.specs.Items.{after_does, after_item, after_stopped, begins, does_hold, item_holds_here, reaches, standing, stopped_holds}
 use Rattle.legal_walk.specs.Moving.{entered_at, may_block, stopped_at}
 use Rattle.legal_walk.specs.Trying.{commits_with}
 use Rattle.legal_walk.specs.Walks.{Walks}
@@ -74,33 +74,24 @@ begun_so base walk old session settings one new is put walks = record {
 
 -- ---- a call that met a block
 
-pub stop_is : (walk : Walk) (session : SessionId) (replay : Bool) (called : Call) (commits block : Bool) (next : Ltxid) → commits ≡ has_commit called → commits ≡ true → replay ≡ false → next ≡ next_of walk session → block ≡ may_block walk next
-    → block ≡ may_stop walk session replay called
-stop_is walk session replay called commits block next told commit unmarked comes blocks =
-    blocks ∙ ap (may_block walk) comes
-    ∙ sym (ap (λ b. b && (not replay && may_block walk (next_of walk session))) (sym told ∙ commit) ∙ ap (λ b. not b && may_block walk (next_of walk session)) unmarked)
-
-and_last : (a b c d : Bool) → ((a && (b && c)) && d) ≡ (a && (b && (c && d)))
-and_last true true c d = refl
-and_last true false c d = refl
-and_last false b c d = refl
-
 module _ (base : Base) (walk : Walk) (old : Walker) (walks : Walks base walk old) (now : ℕ) (session : SessionId) (called : Call) where
-  pub commits_is : (going : OnWay) (asked : List DrawKind) (numbers : Numbers) → going ≡ probed (ongoing_in old.sessions session).going → asked ≡ asked_by_call called
-      → meets_with (commits_with old.service.tables old.service.names going called) now asked numbers ≡ commits_from base walk now session called numbers
-  commits_is going asked numbers probe kinds =
+  pub reaches_is : (going : OnWay) (asked : List DrawKind) → going ≡ probed (ongoing_in old.sessions session).going → asked ≡ asked_by_call called
+      → meets_with (commits_with old.service.tables old.service.names going called) now asked old.service.numbers ≡ reaches base walk now session called
+  reaches_is going asked probe kinds =
       let here = ongoing_in old.sessions session in
       let same : (draws : List Draw) → commits_with old.service.tables old.service.names going called draws ≡ means_commit (meaning base walk session called draws) =
       λ draws. ap (λ (g : OnWay). commits_with old.service.tables old.service.names g called draws) probe
       ∙ sym (ap means_commit (meaning_is base walk old.service session here called draws walks.beside (walks.sessions session).goes)) in
-      ap (λ (test : List Draw → Bool). meets_with test now asked numbers) (fun_ext same)
-      ∙ ap (λ (kinds : List DrawKind). meets_with (λ draws. means_commit (meaning base walk session called draws)) now kinds numbers) kinds
+      ap (λ (test : List Draw → Bool). meets_with test now asked old.service.numbers) (fun_ext same)
+      ∙ ap (λ (kinds : List DrawKind). meets_with (λ draws. means_commit (meaning base walk session called draws)) now kinds old.service.numbers) kinds
+      ∙ ap (λ (numbers : Numbers). meets_with (λ draws. means_commit (meaning base walk session called draws)) now (asked_by_call called) numbers) (sym walks.beside.numbers)
 
-  pub may_is : (replay stop : Bool) → stop ≡ may_stop walk session replay called → (stop && commits_from base walk now session called old.service.numbers) ≡ may_be_blocked base walk now session replay called
-  may_is replay stop stops =
-      ap (λ b. b && commits_from base walk now session called old.service.numbers) stops
-      ∙ ap (λ (numbers : Numbers). may_stop walk session replay called && commits_from base walk now session called numbers) (sym walks.beside.numbers)
-      ∙ and_last (has_commit called) (not replay) (may_block walk (next_of walk session)) (commits_from base walk now session called walk.numbers)
+  pub may_is : (replay commits block : Bool) (next : Ltxid) → commits ≡ has_commit called → commits ≡ true → replay ≡ false → next ≡ next_of walk session → block ≡ may_block walk next
+      → (block && reaches base walk now session called) ≡ may_be_blocked base walk now session replay called
+  may_is replay commits block next told commit unmarked comes blocks =
+      ap (λ b. b && reaches base walk now session called) (blocks ∙ ap (may_block walk) comes)
+      ∙ sym (ap (λ b. b && (not replay && (may_block walk (next_of walk session) && reaches base walk now session called))) (sym told ∙ commit)
+      ∙ ap (λ b. not b && (may_block walk (next_of walk session) && reaches base walk now session called)) unmarked)
 
 -- ---- a call that was stopped
 
@@ -163,14 +154,16 @@ stops base walk now session replay called told between new step moves = (
 
 -- ---- behind the opening
 
-pub enters_so : (base : Base) (walk : Walk) (old : Walker) (session : SessionId) (new : Service) → Moves old.service (λ w. entered_at w session) new → Walks base walk old → Walks base (entered_at walk session) (record old { service = new })
-enters_so base walk old session new moves walks = moved base walk old (λ w. entered_at w session) new moves (entered_sessions walk session) walks
+module _ (base : Base) (walk : Walk) (old : Walker) (session : SessionId) (new : Service) (moves : Moves old.service (λ w. entered_at w session) new) (walks : Walks base walk old) where
+  pub enters_so : Walks base (entered_at walk session) (record old { service = new })
+  enters_so = moved base walk old (λ w. entered_at w session) new moves (entered_sessions walk session) walks
 
-module _ (base : Base) (walk : Walk) (now : ℕ) (session : SessionId) (thing : Thing) where
-  pub comes_not : (after : Walker) → false ≡ is_of_now walk session
-      → (false ≡ item_holds_here base walk (Did 0 now session thing)) × (IsTrue false → Walks base (after_item base walk (Did 0 now session thing)) after)
-  comes_not after apart = (ap (λ b. b && does_hold base walk now session thing) apart, λ is. absurd (false≢true is))
+  module _ (now : ℕ) (thing : Thing) where
+    pub enters_not : (after : Walker) → false ≡ is_of_now (entered_at walk session) session
+        → (false ≡ item_holds_here base walk (Did 0 now session thing)) × (IsTrue false → Walks base (after_item base walk (Did 0 now session thing)) after)
+    enters_not after apart = (ap (λ b. b && does_hold base (entered_at walk session) now session thing) apart, λ is. absurd (false≢true is))
 
-  pub comes_does : (told : Bool) (after : Walker) → true ≡ is_of_now walk session → Does base walk now session thing told after
-      → (told ≡ item_holds_here base walk (Did 0 now session thing)) × (IsTrue told → Walks base (after_item base walk (Did 0 now session thing)) after)
-  comes_does told after of_now step = (step.0 ∙ ap (λ b. b && does_hold base walk now session thing) of_now, step.1)
+    pub enters_does : (told : Bool) (after : Walker) → true ≡ is_of_now (entered_at walk session) session
+        → (told ≡ does_hold base (entered_at walk session) now session thing) × (IsTrue told → Walks base (after_does base (entered_at walk session) now session thing) after)
+        → (told ≡ item_holds_here base walk (Did 0 now session thing)) × (IsTrue told → Walks base (after_item base walk (Did 0 now session thing)) after)
+    enters_does told after of_now step = (step.0 ∙ ap (λ b. b && does_hold base (entered_at walk session) now session thing) of_now, step.1)

@@ -1,6 +1,6 @@
 -- An item of the walk, as the code takes it apart.
-use Rattle.std.specs.Prelude.{◌&&◌, ◌-◌, not, ℕ, Bool, [], Option, None, if◌then◌else◌}
-use Rattle.std.specs.Option.{option_map, option_map_or}
+use Rattle.std.specs.Prelude.{◌&&◌, not, ℕ, Bool, [], Option, None, if◌then◌else◌}
+use Rattle.std.specs.Option.{option_map_or}
 use Rattle.std.specs.Borrow.{Bor}
 use Rattle.svc_values.specs.declared.call.Call.{Call}
 use Rattle.svc_values.specs.declared.entry.Piece.{Piece}
@@ -11,20 +11,16 @@ use Rattle.stmt_meaning.specs.meaning.Asked.{asked_by_call}
 use Rattle.server_model.specs.meaning.Base.{Base}
 use Rattle.server_model.specs.meaning.Items.{Item, Thing}
 use Rattle.server_model.specs.meaning.Legal.{deed_holds, item_holds, means_commit, thing_holds}
-use Rattle.server_model.specs.meaning.NewValues.{Numbers, meets_with}
-use Rattle.server_model.specs.meaning.Walk.{Deed, Walk, after, after_deed, after_thing, begun, deed, deed_of, if_nothing, meaning, next_of, performed_by, performed_if, stands, with_transaction}
-use Rattle.legal_draws.specs.Doubting.{at_most}
-use Rattle.legal_walk.specs.Moving.{may_block}
+use Rattle.server_model.specs.meaning.NewValues.{meets_with}
+use Rattle.server_model.specs.meaning.Walk.{Deed, Walk, after, after_deed, after_thing, begun, deed, deed_of, entered, if_nothing, meaning, next_of, performed_by, performed_if, stands, with_transaction}
 
 -- ---- an item
 
--- on a walk behind the opening of the item
-
 abbrev pub item_holds_here : Base → Walk → Item → Bool
-item_holds_here base walk item = item_holds base walk item (deed_of base walk item)
+item_holds_here base walk item = item_holds base (entered walk item) item (deed_of base (entered walk item) item)
 
 abbrev pub after_item : Base → Walk → Item → Walk
-after_item base walk item = after base walk item (deed_of base walk item)
+after_item base walk item = after base (entered walk item) item (deed_of base (entered walk item) item)
 
 -- ---- what a session did in the opening of now
 
@@ -61,14 +57,5 @@ after_stopped base walk now session replay called =
 
 -- ---- a call that met a block
 
--- a commit without the mark, under an identifier that is or may be blocked
-abbrev pub may_stop : Walk → SessionId → Bool → Call → Bool
-may_stop walk session replay called = has_commit called && (not replay && may_block walk (next_of walk session))
-
--- with some new values from these numbers on it reaches its commit
-abbrev pub commits_from : Base → Walk → ℕ → SessionId → Call → Numbers → Bool
-commits_from base walk now session called numbers = meets_with (λ draws. means_commit (meaning base walk session called draws)) now (asked_by_call called) numbers
-
--- what may still be tried behind so many ways, if no more are in doubt
-abbrev pub left_by : ℕ → ℕ → Option ℕ
-left_by left doubts = option_map (λ ways. left - ways) (at_most left doubts)
+abbrev pub reaches : Base → Walk → ℕ → SessionId → Call → Bool
+reaches base walk now session called = meets_with (λ draws. means_commit (meaning base walk session called draws)) now (asked_by_call called) walk.numbers

@@ -7,7 +7,5 @@ pub mod Judging
 pub mod Moving
 pub mod Starting
 pub mod Stored
-pub mod Told
 pub mod Trying
 pub mod Walks
-pub mod meaning

@@ -4,7 +4,6 @@
 mod alone;
 mod attempt;
 mod counts;
-mod doubts;
 mod judging;
 mod ledger;
 mod ongoing;
@@ -18,4 +17,4 @@ mod walk;
 mod walker;
 
 pub use start::Start;
-pub use walk::{Walked, first_unlawful};
+pub use walk::{Unlawful, first_unlawful};

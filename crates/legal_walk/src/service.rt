@@ -10,7 +10,7 @@ ghost use Rattle.server_model.specs.meaning.Legal.{all_stored, draws_hold, is_of
 ghost use Rattle.server_model.specs.meaning.Walk.{Walk, if_commits, if_uncommitted, next_of, stopped, walk_of, with_numbers, with_perhaps};
 ghost use Rattle.shown_clauses.specs.meaning.Things.{outcome_of};
 ghost use Rattle.legal_walk.specs.Beside.{Beside, Moves};
-ghost use Rattle.legal_walk.specs.Items.{may_stop, standing};
+ghost use Rattle.legal_walk.specs.Items.{standing};
 ghost use Rattle.legal_walk.specs.Moving.{entered_at, may_block, passed, performed_as, stopped_at};
 ghost use Rattle.legal_walk.specs.Starting.{IsStart};
 
@@ -135,23 +135,11 @@ impl<'a> Service<'a> {
     }
 
     /// Whether an identifier is blocked, or may be.
-    fn may_block(&self, ltxid: &Ltxid) -> bool
+    pub(crate) fn may_block(&self, ltxid: &Ltxid) -> bool
         ensures { (base : Base) (walk : Walk) → Beside base walk self.now
             → result ≡ may_block walk ltxid.now }
     {
         self.blocked.has(ltxid) || self.perhaps.has(ltxid)
-    }
-
-    /// Whether a block may stop a call: it is a commit without the mark, and the identifier that
-    /// its session commits under next is or may be blocked.
-    pub(crate) fn may_stop(&self, session: &SessionId, replay: bool, call: &Call) -> bool
-        ensures { (base : Base) (walk : Walk) → Beside base walk self.now
-            → result ≡ may_stop walk session.now replay call.now }
-    {
-        if !call.has_commit() || replay {
-            return false;
-        }
-        self.may_block(&self.next_of(session))
     }
 
     /// The outcome of an identifier was told: one that is told uncommitted is blocked.

@@ -2,10 +2,10 @@
 ghost use Rattle.std.specs.Prelude.{◌≡◌, Some, IfOk, OnOk};
 ghost use Rattle.server_model.specs.meaning.Base.{Base};
 ghost use Rattle.server_model.specs.meaning.Legal.{all_stored, deed_holds, may_be_blocked};
-ghost use Rattle.server_model.specs.meaning.Walk.{Walk, after_deed, deed, entered, walk_of};
+ghost use Rattle.server_model.specs.meaning.Walk.{Walk, after_deed, deed, walk_of};
 ghost use Rattle.server_model.specs.meaning.Items.{Did};
 ghost use Rattle.plain_items.specs.Views.{item_as, thing_as};
-ghost use Rattle.legal_walk.specs.Items.{after_does, after_item, after_stopped, begins, commits_from, does_hold, item_holds_here, settings_in, stopped_holds};
+ghost use Rattle.legal_walk.specs.Items.{after_does, after_item, after_stopped, begins, does_hold, item_holds_here, reaches, settings_in, stopped_holds};
 ghost use Rattle.legal_walk.specs.Moving.{performed_as};
 ghost use Rattle.legal_walk.specs.Starting.{IsStart};
 ghost use Rattle.legal_walk.specs.Walks.{IsWalked, Steps, Walks};
@@ -16,7 +16,7 @@ use crate::performed::Performed;
 use crate::service::Service;
 use crate::sessions::Sessions;
 use crate::start::Start;
-use legal_draws::{Numbers, asked_by_call, meets_with};
+use legal_draws::{asked_by_call, meets_with};
 use plain_items::{Item, Thing};
 use std::alloc::Global;
 use svc_values::{Call, Entry, NoMemory, SessionId, Settings, TryCopy};
@@ -24,8 +24,8 @@ use svc_values::{Call, Entry, NoMemory, SessionId, Settings, TryCopy};
 /// What the items so far tell: what all sessions share, and the transaction of each.
 #[derive(Drop)]
 pub(crate) struct Walker<'a> {
-    pub(crate) alloc: Global,
-    pub(crate) service: Service<'a>,
+    alloc: Global,
+    service: Service<'a>,
     sessions: Sessions,
 }
 
@@ -70,22 +70,7 @@ impl<'a> Walker<'a> {
         self.service.ledger.taken()
     }
 
-    /// The next item comes: behind the opening of its session, where it is a later one.
-    pub(crate) fn enter(&mut self, item: &Item<'a>) -> Result<(), NoMemory>
-        ensures { OnOk result ((base : Base) (walk : Walk) → Walks base walk self.old
-            → Walks base (entered walk (item_as item.entry.now)) self.new) }
-    {
-        match item {
-            Item::Did { session, .. } => {
-                self.service.enter(session)?;
-                Ok(())
-            }
-            Item::AskTold { .. } => Ok(()),
-        }
-    }
-
-    /// Takes the item that came: whether it holds. Behind one that does not the walk is of no more
-    /// use.
+    /// Takes the next item: whether it holds. Behind one that does not the walk is of no more use.
     pub(crate) fn step(&mut self, item: &Item<'a>) -> Result<bool, NoMemory>
         requires { IsWalked self.old }
         ensures { IfOk result (λ holds. Steps self.old
@@ -98,7 +83,7 @@ impl<'a> Walker<'a> {
                 session,
                 thing,
                 ..
-            } => self.comes(*now, session, thing),
+            } => self.enters(*now, session, thing),
             Item::AskTold { ltxid, told, .. } => {
                 self.service.tell(ltxid, told)?;
                 Ok(true)
@@ -107,7 +92,7 @@ impl<'a> Walker<'a> {
     }
 
     /// What a session did, behind its opening.
-    fn comes(&mut self, now: u64, session: &SessionId, thing: &Thing<'a>) -> Result<bool, NoMemory>
+    fn enters(&mut self, now: u64, session: &SessionId, thing: &Thing<'a>) -> Result<bool, NoMemory>
         requires { IsWalked self.old }
         ensures { IfOk result (λ holds. Steps self.old
             (λ base walk. item_holds_here base walk
@@ -115,6 +100,7 @@ impl<'a> Walker<'a> {
             (λ base walk. after_item base walk (Did 0 now session.now (thing_as thing.entry.now)))
             holds self.new) }
     {
+        self.service.enter(session)?;
         if !self.service.is_of_now(session) {
             return Ok(false);
         }
@@ -226,23 +212,20 @@ impl<'a> Walker<'a> {
         ensures { IfOk result (λ may. (base : Base) (walk : Walk) → Walks base walk self.now
             → may ≡ may_be_blocked base walk now session.now replay call.now) }
     {
-        if !self.service.may_stop(session, replay, call) {
+        if !call.has_commit() || replay {
             return Ok(false);
         }
-        self.commits_from(now, session, call, &self.service.numbers)
+        if !self.service.may_block(&self.service.next_of(session)) {
+            return Ok(false);
+        }
+        self.reaches_commit(now, session, call)
     }
 
-    /// Whether with some new values from these numbers on a call reaches its commit.
-    pub(crate) fn commits_from(
-        &self,
-        now: u64,
-        session: &SessionId,
-        call: &Call,
-        numbers: &Numbers,
-    ) -> Result<bool, NoMemory>
+    /// Whether with some new values a call reaches its commit.
+    fn reaches_commit(&self, now: u64, session: &SessionId, call: &Call) -> Result<bool, NoMemory>
         requires { IsWalked self.now }
         ensures { IfOk result (λ met. (base : Base) (walk : Walk) → Walks base walk self.now
-            → met ≡ commits_from base walk now session.now call.now numbers.now) }
+            → met ≡ reaches base walk now session.now call.now) }
     {
         let going = self.sessions.probe(session)?;
         let asked = asked_by_call(self.alloc, call)?;
@@ -253,7 +236,13 @@ impl<'a> Walker<'a> {
             going: &going,
             call,
         };
-        let met = meets_with(self.alloc, &attempt, now, asked.as_slice(), numbers)?;
+        let met = meets_with(
+            self.alloc,
+            &attempt,
+            now,
+            asked.as_slice(),
+            &self.service.numbers,
+        )?;
         Ok(met)
     }
 

@@ -11,8 +11,7 @@ abbrev pub ended : List ℕ → List ℕ
 ended line = line ++ 10 ∷ []
 
 -- Of an answer nothing is told; of what is no document the code's number and the path to the value
--- at fault; of a report the first clause that is false, and the path to its place, or that it is
--- undecided, and the path to where more would have to be tried.
+-- at fault; of a report the first clause that is false, and the path to its place.
 abbrev pub line_of : Status → List ℕ
 line_of status.Done = []
 line_of status.NoMemory = ended (codes "continuity: no memory")
@@ -21,4 +20,3 @@ line_of status.Read = ended (codes "continuity: read")
 line_of status.Write = ended (codes "continuity: write")
 line_of (status.Document code path) = ended (codes "continuity: document: " ++ decimal (number_of code) ++ codes " at " ++ path)
 line_of (status.No one path) = ended (codes "continuity: check: " ++ word_of one ++ codes " at " ++ path)
-line_of (status.Undecided path) = ended (codes "continuity: check: undecided at " ++ path)

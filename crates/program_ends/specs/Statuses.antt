@@ -11,4 +11,3 @@ number_of status.Read = 3
 number_of status.Write = 4
 number_of (status.Document code path) = 5
 number_of (status.No one path) = 6
-number_of (status.Undecided path) = 7

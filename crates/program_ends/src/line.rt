@@ -32,10 +32,6 @@ impl fmt::Display for Line<'_> {
                 let path = path.as_str();
                 writeln!(f, "continuity: check: {clause} at {path}")
             }
-            Status::Undecided { path } => {
-                let path = path.as_str();
-                writeln!(f, "continuity: check: undecided at {path}")
-            }
         }
     }
 }

@@ -4,7 +4,7 @@ ghost use Rattle.std.specs.Prelude.{◌≡◌};
 use crate::clause::Clause;
 use json_form::{DocCode, Pointer};
 
-/// How a run ended. The numbers 0 to 7 are the program's exit status, in this order.
+/// How a run ended. The numbers 0 to 6 are the program's exit status, in this order.
 #[derive(Debug, Drop)]
 pub enum Status {
     /// What was read was read to its end, and the sink took the text of the command.
@@ -23,9 +23,6 @@ pub enum Status {
     /// This clause of the report is the first that is false. The path leads from the report to the
     /// place.
     No { clause: Clause, path: Pointer },
-    /// The clauses before `Legal` hold, and what was served leaves more in doubt than is tried. The
-    /// path leads from the report to the item at which more would have to be.
-    Undecided { path: Pointer },
 }
 
 impl Status {
@@ -43,7 +40,6 @@ impl Status {
             Status::Write => 4,
             Status::Document { .. } => 5,
             Status::No { .. } => 6,
-            Status::Undecided { .. } => 7,
         }
     }
 }

@@ -6,7 +6,7 @@ ghost use Rattle.report_check.specs.Judged.{IsJudged};
 
 use entry_check::{judge_once, judge_same};
 use json_form::Pointer;
-use legal_check::{Judged, judge_legal};
+use legal_check::judge_legal;
 use outage_schedule::{Document, Report};
 use program_ends::Clause;
 use serial_check::laws::{fresh_is_placed, serial_is_placed};
@@ -19,15 +19,12 @@ use whole_check::judge_whole;
 /// Whether each clause that is judged holds.
 #[derive(Debug, Drop)]
 pub enum Verdict {
-    /// Each holds, and what was served leaves no more in doubt than is tried.
+    /// Each holds.
     Yes,
-    /// This one is the first that does not, and no more is left in doubt than is tried. The path is
-    /// a JSON Pointer (RFC 6901) from the report to the place where it fails: of `Serial` and
-    /// `Fresh` it is promised that it is the first such place.
+    /// This one is the first that does not. The path is a JSON Pointer (RFC 6901) from the report
+    /// to the place where it fails: of `Serial` and `Fresh` it is promised that it is the first
+    /// such place.
     No { clause: Clause, path: Pointer },
-    /// The clauses before `Legal` hold, and what was served leaves more in doubt than is tried. The
-    /// path leads from the report to the item at which more would have to be.
-    Undecided { path: Pointer },
 }
 
 /// Judges a report with its document. A later clause is looked at only where those before it hold.
@@ -45,10 +42,8 @@ pub fn judge(alloc: Global, document: &Document, report: &Report) -> Result<Verd
     if let Some(path) = judge_fresh(alloc, report)? {
         return Ok(against(Clause::Fresh, path));
     }
-    match judge_legal(alloc, document, report)? {
-        Judged::Right => {}
-        Judged::Wrong(path) => return Ok(against(Clause::Legal, path)),
-        Judged::Undecided(path) => return Ok(Verdict::Undecided { path }),
+    if let Some(path) = judge_legal(alloc, document, report)? {
+        return Ok(against(Clause::Legal, path));
     }
     if let Some(path) = judge_once(alloc, document, report)? {
         return Ok(against(Clause::Once, path));

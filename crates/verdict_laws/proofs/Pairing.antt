@@ -1,5 +1,5 @@
 -- A document and its report are read of the object that has both.
-use Rattle.std.proofs.Common.{◌≡◌, ℕ, List, Bool, true, false, ◌⊎◌, inl, inr, Option, Some, None, is_some, Result, Ok, Err, refl, sym, subst, ap, ◌∙◌, codes}
+use Rattle.std.proofs.Common.{◌≡◌, ℕ, List, Bool, true, false, Option, Some, None, is_some, Result, Ok, Err, refl, sym, subst, ap, ◌∙◌, codes}
 use Rattle.serde_json.specs.Data.{Data}
 use Rattle.json_form.specs.meaning.Objects.{required}
 use Rattle.outage_schedule.specs.declared.document.Document.{Document}
@@ -8,12 +8,11 @@ use Rattle.doc_reader.specs.meaning.Documents.{document_of}
 use Rattle.report_reader.specs.meaning.Reports.{report_of}
 use Rattle.report_text.specs.meaning.Report.{report_value}
 use Rattle.report_text.specs.Laws.{shown_report}
-use Rattle.report_check.specs.meaning.Pairs.{pair_of, pair_at}
-use Rattle.continuity_run.specs.meaning.Check.{IsRight, LeavesDoubt}
+use Rattle.report_check.specs.meaning.Pairs.{pair_of}
 use Rattle.continuity_run.specs.meaning.Headline.{image_if}
 use Rattle.json_form.proofs.Offered.{ok_is}
 use Rattle.json_form.specs.meaning.Faults.{Fault, ◌>>=◌, within}
-use Rattle.report_check.specs.meaning.Verdicts.{first_false, undecided}
+use Rattle.report_check.specs.meaning.Verdicts.{first_false}
 use Rattle.form_laws.specs.Laws.{ReportsHaveTheForm}
 use Rattle.reading_laws.specs.Laws.{ReadsNothingElse, ReadsWhatIsWritten}
 use Rattle.reading_laws.specs.Reports.{IsOfForm}
@@ -32,14 +31,6 @@ abbrev found : Option Data → Data
 found None = Data.null
 found (Some d) = d
 
--- of a report of which each clause holds it is decided, or it leaves more in doubt than is tried
-right_or_in_doubt : (bytes : List ℕ) (document : Document) (report : Report) → pair_at bytes ≡ Ok (document, report) → first_false document report ≡ None → IsRight bytes ⊎ LeavesDoubt bytes
-right_or_in_doubt bytes document report accepted right = by (undecided document report) refl
-  where
-    by : (doubt : Bool) → undecided document report ≡ doubt → IsRight bytes ⊎ LeavesDoubt bytes
-    by false is = inl (record { document = document; report = report; accepted = accepted; decided = is; right = right })
-    by true is = inr (record { document = document; report = report; accepted = accepted; doubt = is })
-
 pub runs_checked : ReadsWhatIsWritten → ReportsHaveTheForm → RunsAreRight → RunsAreCheckedRight
 runs_checked back forms right first text bytes answer pair apart =
     let document = answer.document in
@@ -51,8 +42,12 @@ runs_checked back forms right first text bytes answer pair apart =
     let value : report_value r ≡ pair.report = ap found (sym answer.told.reads ∙ pair.reads) in
     let report : report_of document pair.report ≡ Ok (shown_report r) =
     subst (λ (d : Data). report_of document d ≡ Ok (shown_report r)) value (back document r form image) in
-    right_or_in_doubt bytes document (shown_report r)
-    (ap (λ given. given >>= pair_of) pair.pair ∙ pair_read pair.document pair.report document (shown_report r) front report) (right document r headline apart)
+    record {
+      document = document;
+      report = shown_report r;
+      accepted = ap (λ given. given >>= pair_of) pair.pair ∙ pair_read pair.document pair.report document (shown_report r) front report;
+      right = right document r headline apart;
+    }
 
 -- ---- whatever the form
 

@@ -1,5 +1,5 @@
 -- What `check` says of what `run` prints.
-use Rattle.std.specs.Prelude.{◌≡◌, ◌⊎◌, ℕ, List, [], ◌∷◌, IsTrue, Some, None, Ok, codes}
+use Rattle.std.specs.Prelude.{◌≡◌, ℕ, List, [], ◌∷◌, IsTrue, Some, None, Ok, codes}
 use Rattle.serde_json.specs.Data.{Data}
 use Rattle.serde_json.specs.Read.{read}
 use Rattle.json_form.specs.meaning.Texts.{json_at}
@@ -13,7 +13,7 @@ use Rattle.program_ends.specs.declared.clause.Clause.{Clause}
 use Rattle.report_check.specs.meaning.Pairs.{check_limit}
 use Rattle.report_check.specs.meaning.Verdicts.{first_false}
 use Rattle.continuity_run.specs.declared.answer.Telling.TheVariants as telling
-use Rattle.continuity_run.specs.meaning.Check.{IsRight, IsWrong, LeavesDoubt}
+use Rattle.continuity_run.specs.meaning.Check.{IsRight, IsWrong}
 use Rattle.continuity_run.specs.meaning.Clauses.{IsAnswer}
 use Rattle.continuity_run.specs.meaning.Headline.{Headline}
 
@@ -41,9 +41,7 @@ RunsAreNeverDenied =
     (first text bytes : List ℕ) (answer : IsAnswer telling.Report first text) → IsPairOf first text bytes → IsTrue (no_clash answer.document answer.told.report)
     → (one : Clause) (path : List ℕ) → IsWrong bytes one path → ⊥
 
--- It is right, or leaves more in doubt than is tried, where no two answers that were compared have
--- one digest by chance.
+-- It is right, where no two answers that were compared have one digest by chance.
 abbrev pub RunsAreCheckedRight : Type 0
 RunsAreCheckedRight =
-    (first text bytes : List ℕ) (answer : IsAnswer telling.Report first text) → IsPairOf first text bytes → IsTrue (no_clash answer.document answer.told.report)
-    → IsRight bytes ⊎ LeavesDoubt bytes
+    (first text bytes : List ℕ) (answer : IsAnswer telling.Report first text) → IsPairOf first text bytes → IsTrue (no_clash answer.document answer.told.report) → IsRight bytes

@@ -20,7 +20,7 @@ pub fn runs_are_never_denied()
     runs_are_right();
 }
 
-/// It says yes where it is not undecided: the report is of the form that is read.
+/// It says yes: the report is of the form that is read.
 pub fn runs_are_checked_right()
     ensures { RunsAreCheckedRight }
 {

@@ -31,10 +31,6 @@ CODES = """# How a run ends
 | Clause | Says | Place |
 |---|---|---|
 | `fresh` | no value twice | the piece |
-
-| Answer | Says | Place | Then |
-|---|---|---|---|
-| `undecided` | more is in doubt | the item | run it |
 """
 REPORT = """# The report
 
@@ -101,7 +97,7 @@ class OfSmallPages(unittest.TestCase):
     def test_a_word_that_no_page_has_is_told_with_those_that_have_one(self):
         status, out, err = told(self.docs, "show")
         self.assertEqual((status, out), (2, ""))
-        self.assertIn("Words: 1, 2, 3, 5, 7, disabled, fresh, full, mismatch, off, statelost, undecided", err)
+        self.assertIn("Words: 1, 2, 3, 5, 7, disabled, fresh, full, mismatch, off, statelost", err)
 
     def test_one_line_of_a_code(self):
         line = "continuity: 7: a name twice; see docs/CODES.md\n"
@@ -113,11 +109,6 @@ class OfSmallPages(unittest.TestCase):
         self.assertEqual(told(self.docs, "--line", "fresh"), (0, line, ""))
         self.assertEqual(told(self.docs, "--line", "disabled")[0], 2)
 
-    def test_one_line_of_an_answer(self):
-        line = "continuity: undecided: more is in doubt; see docs/CODES.md\n"
-        self.assertEqual(told(self.docs, "--line", "undecided"), (0, line, ""))
-        self.assertIn("Says: more is in doubt\nPlace: the item\nThen: run it\n", told(self.docs, "undecided")[1])
-
     def test_pages_that_are_not_there(self):
         (self.docs / "REPORT.md").unlink()
         self.assertEqual(told(self.docs, "3")[0], 2)
@@ -125,7 +116,7 @@ class OfSmallPages(unittest.TestCase):
 
 class OfThePages(unittest.TestCase):
     def test_each_code_and_each_clause_has_its_line(self):
-        for word in [*range(1, 10), 11, "serial", "fresh", "legal", "once", "same", "stored", "whole", "undecided"]:
+        for word in [*range(1, 10), 11, "serial", "fresh", "once", "same", "stored"]:
             with self.subTest(word):
                 status, out, _ = told(explain.DOCS, "--line", str(word))
                 self.assertEqual(status, 0)

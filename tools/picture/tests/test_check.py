@@ -70,7 +70,6 @@ class Answers(unittest.TestCase):
             (0, b"yes\n", "", YES),
             (6, b"", "continuity: check: serial at /entries/0/pieces/1", Answer("serial", "/entries/0/pieces/1")),
             (6, b"", "continuity: check: stored at /blocked\ncontinuity: stored: each", Answer("stored", "/blocked")),
-            (7, b"", "continuity: check: undecided at /served/3", Answer("undecided", "/served/3")),
             (5, b"", "continuity: document: 11 at /report/alerts", Answer("11", "/report/alerts", True)),
             (5, b"", "continuity: document: 2 at ", Answer("2", "", True)),
         ):
@@ -79,8 +78,7 @@ class Answers(unittest.TestCase):
 
     def test_what_is_no_answer(self):
         for status, printed, told in ((1, b"", "continuity: no memory"), (0, b"", ""), (0, b"no\n", ""), (70, b"", "rt"),
-                                      (5, b"", "continuity: check: once at /"), (6, b"", "continuity: document: 2 at "),
-                                      (6, b"", "continuity: check: undecided at /"), (7, b"", "continuity: check: once at /")):
+                                      (5, b"", "continuity: check: once at /"), (6, b"", "continuity: document: 2 at ")):
             why = f"check gave no answer: the program ended with {status}"
             with self.subTest(told=told), self.assertRaisesRegex(Misfit, why):
                 answer_of(Ended(status, printed, told))
@@ -89,9 +87,6 @@ class Answers(unittest.TestCase):
         for word, means in CLAUSES.items():
             self.assertIn(f"check: {word} is false at /blocked", said(checked(CUT, Answer(word, "/blocked"))[1]))
             self.assertIn(means, said(checked(CUT, Answer(word, "/blocked"))[1]))
-        undecided = said(checked(CUT, Answer("undecided", "/served/3"))[1])
-        self.assertIn("check: undecided at /served/3", undecided)
-        self.assertIn("are in doubt than are tried", undecided)
         for code, path, words in (
             ("11", "/report/alerts", "no report of this document (code 11) at /report/alerts. It cannot have this value"),
             ("7", "/document/clients/0", "a faulty document (code 7) at /document/clients/0 (client 1). ./continuity explain 7"),

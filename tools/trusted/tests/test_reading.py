@@ -28,9 +28,6 @@ IsDone report = Headline report
 
 abbrev pub IsDenied : Report → Type 0
 IsDenied report = ⊥
-
-abbrev pub IsLeftInDoubt : Report → Type 0
-IsLeftInDoubt report = ⊥
 """,
     "crates/below/specs/Words.antt": """-- a test
 abbrev pub is_good : Report → Bool
@@ -58,7 +55,6 @@ unused = 3
 HEADLINE = "Headline: 5 definitions of 15 lines in 2 files"
 DONE = "IsDone: 6 definitions of 17 lines in 3 files"
 DENIED = "IsDenied: 1 definitions of 2 lines in 1 files"
-DOUBT = "IsLeftInDoubt: 1 definitions of 2 lines in 1 files"
 
 
 class Reading(unittest.TestCase):
@@ -78,7 +74,7 @@ class Reading(unittest.TestCase):
         return status, out.getvalue().splitlines(), err.getvalue()
 
     def test_counts_what_is_reached(self):
-        self.assertEqual(self.told(), (0, [HEADLINE, DONE, DENIED, DOUBT], ""))
+        self.assertEqual(self.told(), (0, [HEADLINE, DONE, DENIED], ""))
 
     def test_lists_the_files(self):
         status, lines, _ = self.told("--files")
@@ -88,10 +84,10 @@ class Reading(unittest.TestCase):
     def test_compares_a_page(self):
         page = f"{self.top}/page.md"
         with open(page, "w", encoding="utf-8") as file:
-            file.write(f"{HEADLINE}\n{DONE}\n{DENIED}\n{DOUBT}\n")
+            file.write(f"{HEADLINE}\n{DONE}\n{DENIED}\n")
         self.assertEqual(self.told("--check", page), (0, [], ""))
         with open(page, "w", encoding="utf-8") as file:
-            file.write(f"{HEADLINE}\n{DENIED}\n{DOUBT}\n")
+            file.write(f"{HEADLINE}\n{DENIED}\n")
         status, _, told = self.told("--check", page)
         self.assertEqual((status, told), (1, f"{page} does not say: {DONE}\n"))
 

@@ -17,7 +17,7 @@ use Rattle.continuity_run.specs.declared.answer.Telling.{Telling}
 use Rattle.continuity_run.specs.declared.answer.Telling.TheVariants as telling
 use Rattle.command_words.specs.declared.command.Command.{Command}
 use Rattle.command_words.specs.declared.command.Command.TheVariants as command
-use Rattle.continuity_run.specs.meaning.Check.{IsRight, IsWrong, LeavesDoubt, right_text}
+use Rattle.continuity_run.specs.meaning.Check.{IsRight, IsWrong, right_text}
 use Rattle.continuity_run.specs.meaning.Headline.{Headline}
 use Rattle.continuity_run.specs.meaning.Load.{IsLoaded}
 
@@ -82,12 +82,6 @@ pub record IsDenied (left_before left_after : Option (List ℕ)) (one : Clause) 
   pub bytes : List ℕ
   pub read : IsRead check_limit pair_at left_before left_after bytes
   pub wrong : IsWrong bytes one path
-
--- what was read is a document and a report of it, which leaves more in doubt than is tried
-pub record IsLeftInDoubt (left_before left_after : Option (List ℕ)) : Type 0 where
-  pub bytes : List ℕ
-  pub read : IsRead check_limit pair_at left_before left_after bytes
-  pub leaves : LeavesDoubt bytes
 
 -- the document of these numbers was made, and the sink took the line of its report
 pub record LoadIsDone (seed clients requests : ℕ) (held_before held_after : Option (List ℕ)) : Type 0 where

@@ -1,6 +1,6 @@
 -- What is said of a document and its report: the first of the clauses that is false, if one is, and
--- where; or that it is undecided.
-use Rattle.std.specs.Prelude.{◌≡◌, ◌&&◌, Bool, not, List, [], ◌∷◌, ℕ, find, Option, Some}
+-- where.
+use Rattle.std.specs.Prelude.{◌≡◌, Bool, not, List, [], ◌∷◌, ℕ, find, Option, Some}
 use Rattle.outage_schedule.specs.declared.document.Document.{Document}
 use Rattle.outage_schedule.specs.declared.report.Report.{Report}
 use Rattle.run_clauses.specs.meaning.Serial.{serial}
@@ -11,7 +11,6 @@ use Rattle.run_clauses.specs.meaning.Stored.{stored}
 use Rattle.shown_clauses.specs.meaning.Legal.{legal_of}
 use Rattle.shown_clauses.specs.meaning.Whole.{whole}
 use Rattle.serial_check.specs.meaning.Places.{serial_place, fresh_place}
-use Rattle.legal_check.specs.meaning.Undecided.{leaves_doubt}
 use Rattle.program_ends.specs.declared.clause.Clause.{Clause}
 use Rattle.program_ends.specs.declared.clause.Clause.TheVariants as clause
 
@@ -31,10 +30,6 @@ clauses = clause.Serial ∷ clause.Fresh ∷ clause.Legal ∷ clause.Once ∷ cl
 -- None exactly where all of these hold
 abbrev pub first_false : Document → Report → Option Clause
 first_false document report = find (λ one. not (holds document report one)) clauses
-
--- Serial and Fresh hold, and what was served leaves more in doubt than is tried
-abbrev pub undecided : Document → Report → Bool
-undecided document report = serial document report && (fresh report && leaves_doubt document report)
 
 -- it is the first place where the clause fails; of the clauses behind `Fresh` no place is promised
 abbrev pub IsPlace : Document → Report → Clause → List ℕ → Type 0

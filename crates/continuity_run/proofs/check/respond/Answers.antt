@@ -1,4 +1,4 @@
-use Rattle.continuity_run.proofs.Checked.{right_done, right_cut, raised, refused_so, denied_so, undecided_so, replied}
+use Rattle.continuity_run.proofs.Checked.{right_done, right_cut, raised, refused_so, denied_so, replied}
 use Rattle.continuity_run.proofs.check.respond.Goals as goal
 
 pub returns-clause-done : goal.returns-clause-done
@@ -24,11 +24,6 @@ returns-clause-document g c =
 pub returns-clause-denied : goal.returns-clause-denied
 returns-clause-denied g c =
     denied_so c.args.bytes.items c.verdict_on.result c.tell_verdict.result (g.K.Sink.held c.args.sink.now) (g.K.Sink.held c.tell_verdict.new.sink)
-    (g.K.Sink.faults c.args.sink.now) (g.K.Sink.faults c.tell_verdict.new.sink) c.verdict_on.ensures.judged c.verdict_on.ensures.refused c.tell_verdict.ensures.told
-
-pub returns-clause-undecided : goal.returns-clause-undecided
-returns-clause-undecided g c =
-    undecided_so c.args.bytes.items c.verdict_on.result c.tell_verdict.result (g.K.Sink.held c.args.sink.now) (g.K.Sink.held c.tell_verdict.new.sink)
     (g.K.Sink.faults c.args.sink.now) (g.K.Sink.faults c.tell_verdict.new.sink) c.verdict_on.ensures.judged c.verdict_on.ensures.refused c.tell_verdict.ensures.told
 
 pub returns-clause-others : goal.returns-clause-others

@@ -10,6 +10,7 @@ use Rattle.run_clauses.specs.meaning.ServiceBase.{grants_of, service_base}
 use Rattle.plain_items.specs.declared.item.Item.{Item}
 use Rattle.plain_items.specs.Views.{item_as}
 use Rattle.server_model.specs.meaning.Items.{Item as Plain}
+use Rattle.server_model.specs.meaning.Legal.{items_hold}
 use Rattle.server_model.specs.meaning.Walk.{walk_of}
 use Rattle.before_run.specs.Indexes.{indexes_of}
 use Rattle.before_run.proofs.Offered.{indexes_declared}
@@ -18,11 +19,9 @@ use Rattle.table_store.specs.Given.{is_index_of}
 use Rattle.table_store.specs.Stored.{Stored}
 use Rattle.journal_tables.specs.Written.{tables_with}
 use Rattle.legal_walk.specs.Starting.{IsStart}
-use Rattle.legal_walk.specs.Told.{IsTold}
 use Rattle.legal_walk.specs.declared.start.Start.{Start}
-use Rattle.legal_walk.specs.declared.walk.Walked.{Walked}
 use Rattle.legal_check.proofs.Beginning.{base_from, shape_is}
-use Rattle.legal_check.proofs.walked.walk_items.Goals as goal
+use Rattle.legal_check.proofs.walked.wrong_item.Goals as goal
 
 pub indexes_for-requires : goal.indexes_for-requires
 indexes_for-requires c =
@@ -69,9 +68,9 @@ returns c =
       blocked = sym blocked_is;
       incarnation = refl;
     }) in
-    let told_of : Walked → List Entry → List Plain → Type 0 = λ told entries items. IsTold base (walk_of base entries) items told in
     IfOk-weaker c.first_unlawful.result _ _
-    (λ told is.
-    subst (told_of told c.args.report.now.entries) (ap (λ (items : List Item). map item_as items) c.as_slice-8.ensures.value ∙ c.in_ok-plain.ensures)
-    (subst (λ (entries : List Entry). told_of told entries (map item_as c.as_slice-8.result.now)) c.as_slice-7.ensures (is base begins)))
+    (λ one holds. holds base begins
+    ∙ (ap (λ (entries : List Entry). items_hold base (walk_of base entries) (map item_as c.as_slice-8.result.now)) c.as_slice-7.ensures
+    ∙ (ap (λ (items : List Item). items_hold base (walk_of base c.args.report.now.entries) (map item_as items)) c.as_slice-8.ensures.value
+    ∙ ap (λ (items : List Plain). items_hold base (walk_of base c.args.report.now.entries) items) c.in_ok-plain.ensures)))
     c.first_unlawful.ensures

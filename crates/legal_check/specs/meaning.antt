@@ -1,2 +1,0 @@
--- What the program's promise means: all that its definition uses of this crate.
-pub mod Undecided
