@@ -1,4 +1,5 @@
-//! The columns by which tables are indexed while entries run again: those that selects ask often.
+//! The columns by which tables are indexed while calls run again: those that the selects of entries
+//! ask often.
 ghost use Rattle.std.specs.Prelude.{◌≡◌, ◌<◌, length, map, IfOk, IfSome, IsTrue, OnOk};
 ghost use Rattle.std.specs.List.{list_all};
 ghost use Rattle.commit_log.specs.meaning.Bases.{schema_in, schemas_of};
