@@ -19,6 +19,17 @@ pub struct KeptWrite {
     pub synced: bool,
 }
 
+// Makes room for so many bytes, and for as many behind them if it can: a write behind a long one
+// then moves nothing. What is not written to takes no page.
+fn make_room(bytes: &mut Vec<u8>, added: usize) -> Result<(), AllocError>
+    ensures { bytes.new.items ≡ bytes.old.items }
+{
+    match bytes.reserve(added.saturating_mul(2)) {
+        Ok(()) => Ok(()),
+        Err(_) => bytes.reserve(added),
+    }
+}
+
 // Writes, and keeps what the write covered. It takes its memory before it changes anything.
 pub fn put(
     alloc: Global,
@@ -37,6 +48,7 @@ pub fn put(
     let size = bytes.len();
     let overlap = min(new.len(), size - at);
     let covered = bytes[at..at + overlap].to_vec(alloc)?;
+    make_room(bytes, new.len() - overlap)?;
     bytes.extend_from_slice(&new[overlap..])?;
     let entry = KeptWrite {
         at,

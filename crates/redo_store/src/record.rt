@@ -21,6 +21,9 @@ pub const CLOSED: u8 = 0;
 /// How many bytes of a payload one call reads, at most.
 const PIECE: usize = 4096;
 
+/// How many bytes a payload has, at most, that one call reads without clearing a whole piece.
+const SHORT: usize = 256;
+
 /// How many bytes a record has beside its payload: its gate and its length.
 pub const HEAD: u64 = 9;
 
@@ -116,9 +119,30 @@ pub fn payload_at<D: Disk>(
     Ok(Some(payload))
 }
 
+// Reads so many bytes, at most `SHORT`, from the place on, in one call.
+fn read_short<D: Disk>(
+    alloc: Global,
+    disk: &mut D,
+    place: u64,
+    count: usize,
+) -> Result<Vec<u8>, RedoFault>
+    requires within { place + count ≤ length (D.state disk.old).now.seen }
+    requires short { count ≤ 256 }
+    ensures bytes { IfOk result (λ bytes.
+        bytes.items ≡ take count (drop place (D.state disk.old).now.seen)) }
+    ensures whole { (at : ℕ) → IsErrOf result (RedoFault.Damaged at) → ⊥ }
+    ensures only_reads { OnlyReads (IsErrOf result RedoFault.Stopped) (D.state disk.old) (D.state disk.new) }
+{
+    let mut piece = [0; SHORT];
+    let part = &mut piece[..count];
+    disk.read(place, part)?;
+    Ok(part.to_vec(alloc)?)
+}
+
 // Reads so many bytes from the place on, in calls of at most `PIECE` bytes each.
 //
-// The memory for them is taken at once, and each byte is written there once.
+// The memory for them is taken at once, and each byte is written there once. A short record, as
+// most are, does not have the bytes of a whole piece cleared for it.
 fn read_pieces<D: Disk>(
     alloc: Global,
     disk: &mut D,
@@ -131,6 +155,9 @@ fn read_pieces<D: Disk>(
     ensures whole { (at : ℕ) → IsErrOf result (RedoFault.Damaged at) → ⊥ }
     ensures only_reads { OnlyReads (IsErrOf result RedoFault.Stopped) (D.state disk.old) (D.state disk.new) }
 {
+    if 0 < count && count <= SHORT {
+        return read_short(alloc, disk, place, count);
+    }
     let mut bytes = Vec::with_capacity(alloc, count)?;
     let mut piece = [0; PIECE];
     while bytes.len() < count {
