@@ -15,3 +15,5 @@ pub mod Sought
 pub mod Takes
 pub mod Walks
 pub mod Offered
+pub mod Rising
+pub mod Same

@@ -1,15 +1,18 @@
 //! Rows that meet a test.
-ghost use Rattle.std.specs.Prelude.{◌≡◌, ◌&&◌, not, IfOk, OnOk, if◌then◌else◌};
+ghost use Rattle.std.specs.Prelude.{◌≡◌, ◌&&◌, not, IfOk, OnOk, map, if◌then◌else◌};
 ghost use Rattle.std.specs.Option.{option_map, option_or};
 ghost use Rattle.std.specs.Range.Bound.{bound_map};
 ghost use Rattle.svc_values.specs.declared.value.Value.{Value as ValueSeen};
+ghost use Rattle.table_store.specs.Given.{keyed};
 ghost use Rattle.table_store.specs.Indexes.{IsIndexOf, is_spot_of};
 ghost use Rattle.table_store.specs.Rows.{keyed_of, KeysFirst, KeysRise};
 ghost use Rattle.table_store.specs.Selection.{apart_from, at_most_32, is_among, meeting};
 ghost use Rattle.table_store.specs.Selection.{keys_sought as keys_sought_def};
 
 use crate::column_index::{ColumnIndex, Pair, Spot, ends};
+use crate::held::{Form, key_of};
 use crate::row_map::RowMap;
+use crate::sorted_rows::part_between;
 use std::alloc::Global;
 use std::collections::BTreeMap;
 use std::ops::Bound;
@@ -51,8 +54,57 @@ pub(crate) fn found_in(
     ensures found { IfOk result (λ found. option_map (λ rows. rows.entries) found ≡ at_most_32 (apart_from but.now (meeting column test value.now rows.now))) }
     ensures rising { KeysRise rows.now }
 {
+    match rows.form() {
+        Form::Sorted(rows) => found_sorted(alloc, rows, column, test, value, but),
+        Form::Mapped(rows) => found_mapped(alloc, rows, column, test, value, but),
+    }
+}
+
+/// The same of rows in rising order of key.
+fn found_sorted(
+    alloc: Global,
+    rows: &[Row],
+    column: usize,
+    test: Test,
+    value: &Value,
+    but: &BTreeMap<Value, usize>,
+) -> Result<Option<BTreeMap<Value, Row>>, NoMemory>
+    requires { KeysRise (map keyed rows.now) }
+    ensures { IfOk result (λ found. option_map (λ rows. rows.entries) found ≡ at_most_32 (apart_from but.now (meeting column test value.now (map keyed rows.now)))) }
+{
     let mut found = BTreeMap::new(alloc);
-    for (key, row) in rows.as_map().range(keys_sought(column, test, value)) {
+    let (from, to) = keys_sought(column, test, value);
+    for row in part_between(rows, from, to) {
+        if !value_meets(test, value, row.get(column)) {
+            continue;
+        }
+        let key = key_of(alloc, row)?;
+        if but.contains_key(&key) {
+            continue;
+        }
+        if found.len() >= ROW_LIMIT {
+            return Ok(None);
+        }
+        found.insert(key, row.copy(alloc)?)?;
+    }
+    Ok(Some(found))
+}
+
+/// The same of rows by their keys.
+fn found_mapped(
+    alloc: Global,
+    rows: &BTreeMap<Value, Row>,
+    column: usize,
+    test: Test,
+    value: &Value,
+    but: &BTreeMap<Value, usize>,
+) -> Result<Option<BTreeMap<Value, Row>>, NoMemory>
+    requires first { KeysFirst rows.now.entries }
+    requires rising { KeysRise rows.now.entries }
+    ensures { IfOk result (λ found. option_map (λ rows. rows.entries) found ≡ at_most_32 (apart_from but.now (meeting column test value.now rows.now.entries))) }
+{
+    let mut found = BTreeMap::new(alloc);
+    for (key, row) in rows.range(keys_sought(column, test, value)) {
         if value_meets(test, value, row.get(column)) && !but.contains_key(key) {
             if found.len() >= ROW_LIMIT {
                 return Ok(None);
@@ -99,7 +151,7 @@ pub(crate) fn found_by(
     requires { IsIndexOf (keyed_of rows.now) index.now }
     ensures { IfOk result (λ found. option_map (λ rows. rows.entries) found ≡ at_most_32 (apart_from but.now (meeting index.now.column test value.now rows.now))) }
 {
-    let _ = rows.as_map();
+    let _ = rows.form();
     let mut found = BTreeMap::new(alloc);
     for pair in index.pairs.range(ends(alloc, test, value)?) {
         if found.len() > ROW_LIMIT {

@@ -1,19 +1,21 @@
 //! The rows of one table with its indexes.
-ghost use Rattle.std.specs.Prelude.{◌≡◌, None, OnOk, OnErr, IfOk, [], map, if◌then◌else◌};
+ghost use Rattle.std.specs.Prelude.{◌≡◌, ◌&&◌, true, None, OnOk, OnErr, IfOk, [], map, slice_get, if◌then◌else◌};
 ghost use Rattle.std.specs.Map.{update_all, values_of};
 ghost use Rattle.std.specs.Option.{option_copied, option_map};
 ghost use Rattle.std.specs.Ordering.{eq_by_cmp, is_eq};
 ghost use Rattle.svc_values.specs.meaning.Order.{value_cmp};
+ghost use Rattle.svc_values.specs.meaning.Schemas.{key_of as key_of_def};
 ghost use Rattle.svc_values.specs.meaning.Tests.{selected as selected_def};
 ghost use Rattle.svc_values.specs.declared.value.Value.{Value as ValueSeen};
 ghost use Rattle.table_store.specs.Given.{keyed};
-ghost use Rattle.table_store.specs.Indexes.{AreIndexesOf, IsIndexOf, with_row};
+ghost use Rattle.table_store.specs.Indexes.{AreIndexesOf, IsIndexOf, has_pair, is_value, with_row};
 ghost use Rattle.table_store.specs.declared.column_index.ColumnIndex.{ColumnIndex as IndexSeen};
 ghost use Rattle.table_store.specs.Rows.{keyed_of, KeysFirst, KeysRise};
 ghost use Rattle.table_store.specs.Selection.{apart_from, at_most_32, meeting};
 
 use crate::column_index::ColumnIndex;
-use crate::row_map::{RowMap, rows_of};
+use crate::held::{Form, rows_of};
+use crate::row_map::RowMap;
 use crate::select::{found_by, found_in};
 use std::alloc::Global;
 use std::collections::BTreeMap;
@@ -46,8 +48,47 @@ fn index_of(alloc: Global, rows: &RowMap, column: usize) -> Result<ColumnIndex, 
     ensures made { IfOk result (λ made. IsIndexOf (keyed_of rows.now) made) }
     ensures rising { KeysRise rows.now }
 {
+    match rows.form() {
+        Form::Sorted(rows) => index_of_sorted(alloc, rows, column),
+        Form::Mapped(rows) => index_of_mapped(alloc, rows, column),
+    }
+}
+
+/// Puts the key of a row in at its value in the column.
+fn put_key(made: &mut ColumnIndex, row: &Row) -> Result<(), NoMemory>
+    ensures column { made.new.column ≡ made.old.column }
+    ensures ok { OnOk result ((v k : ValueSeen) → has_pair made.new.pairs.keys v k ≡ (if is_value (slice_get row.now made.old.column) v && is_eq (value_cmp (key_of_def row.now) k) then true else has_pair made.old.pairs.keys v k)) }
+{
+    let column = made.column;
+    match row.get(0) {
+        None => made.put(row.get(column), &Value::Int(0)),
+        Some(key) => made.put(row.get(column), key),
+    }
+}
+
+/// The same of rows in rising order of key.
+fn index_of_sorted(alloc: Global, rows: &[Row], column: usize) -> Result<ColumnIndex, NoMemory>
+    requires { KeysRise (map keyed rows.now) }
+    ensures { IfOk result (λ made. IsIndexOf (keyed_of (map keyed rows.now)) made) }
+{
     let mut made = ColumnIndex::new(alloc, column);
-    for (key, row) in rows.as_map() {
+    for row in rows {
+        put_key(&mut made, row)?;
+    }
+    Ok(made)
+}
+
+/// The same of rows by their keys.
+fn index_of_mapped(
+    alloc: Global,
+    rows: &BTreeMap<Value, Row>,
+    column: usize,
+) -> Result<ColumnIndex, NoMemory>
+    requires { KeysRise rows.now.entries }
+    ensures { IfOk result (λ made. IsIndexOf (keyed_of rows.now.entries) made) }
+{
+    let mut made = ColumnIndex::new(alloc, column);
+    for (key, row) in rows {
         made.put(row.get(column), key)?;
     }
     Ok(made)
@@ -64,7 +105,7 @@ fn changed(
     ensures made { IfOk result (λ made. AreIndexesOf (with_row (keyed_of rows.now) key.now (option_copied after.entry)) made.items) }
     ensures rising { KeysRise rows.now }
 {
-    let _ = rows.as_map();
+    let _ = rows.form();
     if indexes.is_empty() {
         return Ok(indexes);
     }
@@ -94,7 +135,7 @@ impl Shelf {
         ensures rows { result.now ≡ self.now }
         ensures rising { KeysRise self.now }
     {
-        let _ = self.rows.as_map();
+        let _ = self.rows.form();
         &self.rows
     }
 

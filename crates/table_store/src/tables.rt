@@ -260,7 +260,7 @@ fn write_fits_schema(schema: &Schema, key: &Value, row: &Option<Row>) -> bool
 }
 
 /// Whether the key is the first value of the row.
-fn is_key_of(key: &Value, row: &Row) -> bool
+pub(crate) fn is_key_of(key: &Value, row: &Row) -> bool
     ensures { result ≡ same_value (key_of_def row.now) key.now }
 {
     match row.get(0) {

@@ -1,5 +1,5 @@
 -- What is found at a place, as it is kept: one row or none, or the rows of a table.
-use Rattle.std.specs.Prelude.{◌≡◌, ◌&&◌, Bool, true, false, List, [], Option, Some, None, IfSome, map}
+use Rattle.std.specs.Prelude.{◌≡◌, Bool, true, false, List, [], Option, Some, None, IfSome, map}
 use Rattle.std.specs.List.{list_all}
 use Rattle.std.specs.Cmp.Lexicographic.{pointwise}
 use Rattle.std.specs.Option.{option_copied}
@@ -9,6 +9,7 @@ use Rattle.svc_values.specs.declared.tables.PlainRow.{PlainRow}
 use Rattle.svc_values.specs.declared.tables.Place.{Place}
 use Rattle.svc_values.specs.declared.tables.Place.TheVariants as place
 use Rattle.svc_values.specs.meaning.Tables.{rows_at}
+use Rattle.table_store.specs.Held.{same_keyed}
 use Rattle.table_store.specs.Rows.{Keyed, plain_rows, row_if_any}
 use Rattle.table_txn.specs.declared.found.Found.{Found}
 use Rattle.table_txn.specs.declared.found.Found.TheVariants as found
@@ -43,10 +44,6 @@ abbrev pub same_optional : Option (List Value) → Option (List Value) → Bool
 same_optional None None = true
 same_optional (Some a) (Some b) = pointwise same_value a b
 same_optional _ _ = false
-
--- the same keys in the same order, with the same rows
-abbrev pub same_keyed : Keyed → Keyed → Bool
-same_keyed = pointwise (λ a b. same_value a.0 b.0 && pointwise same_value a.1 b.1)
 
 abbrev pub same_found : Found → Found → Bool
 same_found (found.Row a) (found.Row b) = same_optional a b

@@ -22,16 +22,50 @@ use crate::latest::Keys;
 use crate::own::OwnWrites;
 use crate::selecting::{Sought, select_committed, select_over};
 use std::alloc::Global;
+use std::collections::BTreeMap;
 use std::ops::Bound;
 use stmt_meaning::{Scan, TableWork};
-use svc_values::{Answer, Name, NoMemory, Value, Write};
-use table_store::{RowMap, Tables};
+use svc_values::{Answer, Name, NoMemory, Row, Value, Write};
+use table_store::{Form, RowMap, Tables, part_between};
+
+/// Shows a scan rows, up to one that settles it.
+fn show_rows(alloc: Global, mut scan: Scan, rows: &[Row]) -> Result<Scan, NoMemory>
+    ensures { IfOk result (λ after. AnswersAs after scan rows.now) }
+{
+    for row in rows {
+        if scan.is_settled() {
+            return Ok(scan);
+        }
+        scan = scan.after(alloc, row)?;
+    }
+    Ok(scan)
+}
+
+/// Shows a scan the rows of a map between two keys, up to one that settles it.
+fn show_mapped(
+    alloc: Global,
+    mut scan: Scan,
+    rows: &BTreeMap<Value, Row>,
+    from: Bound<&Value>,
+    to: Bound<&Value>,
+) -> Result<Scan, NoMemory>
+    requires { IsForward (IsLeBy value_cmp) (IsLtBy value_cmp) (bound_map (λ x. x.now) from) (bound_map (λ x. x.now) to) }
+    ensures { IfOk result (λ after. AnswersAs after scan (values_of (entries_between value_cmp (bound_map (λ x. x.now) from.entry) (bound_map (λ x. x.now) to.entry) rows.now.entries))) }
+{
+    for (_, row) in rows.range((from, to)) {
+        if scan.is_settled() {
+            return Ok(scan);
+        }
+        scan = scan.after(alloc, row)?;
+    }
+    Ok(scan)
+}
 
 /// Shows a scan the committed rows between two keys, up to one that settles it. It takes the
 /// logarithm of the rows to find the first.
 fn show_between(
     alloc: Global,
-    mut scan: Scan,
+    scan: Scan,
     rows: Option<&RowMap>,
     from: Bound<&Value>,
     to: Bound<&Value>,
@@ -42,13 +76,10 @@ fn show_between(
     let Some(rows) = rows else {
         return Ok(scan);
     };
-    for (_, row) in rows.as_map().range((from, to)) {
-        if scan.is_settled() {
-            return Ok(scan);
-        }
-        scan = scan.after(alloc, row)?;
+    match rows.form() {
+        Form::Sorted(rows) => show_rows(alloc, scan, part_between(rows, from, to)),
+        Form::Mapped(rows) => show_mapped(alloc, scan, rows, from, to),
     }
-    Ok(scan)
 }
 
 /// Shows a scan the row of a write, if there is one and it has one.

@@ -94,7 +94,8 @@ fn is_over(found: &RowMap) -> bool
     ensures test { result ≡ nat_lt 32 (length found.now) }
     ensures rising { KeysRise found.now }
 {
-    found.as_map().len() > ROW_LIMIT
+    let _ = found.form();
+    found.len() > ROW_LIMIT
 }
 
 /// The answer where the transaction wrote these keys in the table. Beside the committed rows that

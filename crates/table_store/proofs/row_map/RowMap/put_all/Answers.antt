@@ -1,27 +1,23 @@
-use Rattle.std.proofs.Common.{ap, ◌∙◌, map}
-use Rattle.std.specs.Map.{update_all}
-use Rattle.std.specs.Ordering.{eq_by_cmp}
+use Rattle.std.proofs.Common.{◌≡◌, rules, List, ◌∷◌, map, cond, sym, ap, ◌∙◌}
+use Rattle.std.specs.Prelude.{Some}
+use Rattle.std.specs.Map.{update, update_all}
+use Rattle.std.specs.Ordering.{eq_by_cmp, is_eq}
+use Rattle.svc_values.specs.declared.value.Value.{Value}
 use Rattle.svc_values.specs.meaning.Order.{value_cmp}
-use Rattle.svc_values.proofs.Offered.{cmp_is}
+use Rattle.svc_values.specs.meaning.Schemas.{key_of}
 use Rattle.table_store.specs.Given.{keyed}
-use Rattle.table_store.specs.Rows.{Keyed, keyed_of}
-use Rattle.table_store.proofs.Joined.{joined}
+use Rattle.table_store.specs.Rows.{keyed_of}
+use Rattle.table_store.proofs.Same.{same_updates}
 use Rattle.table_store.proofs.row_map.RowMap.put_all.Goals as goal
-use Rattle.table_store.proofs.row_map.RowMap.put_all.Goals.{in-Some+in_ok-append-in-Some, in-None+in_ok-rows-in-None+in_ok-append-in-None+in_ok-self-inside-in-None}
 
-pub returns-clause-ok : goal.returns-clause-ok
-returns-clause-ok c = λ q.
-    let entries = map keyed c.args.rows.items in
-    let more = c.in_ok-more.more in
-    elim c.match-get_mut.branch [
-      | in-Some+in_ok-append-in-Some w ↦
-          let before = ap (λ m. m.entries) w.in-Some.ensures.value ∙ c.self.view_is in
-          ap (λ (s : Keyed). keyed_of s q) w.self-is
-          ∙ joined w.in-Some.rows.now more w.append.new.self entries c.in_ok-more.ensures.by_key c.in_ok-more.ensures.rising (rw cmp_is at w.in_ok-append-in-Some.ensures.inserts_all) q
-          ∙ ap (λ (s : Keyed). update_all (eq_by_cmp value_cmp) (keyed_of s) entries q) before
-      | in-None+in_ok-rows-in-None+in_ok-append-in-None+in_ok-self-inside-in-None w ↦
-          let before = w.in_ok-rows-in-None.ensures.same ∙ ap (λ m. m.entries) w.deref.ensures ∙ c.self.view_is in
-          ap (λ (s : Keyed). keyed_of s q) (w.self-is ∙ ap (λ m. m.entries) w.in_ok-self-inside-in-None.ensures.ok)
-          ∙ joined w.in_ok-rows-in-None.rows more w.append-in-None.new.self entries c.in_ok-more.ensures.by_key c.in_ok-more.ensures.rising (rw cmp_is at w.in_ok-append-in-None.ensures.inserts_all) q
-          ∙ ap (λ (s : Keyed). update_all (eq_by_cmp value_cmp) (keyed_of s) entries q) before
-    ]
+pub loop-row-preserved : goal.loop-row-preserved
+loop-row-preserved c =
+    let rest = c.next.new.self.rest.items in
+    let before = keyed_of c.loop-row.self in
+    let next : c.loop-row.row-iterator.rest.items ≡ c.in-Some.row ∷ rest = search rules in (
+      c.in_ok-put.ensures.rising,
+      λ q. same_updates (keyed_of c.put.new.self) (update (eq_by_cmp value_cmp) before (key_of c.in-Some.row) (Some c.in-Some.row))
+          (λ p. c.in_ok-put.ensures.ok p ∙ ap (λ k. cond (is_eq (value_cmp k p)) (Some c.in-Some.row) (before p)) c.in_ok-key.ensures) (map keyed rest) q
+          ∙ ap (λ (l : List (List Value)). update_all (eq_by_cmp value_cmp) before (map keyed l) q) (sym next)
+          ∙ c.loop-row.invariant.1 q,
+    )
