@@ -13,7 +13,8 @@ is_first text (alert ∷ alerts) = bytes_eq text alert
 abbrev pub flags_after : Line → Bool → List Bool → List (List ℕ) → List Bool
 flags_after line came [] alerts = []
 flags_after line came (flag ∷ flags) alerts =
-    (came || (flag && not line.is_answered)) ∷ flags_after line (flag && is_first line.text alerts) flags (drop 1 alerts)
+    (came || (flag && not line.is_answered))
+    ∷ flags_after line (flag && is_first line.text alerts) flags (drop 1 alerts)
 
 -- the last flag, and false where there is none
 abbrev pub last_flag : List Bool → Bool

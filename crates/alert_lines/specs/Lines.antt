@@ -18,8 +18,10 @@ may_go_on lines alerts = list_any (lines_stand lines) (fronts alerts)
 
 -- where lines make no front of the alerts, no lines with more behind them make the alerts
 abbrev pub NoneGoesOn : Type 0
-NoneGoesOn = (lines more : List Line) (alerts : List (List ℕ)) → may_go_on lines alerts ≡ false → lines_stand (lines ++ more) alerts ≡ false
+NoneGoesOn = (lines more : List Line) (alerts : List (List ℕ)) → may_go_on lines alerts ≡ false
+    → lines_stand (lines ++ more) alerts ≡ false
 
 -- and where they make one, some lines behind them make the alerts
 abbrev pub SomeGoOn : Type 0
-SomeGoOn = (lines : List Line) (alerts : List (List ℕ)) → may_go_on lines alerts ≡ true → (more : List Line) × (lines_stand (lines ++ more) alerts ≡ true)
+SomeGoOn = (lines : List Line) (alerts : List (List ℕ)) → may_go_on lines alerts ≡ true
+    → (more : List Line) × (lines_stand (lines ++ more) alerts ≡ true)

@@ -46,7 +46,8 @@ pub(crate) fn items_beside<T: TryCopy + Drop, R: BesideReader<T>>(
 ) -> Option<Beside<Vec<T>>>
     requires from { from ≤ length known.now }
     requires few { length known.now ≤ high }
-    ensures read { IfSome result (λ b. parse_map (each_after (λ before. R.Reader.reads reader.now) (take from known.now))
+    ensures read { IfSome result (λ b. parse_map
+        (each_after (λ before. R.Reader.reads reader.now) (take from known.now))
         (items_ahead depth tokens.old) ≡ Some (Ok (items_told (λ v. v.items) known.now b), tokens.new)) }
     ensures count { IfSome result (λ b. length (items_told (λ v. v.items) known.now b) ≤ high) }
     ensures shorter { IfSome result (λ _. length tokens.new < length tokens.old) }

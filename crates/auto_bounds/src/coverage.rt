@@ -28,9 +28,27 @@ impl<R> Model for Coverage<R> {
 
     ghost Value = { Covered R };
 
-    ghost view = { λ c. record { rule = c.rule; limit = c.limit; shown = c.shown; guarded = c.guarded; recorded = c.recorded; stopped = c.stopped; waits = c.waits } };
+    ghost view = { λ c. record {
+      rule = c.rule;
+      limit = c.limit;
+      shown = c.shown;
+      guarded =
+          c.guarded;
+      recorded = c.recorded;
+      stopped = c.stopped;
+      waits = c.waits;
+    } };
 
-    ghost inverse = { λ c. record { rule = c.rule; limit = c.limit; shown = c.shown; guarded = c.guarded; recorded = c.recorded; stopped = c.stopped; waits = c.waits } };
+    ghost inverse = { λ c. record {
+      rule = c.rule;
+      limit = c.limit;
+      shown = c.shown;
+      guarded =
+          c.guarded;
+      recorded = c.recorded;
+      stopped = c.stopped;
+      waits = c.waits;
+    } };
 
     ghost invariant = { λ c. c.guarded ≤ c.shown };
 }

@@ -7,7 +7,10 @@ use Rattle.outage_schedule.specs.declared.document.DocTable.{DocTable}
 
 -- the place of the column with this name, if the table has one
 abbrev pub index_by : DocTable → List ℕ → Option IndexOf
-index_by table name = option_map (λ at. record { table = table.name; column = at }) (column_of table.columns name)
+index_by table name = option_map (λ at. record {
+  table = table.name;
+  column = at;
+}) (column_of table.columns name)
 
 -- the places of the columns that a table names in its index
 abbrev pub indexes_in : DocTable → List IndexOf

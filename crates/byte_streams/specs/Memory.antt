@@ -50,7 +50,12 @@ pub record Writing : Type 0 where
   pub most : ℕ
 
 abbrev pub writing_of : MemSink → Writing
-writing_of sink = record { calls = sink.calls; fail = sink.fail.items; nothing = sink.nothing.items; most = sink.most }
+writing_of sink = record {
+  calls = sink.calls;
+  fail = sink.fail.items;
+  nothing = sink.nothing.items;
+  most = sink.most;
+}
 
 abbrev pub written_once : Writing → Writing
 written_once writing = record writing { calls = after writing.calls }

@@ -9,4 +9,5 @@ use Rattle.call_forms.specs.declared.item.Item.{Item}
 -- the tokens begin with what is left of an item's array behind its word: the whole is read as this,
 -- and the others stand behind it
 abbrev pub Ends : (Data → Result Item Fault) → ℕ → List Token → Item → List Token → Type 0
-Ends read depth ts one rest = (ds : Items) × (items_ahead depth ts ≡ Some (ds, rest)) × ((word : Data) → read (array (item word ds)) ≡ Ok one)
+Ends read depth ts one rest = (ds : Items) × (items_ahead depth ts ≡ Some (ds, rest))
+    × ((word : Data) → read (array (item word ds)) ≡ Ok one)

@@ -10,4 +10,6 @@ use Rattle.call_forms.specs.meaning.Values.{value_of}
 
 -- the token alone is a value that is no object and is read as this
 abbrev pub IsPlain : Token → Value → Type 0
-IsPlain token x = (d : Data) × ((depth : ℕ) (rest : List Token) → value_ahead depth (token ∷ rest) ≡ Some (d, rest)) × (as_object d ≡ None) × ((digits : Digits) → value_of digits d ≡ Ok x)
+IsPlain token x = (d : Data) × ((depth : ℕ) (rest : List Token)
+    → value_ahead depth (token ∷ rest) ≡ Some (d, rest)) × (as_object d ≡ None)
+    × ((digits : Digits) → value_of digits d ≡ Ok x)

@@ -150,7 +150,8 @@ fn alter_ahead(alloc: Global, tokens: &mut json::Reader<'_>, depth: usize) -> Op
 }
 
 fn alone_ahead(tokens: &mut json::Reader<'_>, one: Item) -> Option<Item>
-    ensures ends { IfSome result (λ item. (depth : ℕ) → Ends (alone_of one) depth tokens.old item tokens.new) }
+    ensures ends { IfSome result (λ item. (depth : ℕ)
+        → Ends (alone_of one) depth tokens.old item tokens.new) }
     ensures shorter { IfSome result (λ _. length tokens.new < length tokens.old) }
 {
     array_ends(tokens)?;
@@ -165,7 +166,8 @@ fn parts_ahead(
     word: ItemWord,
     digits: Digits,
 ) -> Option<Item>
-    ensures ends { IfSome result (λ one. Ends (item_by digits word) depth tokens.old one tokens.new) }
+    ensures ends { IfSome result (λ one. Ends (item_by digits word) depth tokens.old one
+        tokens.new) }
     ensures shorter { IfSome result (λ _. length tokens.new < length tokens.old) }
 {
     match word {
@@ -193,7 +195,8 @@ pub(crate) fn item_ahead(
     depth: usize,
     digits: Digits,
 ) -> Option<Item>
-    ensures begins { IfSome result (λ one. Begins (item_read digits) depth tokens.old one tokens.new) }
+    ensures begins { IfSome result (λ one. Begins (item_read digits) depth tokens.old one
+        tokens.new) }
     ensures shorter { IfSome result (λ _. length tokens.new < length tokens.old) }
 {
     let inside = array_begins(tokens, depth)?;

@@ -20,9 +20,13 @@ is_purge Purged = true
 -- the calls that no purge comes after, in order
 abbrev pub noted_since_purge : List Did → List Recorded
 noted_since_purge [] = []
-noted_since_purge (Noted call ∷ later) = if list_any is_purge later then noted_since_purge later else call ∷ noted_since_purge later
+noted_since_purge (Noted call ∷ later) =
+    if list_any is_purge later then noted_since_purge later else call ∷ noted_since_purge later
 noted_since_purge (Purged ∷ later) = noted_since_purge later
 
 -- a recorder holds the calls noted since the last purge, in order
 abbrev pub HoldsNotedCalls : Type 0
-HoldsNotedCalls = (limit : ℕ) (history : List Did) → fold after_one (record { limit = limit; calls = [] }) history ≡ record { limit = limit; calls = noted_since_purge history }
+HoldsNotedCalls = (limit : ℕ) (history : List Did) → fold after_one (record {
+  limit = limit;
+  calls = [];
+}) history ≡ record { limit = limit; calls = noted_since_purge history }

@@ -43,7 +43,8 @@ impl Recorder {
     /// fault the recorder is as it was, and what was handed in is dropped.
     pub fn note(&mut self, call: Call, seen: Seen, draws: Draws) -> Result<(), NoteFault>
         requires { IsMade call }
-        ensures ok { OnOk result (self.new ≡ noted self.old (record { call = call; seen = seen; draws = draws })) }
+        ensures ok { OnOk result (self.new
+            ≡ noted self.old (record { call = call; seen = seen; draws = draws })) }
         ensures full { IsErrOf result NoteFault.Full ↔ (length self.old.calls ≡ self.old.limit) }
         ensures err { OnErr result (self.new ≡ self.old) }
     {

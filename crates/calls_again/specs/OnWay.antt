@@ -30,14 +30,32 @@ started_with None now = now
 started_with (Some earlier) now = earlier
 
 abbrev pub on_way : NamedValues → Option NamedValues → Transaction → OnWay
-on_way settings earlier txn = record { settings = settings; at_start = started_with earlier settings; pieces = txn.pieces; writes = txn.writes; readings = txn.readings }
+on_way settings earlier txn = record {
+  settings = settings;
+  at_start = started_with earlier settings;
+  pieces = txn.pieces;
+  writes = txn.writes;
+  readings = txn.readings;
+}
 
 abbrev pub begun_with : NamedValues → OnWay
-begun_with settings = record { settings = settings; at_start = settings; pieces = []; writes = []; readings = [] }
+begun_with settings = record {
+  settings = settings;
+  at_start = settings;
+  pieces = [];
+  writes = [];
+  readings = [];
+}
 
 -- the same writes, with nothing called or read
 abbrev pub probed : OnWay → OnWay
-probed going = record { settings = going.settings; at_start = going.settings; pieces = []; writes = going.writes; readings = [] }
+probed going = record {
+  settings = going.settings;
+  at_start = going.settings;
+  pieces = [];
+  writes = going.writes;
+  readings = [];
+}
 
 -- what a call means that uses all its draws
 abbrev pub if_used : Option Meant → Option Meant
@@ -45,7 +63,9 @@ if_used None = None
 if_used (Some meant) = if is_nil meant.rest then Some meant else None
 
 abbrev pub taken_with : Stored → List (List ℕ) → OnWay → Call → List Draw → Option Meant
-taken_with tables names going called draws = if_used (mean (shape_of tables names) (with_writes tables.rows going.writes) going.settings called draws)
+taken_with tables names going called draws =
+    if_used (mean (shape_of tables names) (with_writes tables.rows going.writes) going.settings
+    called draws)
 
 -- the answers, where so many draws are left
 abbrev pub if_none_left : ℕ → List Answer → Option (List Answer)
@@ -62,7 +82,8 @@ pub record HasGone (tables : Stored) (old : OnWay) (meant : Meant) (new : OnWay)
   pub at_start : new.at_start ≡ old.at_start
   pub pieces : new.pieces ≡ old.pieces
   pub wrote : new.writes ≡ old.writes ++ meant.writes
-  pub was_read : (reads : List Read) → AreReadings old.readings reads → AreReadings new.readings (reads ++ reads_at tables.rows meant.reads)
+  pub was_read : (reads : List Read) → AreReadings old.readings reads
+      → AreReadings new.readings (reads ++ reads_at tables.rows meant.reads)
   pub unchanged : StayUnchanged tables.rows old.readings new.readings
   pub fits : IsTrue (writes_fit tables.schemas new.writes)
 
@@ -71,4 +92,5 @@ abbrev pub GoesBy : Stored → OnWay → Option Meant → Option (List Answer) �
 GoesBy tables old None None new = Unit {0}
 GoesBy tables old None (Some answers) new = ⊥
 GoesBy tables old (Some meant) None new = ⊥
-GoesBy tables old (Some meant) (Some answers) new = (answers ≡ meant.answers) × HasGone tables old meant new
+GoesBy tables old (Some meant) (Some answers) new = (answers ≡ meant.answers)
+    × HasGone tables old meant new

@@ -12,4 +12,5 @@ use Rattle.calm_laws.specs.meaning.Calm.{is_calm, all_answered_or_waited}
 abbrev pub CalmRunsAnswer : Type 0
 CalmRunsAnswer =
     (document : Document) (report : Report) (seen : Seen) (t : Traced) (server : Server)
-    → IsTrue (all_requests_right document) → IsReported document report seen t server → IsTrue (is_calm document) → IsTrue (all_answered_or_waited document report)
+    → IsTrue (all_requests_right document) → IsReported document report seen t server
+    → IsTrue (is_calm document) → IsTrue (all_answered_or_waited document report)

@@ -8,7 +8,8 @@ use Rattle.canon_bytes.specs.Values.{FitsValue}
 use Rattle.canon_bytes.specs.StatementBytes.{FitsStatements}
 
 abbrev pub FitsCall : Call → Type 0
-FitsCall (call.Work statements commit) = FitsStatements statements × IsMade (call.Work statements commit)
+FitsCall (call.Work statements commit) = FitsStatements statements
+    × IsMade (call.Work statements commit)
 FitsCall (call.Set name value) = FitsName name × FitsValue value
 FitsCall (call.Alter line) = FitsText line
 FitsCall _ = Unit {0}

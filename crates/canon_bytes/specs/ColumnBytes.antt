@@ -17,6 +17,8 @@ abbrev pub FitsColumn : Column → Type 0
 FitsColumn column = FitsName column.name
 
 -- what was written is read again, whatever follows
-pub column_again : (x : Column) (rest : List ℕ) → FitsColumn x → column_at (spell_column x ++ rest) ≡ Ok (x, rest)
+pub column_again : (x : Column) (rest : List ℕ) → FitsColumn x
+    → column_at (spell_column x ++ rest) ≡ Ok (x, rest)
 unfolding column_at spell_column
-column_again x rest fits = simp append_assoc (rw (name_again x.name _ fits, kind_again x.kind rest tt) refl)
+column_again x rest fits = simp append_assoc
+    (rw (name_again x.name _ fits, kind_again x.kind rest tt) refl)

@@ -39,7 +39,8 @@ ahead_at (tag ∷ rest) =
 
 unfoldable pub cause_at : List ℕ → Result (ℕ × List ℕ) Fault
 cause_at [] = Err Short
-cause_at (cause ∷ rest) = if (cause == 1) || (cause == 2) then Ok (cause, rest) else Err (BadTag (suc (length rest)))
+cause_at (cause ∷ rest) = if (cause == 1) || (cause == 2) then Ok (cause, rest) else
+    Err (BadTag (suc (length rest)))
 
 -- what stands behind the tag of each frame
 unfoldable pub reply_at : List ℕ → Result (Down × List ℕ) Fault

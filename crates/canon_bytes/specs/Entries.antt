@@ -37,7 +37,8 @@ FitsPiece piece = FitsCall piece.call × FitsAnswers piece.answers × FitsDraws 
 
 -- the row is absent where it is deleted
 unfoldable pub spell_write : Write → List ℕ
-spell_write write = spell_bytes write.table ++ spell_value write.key ++ spell_option spell_row write.row
+spell_write write = spell_bytes write.table ++ spell_value write.key
+    ++ spell_option spell_row write.row
 
 abbrev pub FitsWrite : Write → Type 0
 FitsWrite write = FitsName write.table × FitsValue write.key × FitsOption FitsRow write.row
@@ -48,7 +49,8 @@ spell_entry entry =
     ++ spell_list spell_piece entry.pieces ++ spell_list spell_write entry.writes
 
 abbrev pub FitsEntry : Entry → Type 0
-FitsEntry entry = FitsLtxid entry.ltxid × FitsSettings entry.settings × FitsListed FitsPiece entry.pieces × FitsListed FitsWrite entry.writes
+FitsEntry entry = FitsLtxid entry.ltxid × FitsSettings entry.settings
+    × FitsListed FitsPiece entry.pieces × FitsListed FitsWrite entry.writes
 
 -- ---- the rules that a writer's caller sees to
 

@@ -28,16 +28,27 @@ use Rattle.canon_bytes.specs.ValuesAgain.{value_again, row_again, draw_again, an
 use Rattle.canon_bytes.specs.StatementsAgain.{statement_again}
 use Rattle.canon_bytes.specs.SettingsAgain.{settings_again}
 
-pub call_again : (x : Call) (rest : List ℕ) → FitsCall x → call_at (spell_call x ++ rest) ≡ Ok (x, rest)
+pub call_again : (x : Call) (rest : List ℕ) → FitsCall x
+    → call_at (spell_call x ++ rest) ≡ Ok (x, rest)
 unfolding call_at work_at set_at
-call_again (call.Work statements commit) rest fits = simp append_assoc (rw (list_again spell_statement FitsStatement statement_at statement_again 8 statements _ fits.0, bool_again commit rest tt, fits.1) refl)
-call_again (call.Set name value) rest fits = simp append_assoc (rw (name_again name _ fits.0, value_again value rest fits.1) refl)
+call_again (call.Work statements commit) rest fits =
+    simp append_assoc (rw (
+      list_again spell_statement FitsStatement statement_at statement_again
+          8 statements _ fits.0,
+      bool_again commit rest tt,
+      fits.1,
+    ) refl)
+call_again (call.Set name value) rest fits =
+    simp append_assoc (rw (name_again name _ fits.0, value_again value rest fits.1) refl)
 call_again (call.Alter line) rest fits = rw (text_again line rest fits) refl
 call_again call.Disable rest fits = refl
 call_again call.Rollback rest fits = refl
 
-pub option_again : {X : Type 0} (spell : X → List ℕ) (fits : X → Type 0) (x_at : List ℕ → Result (X × List ℕ) Fault) → ((x : X) (rest : List ℕ) → fits x → x_at (spell x ++ rest) ≡ Ok (x, rest))
-    → (option : Option X) (rest : List ℕ) → FitsOption fits option → option_at x_at (spell_option spell option ++ rest) ≡ Ok (option, rest)
+pub option_again : {X : Type 0} (spell : X → List ℕ) (fits : X → Type 0)
+    (x_at : List ℕ → Result (X × List ℕ) Fault)
+    → ((x : X) (rest : List ℕ) → fits x → x_at (spell x ++ rest) ≡ Ok (x, rest))
+    → (option : Option X) (rest : List ℕ) → FitsOption fits option
+    → option_at x_at (spell_option spell option ++ rest) ≡ Ok (option, rest)
 unfolding option_at
 option_again spell fits x_at again None rest fit = refl
 option_again spell fits x_at again (Some x) rest fit = rw (again x rest fit) refl
@@ -51,20 +62,44 @@ part_again n rest small =
     let below : n < 2 ^ 64 = omega (arith, small) in
     rw (u64_again n rest below, le_small n small) refl
 
-pub ltxid_again : (x : Ltxid) (rest : List ℕ) → FitsLtxid x → ltxid_at (spell_ltxid x ++ rest) ≡ Ok (x, rest)
+pub ltxid_again : (x : Ltxid) (rest : List ℕ) → FitsLtxid x
+    → ltxid_at (spell_ltxid x ++ rest) ≡ Ok (x, rest)
 unfolding ltxid_at spell_ltxid
-ltxid_again x rest fits = simp append_assoc (rw (part_again x.incarnation _ fits.0, part_again x.session _ fits.1, part_again x.number rest fits.2) refl)
+ltxid_again x rest fits = simp append_assoc
+    (rw (
+      part_again x.incarnation _ fits.0,
+      part_again x.session _ fits.1,
+      part_again x.number rest fits.2,
+    ) refl)
 
-pub piece_again : (x : Piece) (rest : List ℕ) → FitsPiece x → piece_at (spell_piece x ++ rest) ≡ Ok (x, rest)
+pub piece_again : (x : Piece) (rest : List ℕ) → FitsPiece x
+    → piece_at (spell_piece x ++ rest) ≡ Ok (x, rest)
 unfolding piece_at spell_piece
 piece_again x rest fits =
-    simp append_assoc (rw (call_again x.call _ fits.0, listed_again spell_answer FitsAnswer answer_at answer_again x.answers _ fits.1, listed_again spell_draw FitsDraw draw_at draw_again x.draws rest fits.2) refl)
+    simp append_assoc (rw (
+      call_again x.call _ fits.0,
+      listed_again spell_answer FitsAnswer answer_at answer_again x.answers _ fits.1,
+      listed_again spell_draw FitsDraw draw_at draw_again x.draws rest fits.2,
+    ) refl)
 
-pub write_again : (x : Write) (rest : List ℕ) → FitsWrite x → write_at (spell_write x ++ rest) ≡ Ok (x, rest)
+pub write_again : (x : Write) (rest : List ℕ) → FitsWrite x
+    → write_at (spell_write x ++ rest) ≡ Ok (x, rest)
 unfolding write_at spell_write
-write_again x rest fits = simp append_assoc (rw (name_again x.table _ fits.0, value_again x.key _ fits.1, option_again spell_row FitsRow row_at row_again x.row rest fits.2) refl)
+write_again x rest fits = simp append_assoc
+    (rw (
+      name_again x.table _ fits.0,
+      value_again x.key _ fits.1,
+      option_again spell_row FitsRow row_at row_again x.row rest fits.2,
+    ) refl)
 
-pub entry_again : (x : Entry) (rest : List ℕ) → FitsEntry x → entry_at (spell_entry x ++ rest) ≡ Ok (x, rest)
+pub entry_again : (x : Entry) (rest : List ℕ) → FitsEntry x
+    → entry_at (spell_entry x ++ rest) ≡ Ok (x, rest)
 unfolding entry_at spell_entry
 entry_again x rest fits =
-    simp append_assoc (rw (ltxid_again x.ltxid _ fits.0, bool_again x.completed _ tt, settings_again x.settings _ fits.1, listed_again spell_piece FitsPiece piece_at piece_again x.pieces _ fits.2, listed_again spell_write FitsWrite write_at write_again x.writes rest fits.3) refl)
+    simp append_assoc (rw (
+      ltxid_again x.ltxid _ fits.0,
+      bool_again x.completed _ tt,
+      settings_again x.settings _ fits.1,
+      listed_again spell_piece FitsPiece piece_at piece_again x.pieces _ fits.2,
+      listed_again spell_write FitsWrite write_at write_again x.writes rest fits.3,
+    ) refl)

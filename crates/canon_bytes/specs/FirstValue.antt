@@ -23,11 +23,13 @@ IsUnlessMemory (Err canon_fault.NoMemory) answer = Unit {0}
 IsUnlessMemory result answer = answer ≡ result
 
 -- the first value that reading finds and its length, or the first fault and its offset
-abbrev pub GivesFirst : {X : Type 0} → (List ℕ → Result (X × List ℕ) Fault) → List ℕ → Result (X × ℕ) CanonFault → Type 0
+abbrev pub GivesFirst : {X : Type 0} → (List ℕ → Result (X × List ℕ) Fault) → List ℕ
+    → Result (X × ℕ) CanonFault → Type 0
 GivesFirst reading bytes result = IsUnlessMemory result (measured (length bytes) (reading bytes))
 
 -- the first n bytes spell the value, and it keeps its rules
-pub record Spells {X : Type 0} (spell : X → List ℕ) (fits : X → Type 0) (bytes : List ℕ) (x : X) (n : ℕ) : Type 0 where
+pub record Spells {X : Type 0} (spell : X → List ℕ) (fits : X → Type 0) (bytes : List ℕ) (x : X)
+    (n : ℕ) : Type 0 where
   pub front : take n bytes ≡ spell x
   pub len : n ≡ length (spell x)
   pub fits_rules : fits x

@@ -9,10 +9,12 @@ use Rattle.canon_bytes.specs.Operands.{FitsOperand, FitsOperands, FitsChange}
 
 abbrev pub FitsStatement : Statement → Type 0
 FitsStatement (statement.Insert table values) = FitsName table × FitsOperands values
-FitsStatement (statement.Update table key column by) = FitsName table × FitsOperand key × FitsName column × FitsChange by
+FitsStatement (statement.Update table key column by) = FitsName table × FitsOperand key
+    × FitsName column × FitsChange by
 FitsStatement (statement.Delete table key) = FitsName table × FitsOperand key
 FitsStatement (statement.Get table key) = FitsName table × FitsOperand key
-FitsStatement (statement.Select table column by compared) = FitsName table × FitsName column × FitsOperand compared
+FitsStatement (statement.Select table column by compared) = FitsName table × FitsName column
+    × FitsOperand compared
 FitsStatement (statement.Count table) = FitsName table
 FitsStatement (statement.Sum table column) = FitsName table × FitsName column
 FitsStatement (statement.Show shown) = FitsOperand shown

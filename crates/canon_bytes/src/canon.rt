@@ -27,7 +27,8 @@ pub trait Take: Sized {
         ensures fitting { IfOk result (λ x. fits x.0) };
 
     /// What is written is read again, whatever follows.
-    ghost again: { (x : Self) (rest : List ℕ) → fits x → reading (spelling x ++ rest) ≡ Ok (x, rest) };
+    ghost again: { (x : Self) (rest : List ℕ) → fits x
+        → reading (spelling x ++ rest) ≡ Ok (x, rest) };
 }
 
 /// A type of which each value can be written.
@@ -76,7 +77,8 @@ pub(crate) fn take_first<T: Take + Drop>(
 ) -> Result<(T, usize), CanonFault>
     ensures exact { GivesFirst T.reading bytes.now result }
     ensures found { IfOk result (λ x. Spells T.spelling T.fits bytes.now x.0 x.1) }
-    ensures only { (x : T) (rest : List ℕ) → T.fits x → bytes.now ≡ T.spelling x ++ rest → IsUnlessMemory result (Ok (x, length (T.spelling x))) }
+    ensures only { (x : T) (rest : List ℕ) → T.fits x → bytes.now ≡ T.spelling x ++ rest
+        → IsUnlessMemory result (Ok (x, length (T.spelling x))) }
 {
     match T::take(alloc, bytes) {
         Ok((value, rest)) => Ok((value, bytes.len() - rest.len())),
@@ -117,6 +119,8 @@ pub(crate) fn put_made_last<T: PutMade>(
 /// What is written is read again, whatever follows; a value has one spelling; and no spelling
 /// begins that of another value.
 pub fn one_spelling<T: Take>()
-    ensures again { (x : T) (rest : List ℕ) → T.fits x → T.reading (T.spelling x ++ rest) ≡ Ok (x, rest) }
-    ensures apart { (a b : T) (x y : List ℕ) → T.fits a → T.fits b → T.spelling a ++ x ≡ T.spelling b ++ y → (a ≡ b) × (x ≡ y) }
+    ensures again { (x : T) (rest : List ℕ) → T.fits x
+        → T.reading (T.spelling x ++ rest) ≡ Ok (x, rest) }
+    ensures apart { (a b : T) (x y : List ℕ) → T.fits a → T.fits b
+        → T.spelling a ++ x ≡ T.spelling b ++ y → (a ≡ b) × (x ≡ y) }
 {}

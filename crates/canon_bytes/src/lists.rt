@@ -56,7 +56,8 @@ fn take_items<T: Take + Drop>(
     count: u64,
     bytes: &[u8],
 ) -> Result<(Vec<T>, &[u8]), ReadFault>
-    ensures exact { IsReading (λ x. (x.0.items, x.1.now)) result (items_at T.reading count bytes.now) }
+    ensures exact { IsReading (λ x. (x.0.items, x.1.now)) result
+        (items_at T.reading count bytes.now) }
     ensures found { IfOk result (λ x. bytes.now ≡ flat_map T.spelling x.0.items ++ x.1.now) }
     ensures fitting { IfOk result (λ x. AllByRecursion T.fits x.0.items) }
     ensures counted { IfOk result (λ x. length x.0.items ≡ count) }

@@ -50,7 +50,8 @@ use svc_values::{
 pub fn take_u64(alloc: Global, bytes: &[u8]) -> Result<(u64, usize), CanonFault>
     ensures exact { GivesFirst u64_at bytes.now result }
     ensures found { IfOk result (λ x. Spells spell_u64 FitsU64 bytes.now x.0 x.1) }
-    ensures only { (x : ℕ) (rest : List ℕ) → FitsU64 x → bytes.now ≡ spell_u64 x ++ rest → IsUnlessMemory result (Ok (x, length (spell_u64 x))) }
+    ensures only { (x : ℕ) (rest : List ℕ) → FitsU64 x → bytes.now ≡ spell_u64 x ++ rest
+        → IsUnlessMemory result (Ok (x, length (spell_u64 x))) }
 {
     take_first(alloc, bytes)
 }
@@ -60,7 +61,8 @@ pub fn take_u64(alloc: Global, bytes: &[u8]) -> Result<(u64, usize), CanonFault>
 pub fn take_i64(alloc: Global, bytes: &[u8]) -> Result<(i64, usize), CanonFault>
     ensures exact { GivesFirst i64_at bytes.now result }
     ensures found { IfOk result (λ x. Spells spell_i64 FitsI64 bytes.now x.0 x.1) }
-    ensures only { (x : ℤ) (rest : List ℕ) → FitsI64 x → bytes.now ≡ spell_i64 x ++ rest → IsUnlessMemory result (Ok (x, length (spell_i64 x))) }
+    ensures only { (x : ℤ) (rest : List ℕ) → FitsI64 x → bytes.now ≡ spell_i64 x ++ rest
+        → IsUnlessMemory result (Ok (x, length (spell_i64 x))) }
 {
     take_first(alloc, bytes)
 }
@@ -70,7 +72,8 @@ pub fn take_i64(alloc: Global, bytes: &[u8]) -> Result<(i64, usize), CanonFault>
 pub fn take_bool(alloc: Global, bytes: &[u8]) -> Result<(bool, usize), CanonFault>
     ensures exact { GivesFirst bool_at bytes.now result }
     ensures found { IfOk result (λ x. Spells spell_bool FitsBool bytes.now x.0 x.1) }
-    ensures only { (x : Bool) (rest : List ℕ) → FitsBool x → bytes.now ≡ spell_bool x ++ rest → IsUnlessMemory result (Ok (x, length (spell_bool x))) }
+    ensures only { (x : Bool) (rest : List ℕ) → FitsBool x → bytes.now ≡ spell_bool x ++ rest
+        → IsUnlessMemory result (Ok (x, length (spell_bool x))) }
 {
     take_first(alloc, bytes)
 }
@@ -80,7 +83,8 @@ pub fn take_bool(alloc: Global, bytes: &[u8]) -> Result<(bool, usize), CanonFaul
 pub fn take_name(alloc: Global, bytes: &[u8]) -> Result<(Name, usize), CanonFault>
     ensures exact { GivesFirst name_at bytes.now result }
     ensures found { IfOk result (λ x. Spells spell_bytes FitsName bytes.now x.0 x.1) }
-    ensures only { (x : List ℕ) (rest : List ℕ) → FitsName x → bytes.now ≡ spell_bytes x ++ rest → IsUnlessMemory result (Ok (x, length (spell_bytes x))) }
+    ensures only { (x : List ℕ) (rest : List ℕ) → FitsName x → bytes.now ≡ spell_bytes x ++ rest
+        → IsUnlessMemory result (Ok (x, length (spell_bytes x))) }
 {
     take_first(alloc, bytes)
 }
@@ -90,7 +94,8 @@ pub fn take_name(alloc: Global, bytes: &[u8]) -> Result<(Name, usize), CanonFaul
 pub fn take_text(alloc: Global, bytes: &[u8]) -> Result<(Text, usize), CanonFault>
     ensures exact { GivesFirst text_at bytes.now result }
     ensures found { IfOk result (λ x. Spells spell_bytes FitsText bytes.now x.0 x.1) }
-    ensures only { (x : List ℕ) (rest : List ℕ) → FitsText x → bytes.now ≡ spell_bytes x ++ rest → IsUnlessMemory result (Ok (x, length (spell_bytes x))) }
+    ensures only { (x : List ℕ) (rest : List ℕ) → FitsText x → bytes.now ≡ spell_bytes x ++ rest
+        → IsUnlessMemory result (Ok (x, length (spell_bytes x))) }
 {
     take_first(alloc, bytes)
 }
@@ -100,7 +105,8 @@ pub fn take_text(alloc: Global, bytes: &[u8]) -> Result<(Text, usize), CanonFaul
 pub fn take_octets(alloc: Global, bytes: &[u8]) -> Result<(Octets, usize), CanonFault>
     ensures exact { GivesFirst octets_at bytes.now result }
     ensures found { IfOk result (λ x. Spells spell_bytes FitsOctets bytes.now x.0 x.1) }
-    ensures only { (x : List ℕ) (rest : List ℕ) → FitsOctets x → bytes.now ≡ spell_bytes x ++ rest → IsUnlessMemory result (Ok (x, length (spell_bytes x))) }
+    ensures only { (x : List ℕ) (rest : List ℕ) → FitsOctets x → bytes.now ≡ spell_bytes x ++ rest
+        → IsUnlessMemory result (Ok (x, length (spell_bytes x))) }
 {
     take_first(alloc, bytes)
 }
@@ -110,7 +116,8 @@ pub fn take_octets(alloc: Global, bytes: &[u8]) -> Result<(Octets, usize), Canon
 pub fn take_kind(alloc: Global, bytes: &[u8]) -> Result<(Kind, usize), CanonFault>
     ensures exact { GivesFirst kind_at bytes.now result }
     ensures found { IfOk result (λ x. Spells spell_kind FitsKind bytes.now x.0 x.1) }
-    ensures only { (x : Kind) (rest : List ℕ) → FitsKind x → bytes.now ≡ spell_kind x ++ rest → IsUnlessMemory result (Ok (x, length (spell_kind x))) }
+    ensures only { (x : Kind) (rest : List ℕ) → FitsKind x → bytes.now ≡ spell_kind x ++ rest
+        → IsUnlessMemory result (Ok (x, length (spell_kind x))) }
 {
     take_first(alloc, bytes)
 }
@@ -120,7 +127,8 @@ pub fn take_kind(alloc: Global, bytes: &[u8]) -> Result<(Kind, usize), CanonFaul
 pub fn take_value(alloc: Global, bytes: &[u8]) -> Result<(Value, usize), CanonFault>
     ensures exact { GivesFirst value_at bytes.now result }
     ensures found { IfOk result (λ x. Spells spell_value FitsValue bytes.now x.0 x.1) }
-    ensures only { (x : Value) (rest : List ℕ) → FitsValue x → bytes.now ≡ spell_value x ++ rest → IsUnlessMemory result (Ok (x, length (spell_value x))) }
+    ensures only { (x : Value) (rest : List ℕ) → FitsValue x → bytes.now ≡ spell_value x ++ rest
+        → IsUnlessMemory result (Ok (x, length (spell_value x))) }
 {
     take_first(alloc, bytes)
 }
@@ -130,7 +138,8 @@ pub fn take_value(alloc: Global, bytes: &[u8]) -> Result<(Value, usize), CanonFa
 pub fn take_row(alloc: Global, bytes: &[u8]) -> Result<(Row, usize), CanonFault>
     ensures exact { GivesFirst row_at bytes.now result }
     ensures found { IfOk result (λ x. Spells spell_row FitsRow bytes.now x.0 x.1) }
-    ensures only { (x : List Value) (rest : List ℕ) → FitsRow x → bytes.now ≡ spell_row x ++ rest → IsUnlessMemory result (Ok (x, length (spell_row x))) }
+    ensures only { (x : List Value) (rest : List ℕ) → FitsRow x → bytes.now ≡ spell_row x ++ rest
+        → IsUnlessMemory result (Ok (x, length (spell_row x))) }
 {
     take_first(alloc, bytes)
 }
@@ -140,7 +149,8 @@ pub fn take_row(alloc: Global, bytes: &[u8]) -> Result<(Row, usize), CanonFault>
 pub fn take_rows(alloc: Global, bytes: &[u8]) -> Result<(Rows, usize), CanonFault>
     ensures exact { GivesFirst rows_at bytes.now result }
     ensures found { IfOk result (λ x. Spells spell_rows FitsRows bytes.now x.0 x.1) }
-    ensures only { (x : List (List Value)) (rest : List ℕ) → FitsRows x → bytes.now ≡ spell_rows x ++ rest → IsUnlessMemory result (Ok (x, length (spell_rows x))) }
+    ensures only { (x : List (List Value)) (rest : List ℕ) → FitsRows x
+        → bytes.now ≡ spell_rows x ++ rest → IsUnlessMemory result (Ok (x, length (spell_rows x))) }
 {
     take_first(alloc, bytes)
 }
@@ -150,7 +160,8 @@ pub fn take_rows(alloc: Global, bytes: &[u8]) -> Result<(Rows, usize), CanonFaul
 pub fn take_answer(alloc: Global, bytes: &[u8]) -> Result<(Answer, usize), CanonFault>
     ensures exact { GivesFirst answer_at bytes.now result }
     ensures found { IfOk result (λ x. Spells spell_answer FitsAnswer bytes.now x.0 x.1) }
-    ensures only { (x : Answer) (rest : List ℕ) → FitsAnswer x → bytes.now ≡ spell_answer x ++ rest → IsUnlessMemory result (Ok (x, length (spell_answer x))) }
+    ensures only { (x : Answer) (rest : List ℕ) → FitsAnswer x → bytes.now ≡ spell_answer x ++ rest
+        → IsUnlessMemory result (Ok (x, length (spell_answer x))) }
 {
     take_first(alloc, bytes)
 }
@@ -160,7 +171,9 @@ pub fn take_answer(alloc: Global, bytes: &[u8]) -> Result<(Answer, usize), Canon
 pub fn take_answers(alloc: Global, bytes: &[u8]) -> Result<(Answers, usize), CanonFault>
     ensures exact { GivesFirst answers_at bytes.now result }
     ensures found { IfOk result (λ x. Spells spell_answers FitsAnswers bytes.now x.0 x.1) }
-    ensures only { (x : List Answer) (rest : List ℕ) → FitsAnswers x → bytes.now ≡ spell_answers x ++ rest → IsUnlessMemory result (Ok (x, length (spell_answers x))) }
+    ensures only { (x : List Answer) (rest : List ℕ) → FitsAnswers x
+        → bytes.now ≡ spell_answers x ++ rest
+        → IsUnlessMemory result (Ok (x, length (spell_answers x))) }
 {
     take_first(alloc, bytes)
 }
@@ -170,7 +183,9 @@ pub fn take_answers(alloc: Global, bytes: &[u8]) -> Result<(Answers, usize), Can
 pub fn take_draw_kind(alloc: Global, bytes: &[u8]) -> Result<(DrawKind, usize), CanonFault>
     ensures exact { GivesFirst draw_kind_at bytes.now result }
     ensures found { IfOk result (λ x. Spells spell_draw_kind FitsDrawKind bytes.now x.0 x.1) }
-    ensures only { (x : DrawKind) (rest : List ℕ) → FitsDrawKind x → bytes.now ≡ spell_draw_kind x ++ rest → IsUnlessMemory result (Ok (x, length (spell_draw_kind x))) }
+    ensures only { (x : DrawKind) (rest : List ℕ) → FitsDrawKind x
+        → bytes.now ≡ spell_draw_kind x ++ rest
+        → IsUnlessMemory result (Ok (x, length (spell_draw_kind x))) }
 {
     take_first(alloc, bytes)
 }
@@ -180,7 +195,8 @@ pub fn take_draw_kind(alloc: Global, bytes: &[u8]) -> Result<(DrawKind, usize), 
 pub fn take_draw(alloc: Global, bytes: &[u8]) -> Result<(Draw, usize), CanonFault>
     ensures exact { GivesFirst draw_at bytes.now result }
     ensures found { IfOk result (λ x. Spells spell_draw FitsDraw bytes.now x.0 x.1) }
-    ensures only { (x : Draw) (rest : List ℕ) → FitsDraw x → bytes.now ≡ spell_draw x ++ rest → IsUnlessMemory result (Ok (x, length (spell_draw x))) }
+    ensures only { (x : Draw) (rest : List ℕ) → FitsDraw x → bytes.now ≡ spell_draw x ++ rest
+        → IsUnlessMemory result (Ok (x, length (spell_draw x))) }
 {
     take_first(alloc, bytes)
 }
@@ -190,7 +206,8 @@ pub fn take_draw(alloc: Global, bytes: &[u8]) -> Result<(Draw, usize), CanonFaul
 pub fn take_draws(alloc: Global, bytes: &[u8]) -> Result<(Draws, usize), CanonFault>
     ensures exact { GivesFirst draws_at bytes.now result }
     ensures found { IfOk result (λ x. Spells spell_draws FitsDraws bytes.now x.0 x.1) }
-    ensures only { (x : List Draw) (rest : List ℕ) → FitsDraws x → bytes.now ≡ spell_draws x ++ rest → IsUnlessMemory result (Ok (x, length (spell_draws x))) }
+    ensures only { (x : List Draw) (rest : List ℕ) → FitsDraws x → bytes.now ≡ spell_draws x ++ rest
+        → IsUnlessMemory result (Ok (x, length (spell_draws x))) }
 {
     take_first(alloc, bytes)
 }
@@ -200,7 +217,9 @@ pub fn take_draws(alloc: Global, bytes: &[u8]) -> Result<(Draws, usize), CanonFa
 pub fn take_operand(alloc: Global, bytes: &[u8]) -> Result<(Operand, usize), CanonFault>
     ensures exact { GivesFirst operand_at bytes.now result }
     ensures found { IfOk result (λ x. Spells spell_operand FitsOperand bytes.now x.0 x.1) }
-    ensures only { (x : Operand) (rest : List ℕ) → FitsOperand x → bytes.now ≡ spell_operand x ++ rest → IsUnlessMemory result (Ok (x, length (spell_operand x))) }
+    ensures only { (x : Operand) (rest : List ℕ) → FitsOperand x
+        → bytes.now ≡ spell_operand x ++ rest
+        → IsUnlessMemory result (Ok (x, length (spell_operand x))) }
 {
     take_first(alloc, bytes)
 }
@@ -210,7 +229,9 @@ pub fn take_operand(alloc: Global, bytes: &[u8]) -> Result<(Operand, usize), Can
 pub fn take_operands(alloc: Global, bytes: &[u8]) -> Result<(Operands, usize), CanonFault>
     ensures exact { GivesFirst operands_at bytes.now result }
     ensures found { IfOk result (λ x. Spells spell_operands FitsOperands bytes.now x.0 x.1) }
-    ensures only { (x : List Operand) (rest : List ℕ) → FitsOperands x → bytes.now ≡ spell_operands x ++ rest → IsUnlessMemory result (Ok (x, length (spell_operands x))) }
+    ensures only { (x : List Operand) (rest : List ℕ) → FitsOperands x
+        → bytes.now ≡ spell_operands x ++ rest
+        → IsUnlessMemory result (Ok (x, length (spell_operands x))) }
 {
     take_first(alloc, bytes)
 }
@@ -220,7 +241,8 @@ pub fn take_operands(alloc: Global, bytes: &[u8]) -> Result<(Operands, usize), C
 pub fn take_change(alloc: Global, bytes: &[u8]) -> Result<(Change, usize), CanonFault>
     ensures exact { GivesFirst change_at bytes.now result }
     ensures found { IfOk result (λ x. Spells spell_change FitsChange bytes.now x.0 x.1) }
-    ensures only { (x : Change) (rest : List ℕ) → FitsChange x → bytes.now ≡ spell_change x ++ rest → IsUnlessMemory result (Ok (x, length (spell_change x))) }
+    ensures only { (x : Change) (rest : List ℕ) → FitsChange x → bytes.now ≡ spell_change x ++ rest
+        → IsUnlessMemory result (Ok (x, length (spell_change x))) }
 {
     take_first(alloc, bytes)
 }
@@ -230,7 +252,8 @@ pub fn take_change(alloc: Global, bytes: &[u8]) -> Result<(Change, usize), Canon
 pub fn take_test(alloc: Global, bytes: &[u8]) -> Result<(Test, usize), CanonFault>
     ensures exact { GivesFirst test_at bytes.now result }
     ensures found { IfOk result (λ x. Spells spell_test FitsTest bytes.now x.0 x.1) }
-    ensures only { (x : Test) (rest : List ℕ) → FitsTest x → bytes.now ≡ spell_test x ++ rest → IsUnlessMemory result (Ok (x, length (spell_test x))) }
+    ensures only { (x : Test) (rest : List ℕ) → FitsTest x → bytes.now ≡ spell_test x ++ rest
+        → IsUnlessMemory result (Ok (x, length (spell_test x))) }
 {
     take_first(alloc, bytes)
 }
@@ -240,7 +263,9 @@ pub fn take_test(alloc: Global, bytes: &[u8]) -> Result<(Test, usize), CanonFaul
 pub fn take_statement(alloc: Global, bytes: &[u8]) -> Result<(Statement, usize), CanonFault>
     ensures exact { GivesFirst statement_at bytes.now result }
     ensures found { IfOk result (λ x. Spells spell_statement FitsStatement bytes.now x.0 x.1) }
-    ensures only { (x : Statement) (rest : List ℕ) → FitsStatement x → bytes.now ≡ spell_statement x ++ rest → IsUnlessMemory result (Ok (x, length (spell_statement x))) }
+    ensures only { (x : Statement) (rest : List ℕ) → FitsStatement x
+        → bytes.now ≡ spell_statement x ++ rest
+        → IsUnlessMemory result (Ok (x, length (spell_statement x))) }
 {
     take_first(alloc, bytes)
 }
@@ -250,7 +275,9 @@ pub fn take_statement(alloc: Global, bytes: &[u8]) -> Result<(Statement, usize),
 pub fn take_statements(alloc: Global, bytes: &[u8]) -> Result<(Statements, usize), CanonFault>
     ensures exact { GivesFirst statements_at bytes.now result }
     ensures found { IfOk result (λ x. Spells spell_statements FitsStatements bytes.now x.0 x.1) }
-    ensures only { (x : List Statement) (rest : List ℕ) → FitsStatements x → bytes.now ≡ spell_statements x ++ rest → IsUnlessMemory result (Ok (x, length (spell_statements x))) }
+    ensures only { (x : List Statement) (rest : List ℕ) → FitsStatements x
+        → bytes.now ≡ spell_statements x ++ rest
+        → IsUnlessMemory result (Ok (x, length (spell_statements x))) }
 {
     take_first(alloc, bytes)
 }
@@ -260,7 +287,8 @@ pub fn take_statements(alloc: Global, bytes: &[u8]) -> Result<(Statements, usize
 pub fn take_call(alloc: Global, bytes: &[u8]) -> Result<(Call, usize), CanonFault>
     ensures exact { GivesFirst call_at bytes.now result }
     ensures found { IfOk result (λ x. Spells spell_call FitsCall bytes.now x.0 x.1) }
-    ensures only { (x : Call) (rest : List ℕ) → FitsCall x → bytes.now ≡ spell_call x ++ rest → IsUnlessMemory result (Ok (x, length (spell_call x))) }
+    ensures only { (x : Call) (rest : List ℕ) → FitsCall x → bytes.now ≡ spell_call x ++ rest
+        → IsUnlessMemory result (Ok (x, length (spell_call x))) }
 {
     take_first(alloc, bytes)
 }
@@ -270,7 +298,9 @@ pub fn take_call(alloc: Global, bytes: &[u8]) -> Result<(Call, usize), CanonFaul
 pub fn take_settings(alloc: Global, bytes: &[u8]) -> Result<(Settings, usize), CanonFault>
     ensures exact { GivesFirst settings_at bytes.now result }
     ensures found { IfOk result (λ x. Spells spell_settings FitsSettings bytes.now x.0 x.1) }
-    ensures only { (x : NamedValues) (rest : List ℕ) → FitsSettings x → bytes.now ≡ spell_settings x ++ rest → IsUnlessMemory result (Ok (x, length (spell_settings x))) }
+    ensures only { (x : NamedValues) (rest : List ℕ) → FitsSettings x
+        → bytes.now ≡ spell_settings x ++ rest
+        → IsUnlessMemory result (Ok (x, length (spell_settings x))) }
 {
     take_first(alloc, bytes)
 }
@@ -280,7 +310,8 @@ pub fn take_settings(alloc: Global, bytes: &[u8]) -> Result<(Settings, usize), C
 pub fn take_ltxid(alloc: Global, bytes: &[u8]) -> Result<(Ltxid, usize), CanonFault>
     ensures exact { GivesFirst ltxid_at bytes.now result }
     ensures found { IfOk result (λ x. Spells spell_ltxid FitsLtxid bytes.now x.0 x.1) }
-    ensures only { (x : Ltxid) (rest : List ℕ) → FitsLtxid x → bytes.now ≡ spell_ltxid x ++ rest → IsUnlessMemory result (Ok (x, length (spell_ltxid x))) }
+    ensures only { (x : Ltxid) (rest : List ℕ) → FitsLtxid x → bytes.now ≡ spell_ltxid x ++ rest
+        → IsUnlessMemory result (Ok (x, length (spell_ltxid x))) }
 {
     take_first(alloc, bytes)
 }
@@ -290,7 +321,8 @@ pub fn take_ltxid(alloc: Global, bytes: &[u8]) -> Result<(Ltxid, usize), CanonFa
 pub fn take_piece(alloc: Global, bytes: &[u8]) -> Result<(Piece, usize), CanonFault>
     ensures exact { GivesFirst piece_at bytes.now result }
     ensures found { IfOk result (λ x. Spells spell_piece FitsPiece bytes.now x.0 x.1) }
-    ensures only { (x : Piece) (rest : List ℕ) → FitsPiece x → bytes.now ≡ spell_piece x ++ rest → IsUnlessMemory result (Ok (x, length (spell_piece x))) }
+    ensures only { (x : Piece) (rest : List ℕ) → FitsPiece x → bytes.now ≡ spell_piece x ++ rest
+        → IsUnlessMemory result (Ok (x, length (spell_piece x))) }
 {
     take_first(alloc, bytes)
 }
@@ -300,7 +332,8 @@ pub fn take_piece(alloc: Global, bytes: &[u8]) -> Result<(Piece, usize), CanonFa
 pub fn take_write(alloc: Global, bytes: &[u8]) -> Result<(Write, usize), CanonFault>
     ensures exact { GivesFirst write_at bytes.now result }
     ensures found { IfOk result (λ x. Spells spell_write FitsWrite bytes.now x.0 x.1) }
-    ensures only { (x : Write) (rest : List ℕ) → FitsWrite x → bytes.now ≡ spell_write x ++ rest → IsUnlessMemory result (Ok (x, length (spell_write x))) }
+    ensures only { (x : Write) (rest : List ℕ) → FitsWrite x → bytes.now ≡ spell_write x ++ rest
+        → IsUnlessMemory result (Ok (x, length (spell_write x))) }
 {
     take_first(alloc, bytes)
 }
@@ -310,7 +343,8 @@ pub fn take_write(alloc: Global, bytes: &[u8]) -> Result<(Write, usize), CanonFa
 pub fn take_entry(alloc: Global, bytes: &[u8]) -> Result<(Entry, usize), CanonFault>
     ensures exact { GivesFirst entry_at bytes.now result }
     ensures found { IfOk result (λ x. Spells spell_entry FitsEntry bytes.now x.0 x.1) }
-    ensures only { (x : Entry) (rest : List ℕ) → FitsEntry x → bytes.now ≡ spell_entry x ++ rest → IsUnlessMemory result (Ok (x, length (spell_entry x))) }
+    ensures only { (x : Entry) (rest : List ℕ) → FitsEntry x → bytes.now ≡ spell_entry x ++ rest
+        → IsUnlessMemory result (Ok (x, length (spell_entry x))) }
 {
     take_first(alloc, bytes)
 }

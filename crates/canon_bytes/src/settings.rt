@@ -20,7 +20,8 @@ fn take_setting<'a>(
     settings: &Settings,
     bytes: &'a [u8],
 ) -> Result<(Name, Value, &'a [u8]), ReadFault>
-    ensures exact { IsReading (λ x. ((x.0, x.1), x.2.now)) result (setting_at (last_name settings.now) bytes.now) }
+    ensures exact { IsReading (λ x. ((x.0, x.1), x.2.now)) result
+        (setting_at (last_name settings.now) bytes.now) }
     ensures found { IfOk result (λ x. bytes.now ≡ spell_setting (x.0, x.1) ++ x.2.now) }
     ensures fitting { IfOk result (λ x. FitsSetting (x.0, x.1)) }
     ensures above { IfOk result (λ x. AllBelow settings.now x.0) }
@@ -53,7 +54,8 @@ fn take_rising(alloc: Global, count: u64, bytes: &[u8]) -> Result<(Settings, &[u
 
 /// Writes the settings in order, without their number.
 fn put_each(settings: &Settings, out: &mut Vec<u8>) -> Result<(), NoMemory>
-    ensures written { OnOk result (out.new.items ≡ out.old.items ++ flat_map spell_setting settings.now) }
+    ensures written { OnOk result (out.new.items ≡ out.old.items
+        ++ flat_map spell_setting settings.now) }
     ensures fitting { OnOk result (AllByRecursion FitsSetting settings.now) }
     ensures rising { AreSettings settings.now }
 {

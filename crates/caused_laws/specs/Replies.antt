@@ -36,7 +36,8 @@ Replies served frame = (x : Ltxid) × (reply_to x served ≡ Some frame)
 abbrev pub Answers : Option Up → Item → Type 0
 Answers last (item.Refused cause) = Unit {0}
 Answers (Some up.Connect) item.Connect = Unit {0}
-Answers (Some (up.Call mark kept call)) (item.Call replay served answers draws) = (replay ≡ mark) × (served ≡ call)
+Answers (Some (up.Call mark kept call)) (item.Call replay served answers draws) = (replay ≡ mark)
+    × (served ≡ call)
 Answers (Some (up.Call mark kept call)) (item.Blocked served) = served ≡ call
 Answers (Some (up.Outcome x)) (item.Outcome asked result) = asked ≡ x
 Answers _ _ = ⊥

@@ -19,7 +19,13 @@ kind_of failover.Auto consistent = Auto
 
 -- its limits, as its clients keep to them
 abbrev pub limits_of : ServiceOf → Clocked
-limits_of service = record { retries = service.retries; delay = service.delay; timeout = service.timeout; replays = service.replays; wait = service.pool.wait }
+limits_of service = record {
+  retries = service.retries;
+  delay = service.delay;
+  timeout = service.timeout;
+  replays = service.replays;
+  wait = service.pool.wait;
+}
 
 -- the terms are those of the service
 pub record AreTermsOf (service : ServiceOf) (terms : Terms) : Type 0 where

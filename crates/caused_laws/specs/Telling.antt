@@ -87,7 +87,8 @@ act_at terms request inputs one = (talk_step terms (talk_of terms request inputs
 -- A step that takes a frame: the reply to an item that answers the last frame that was sent. The
 -- frame is one that a client expects there: of no identifier that it asks for is it told that the
 -- server or the client is ahead.
-pub record IsTaking (terms : Terms) (request : Request) (before : Before) (one : ToldStep) (sent : ℕ) : Type 0 where
+pub record IsTaking (terms : Terms) (request : Request) (before : Before) (one : ToldStep)
+    (sent : ℕ) : Type 0 where
   pub served : Served
   pub is_served : one.step.taken ≡ Some served
   pub frame : Down
@@ -96,7 +97,11 @@ pub record IsTaking (terms : Terms) (request : Request) (before : Before) (one :
   pub expected : is_expected (account_at terms request before.inputs).last frame ≡ true
   pub alive : Bool
   pub event : ℕ
-  pub inputs_are : one.inputs ≡ (Took frame alive, one.step.tick) ∷ loss_behind (is_gone_next (Took frame alive) (act_at terms request before.inputs (Took frame alive, one.step.tick)).hold) event one.step.tick
+  pub inputs_are : one.inputs ≡ (Took frame alive, one.step.tick) ∷ loss_behind
+      (is_gone_next (Took frame alive) (act_at terms request before.inputs (
+        Took frame alive,
+        one.step.tick,
+      )).hold) event one.step.tick
   pub sends : SentBy (act_at terms request before.inputs (Took frame alive, one.step.tick)) sent
   pub lost : LostBy (account_at terms request before.inputs) before.steps one.step.lost served.item
 
@@ -112,13 +117,19 @@ pub record Has (one : ToldStep) (inputs : List Timed) : Type 0 where
 abbrev pub TellsBy : Terms → Request → Before → ToldStep → GoNote → Type 0
 TellsBy terms request before one go.Idle = ⊥
 TellsBy terms request before one go.Wait = Has one (begun_with before.inputs one.step.tick Waiting)
-TellsBy terms request before one go.NoFrame = Has one [] × (wants_of terms (talk_of terms request before.inputs) one.step.tick ≡ wants.Frame)
-TellsBy terms request before one go.Early = Has one [] × (wants_of terms (talk_of terms request before.inputs) one.step.tick ≡ wants.Early)
-TellsBy terms request before one go.Down = Has one (begun_with before.inputs one.step.tick TryFailed)
-TellsBy terms request before one (go.Open connection) = Has one (begun_with before.inputs one.step.tick (Opened connection))
-TellsBy terms request before one (go.Lent connection) = (x : Ltxid) × Has one (begun_with before.inputs one.step.tick (Lent connection x))
+TellsBy terms request before one go.NoFrame =
+    Has one [] × (wants_of terms (talk_of terms request before.inputs) one.step.tick ≡ wants.Frame)
+TellsBy terms request before one go.Early =
+    Has one [] × (wants_of terms (talk_of terms request before.inputs) one.step.tick ≡ wants.Early)
+TellsBy terms request before one go.Down =
+    Has one (begun_with before.inputs one.step.tick TryFailed)
+TellsBy terms request before one (go.Open connection) =
+    Has one (begun_with before.inputs one.step.tick (Opened connection))
+TellsBy terms request before one (go.Lent connection) =
+    (x : Ltxid) × Has one (begun_with before.inputs one.step.tick (Lent connection x))
 TellsBy terms request before one (go.Took connection sent) = IsTaking terms request before one sent
-TellsBy terms request before one (go.Lost connection) = (event : ℕ) × Has one ((Gone event, one.step.tick) ∷ [])
+TellsBy terms request before one (go.Lost connection) =
+    (event : ℕ) × Has one ((Gone event, one.step.tick) ∷ [])
 
 abbrev pub Tells : Terms → Request → Before → ToldStep → Type 0
 Tells terms request before one = TellsBy terms request before one one.step.did
@@ -130,7 +141,8 @@ behind before one = record { steps = one.step ∷ before.steps; inputs = before.
 -- each of these, one after the other
 abbrev pub AllTell : Terms → Request → Before → List ToldStep → Type 0
 AllTell terms request before [] = Unit {0}
-AllTell terms request before (one ∷ more) = Tells terms request before one × AllTell terms request (behind before one) more
+AllTell terms request before (one ∷ more) = Tells terms request before one
+    × AllTell terms request (behind before one) more
 
 -- CONVERSATIONS -----------------------------------------------------------------------------------
 

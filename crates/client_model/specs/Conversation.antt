@@ -14,7 +14,8 @@ use Rattle.client_model.specs.meaning.Conversation.{Done, Timed, done_at, talk_a
 -- the steps of the whole list
 abbrev pub steps_of : Terms → Talk → List Timed → List Done
 steps_of terms talk [] = []
-steps_of terms talk (one ∷ inputs) = done_at terms talk one ∷ steps_of terms (talk_at terms talk one) inputs
+steps_of terms talk (one ∷ inputs) = done_at terms talk one
+    ∷ steps_of terms (talk_at terms talk one) inputs
 
 -- and where they lead
 abbrev pub talk_after : Terms → Talk → List Timed → Talk
@@ -53,4 +54,5 @@ abbrev pub MayCome : Terms → Talk → Bool → List Timed → Type 0
 MayCome terms talk gone_next [] = Unit {0}
 MayCome terms talk gone_next (one ∷ inputs) =
     IsTrue (may_come gone_next (wants_of terms talk one.1) one.0)
-    × MayCome terms (talk_at terms talk one) (is_gone_next one.0 (done_at terms talk one).act.hold) inputs
+    × MayCome terms (talk_at terms talk one) (is_gone_next one.0 (done_at terms talk one).act.hold)
+    inputs

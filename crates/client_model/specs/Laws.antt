@@ -36,14 +36,16 @@ use Rattle.client_model.specs.Tried.{sent_in}
 -- P, at each step, of what is known before its frames go out
 abbrev pub EachStep : (Account → Done → Type 0) → Terms → List Call → Account → List Done → Type 0
 EachStep P terms calls account [] = Unit {0}
-EachStep P terms calls account (done ∷ steps) = P (before_sends terms calls account done) done × EachStep P terms calls (after_step terms calls account done) steps
+EachStep P terms calls account (done ∷ steps) = P (before_sends terms calls account done) done
+    × EachStep P terms calls (after_step terms calls account done) steps
 
 -- at each step of every conversation
 abbrev pub Always : (Terms → List (List ℕ × Value) → List Call → Account → Done → Type 0) → Type 0
 Always P =
     (terms : Terms) (settings : List (List ℕ × Value)) (calls : List Call) (inputs : List Timed)
     → MayCome terms (requested settings calls) false inputs
-    → EachStep (P terms settings calls) terms calls unheard (steps_of terms (requested settings calls) inputs)
+    → EachStep (P terms settings calls) terms calls unheard
+    (steps_of terms (requested settings calls) inputs)
 
 -- REPLAYS -----------------------------------------------------------------------------------------
 
@@ -57,14 +59,16 @@ digests_of calls = map (λ one. one.seen.digest) calls
 -- it comes first.
 pub record IsAnswered (next : ℕ) (session : Session) (answered : Answered) : Type 0 where
   pub asked : answered.held ≡ Some answered.outcome.ltxid
-  pub verified : answered.outcome.committed ≡ false → session.repeated ≡ digests_of answered.recorded
+  pub verified : answered.outcome.committed ≡ false
+      → session.repeated ≡ digests_of answered.recorded
   pub lost_call : answered.outcome.committed ≡ false → next ≡ answered.lost + session.sent
   pub completed : answered.outcome.committed ≡ true → answered.outcome.completed ≡ true
   pub next_call : answered.outcome.committed ≡ true → next ≡ answered.lost + session.sent + 1
 
 -- the request began first on this session, or it answered for the lost one
 abbrev pub FollowsOutcome : ℕ → Session → Type 0
-FollowsOutcome next session = (session.first ≡ true) ⊎ ((answered : Answered) × (session.answered ≡ Some answered) × IsAnswered next session answered)
+FollowsOutcome next session = (session.first ≡ true) ⊎ ((answered : Answered)
+    × (session.answered ≡ Some answered) × IsAnswered next session answered)
 
 -- An unmarked call is the one behind those shown, and on a later session than the first the lost
 -- one was answered for.
@@ -75,11 +79,13 @@ pub record MaySend (calls : List Call) (heard : Account) (call : Call) : Type 0 
 -- each unmarked call of these frames is such
 abbrev pub MaySendAll : List Call → Account → List Up → Type 0
 MaySendAll calls heard [] = Unit {0}
-MaySendAll calls heard (up.Call false kept call ∷ frames) = MaySend calls heard call × MaySendAll calls heard frames
+MaySendAll calls heard (up.Call false kept call ∷ frames) = MaySend calls heard call
+    × MaySendAll calls heard frames
 MaySendAll calls heard (_ ∷ frames) = MaySendAll calls heard frames
 
 abbrev pub ReplaysOnlyVerified : Type 0
-ReplaysOnlyVerified = Always (λ terms settings calls heard done. MaySendAll calls heard done.act.send)
+ReplaysOnlyVerified = Always (λ terms settings calls heard done. MaySendAll calls heard
+    done.act.send)
 
 -- CAUSES ------------------------------------------------------------------------------------------
 
@@ -92,7 +98,11 @@ pub record Says (heard : Account) (input : Input) (committed completed : Bool) :
   pub alive : Bool
   pub taken : input ≡ Took (down.OutcomeIs committed completed) alive
   pub asked : heard.last ≡ Some (up.Outcome ltxid)
-  pub last : last_outcome heard ≡ Some (record { ltxid = ltxid; committed = committed; completed = completed })
+  pub last : last_outcome heard ≡ Some (record {
+    ltxid = ltxid;
+    committed = committed;
+    completed = completed;
+  })
 
 abbrev pub SaysUncommitted : Account → Input → Type 0
 SaysUncommitted heard input = (completed : Bool) × Says heard input false completed
@@ -120,7 +130,8 @@ pub record WasEndedBy (heard : Account) (event : ℕ) : Type 0 where
   pub ended : answered.event ≡ Some event
 
 -- an outcome shows a call, another one follows, a `set` was shown, and no rule keeps its settings
-pub record LosesState (terms : Terms) (calls : List Call) (heard : Account) (input : Input) (index : ℕ) : Type 0 where
+pub record LosesState (terms : Terms) (calls : List Call) (heard : Account) (input : Input)
+    (index : ℕ) : Type 0 where
   pub outcome : Says heard input true true
   pub follows : index ≡ length heard.shown
   pub exists : IsSome (slice_get calls index)
@@ -137,12 +148,16 @@ IsStateLost reason index = reason ≡ why.StateLost index
 
 -- A reply to a marked call has the digest `now`, and the answers that were shown at its index had
 -- `seen`.
-pub record Differed (terms : Terms) (heard : Account) (input : Input) (index : ℕ) (seen now : List ℕ) : Type 0 where
-  pub taken : (answers : List Answer) × (draws : List Draw) × (ltxid : Ltxid) × (alive : Bool) × (input ≡ Took (down.Reply answers draws ltxid) alive) × (terms.digest answers ≡ now)
-  pub shown : (one : Shown) × (slice_get heard.shown index ≡ Some one) × (terms.digest one.answers ≡ seen)
+pub record Differed (terms : Terms) (heard : Account) (input : Input) (index : ℕ)
+    (seen now : List ℕ) : Type 0 where
+  pub taken : (answers : List Answer) × (draws : List Draw) × (ltxid : Ltxid) × (alive : Bool)
+      × (input ≡ Took (down.Reply answers draws ltxid) alive) × (terms.digest answers ≡ now)
+  pub shown : (one : Shown) × (slice_get heard.shown index ≡ Some one)
+      × (terms.digest one.answers ≡ seen)
   pub marked : (kept : List Draw) × (one : Call) × (heard.last ≡ Some (up.Call true kept one))
   pub repeated : last_or None heard.session.repeated ≡ Some now
-  pub place : index + length heard.since_purge + 1 ≡ length heard.shown + length heard.session.repeated
+  pub place : index + length heard.since_purge + 1 ≡ length heard.shown
+      + length heard.session.repeated
   pub differ : seen ≢ now
 
 pub record HadReplays (terms : Terms) (heard : Account) (input : Input) (limit : ℕ) : Type 0 where
@@ -151,7 +166,8 @@ pub record HadReplays (terms : Terms) (heard : Account) (input : Input) (limit :
   pub is_limit : limit ≡ terms.limits.replays
   pub many : count_uncommitted heard ≡ limit + 1
 
-pub record WasLate (terms : Terms) (heard : Account) (input : Input) (tick first ready : ℕ) : Type 0 where
+pub record WasLate (terms : Terms) (heard : Account) (input : Input)
+    (tick first ready : ℕ) : Type 0 where
   pub outcome : SaysUncommitted heard input
   pub no_reason : heard.reason ≡ None
   pub few : count_uncommitted heard ≤ terms.limits.replays
@@ -165,7 +181,8 @@ pub record FailedTries (terms : Terms) (heard : Account) (input : Input) (tries 
   pub many : terms.limits.retries ≤ tries
   pub none_before : 1 ≤ terms.limits.retries → tries ≡ terms.limits.retries
 
-pub record Waited (terms : Terms) (heard : Account) (input : Input) (tick first now : ℕ) : Type 0 where
+pub record Waited (terms : Terms) (heard : Account) (input : Input)
+    (tick first now : ℕ) : Type 0 where
   pub waits : input ≡ Waiting
   pub no_slot : heard.slot ≡ false
   pub is_first : heard.waits ≡ Some first
@@ -192,20 +209,26 @@ abbrev pub IsCaused : Terms → List Call → Account → Input → ℕ → Fail
 IsCaused terms calls heard input tick (Retries tries) = FailedTries terms heard input tries
 IsCaused terms calls heard input tick (Incomplete ltxid) = IsUnfinished heard input ltxid
 IsCaused terms calls heard input tick (Disabled reason event) =
-    WasEndedBy heard event × (((index : ℕ) × IsStateLost reason index × LosesState terms calls heard input index) ⊎ HadReason heard input reason)
-IsCaused terms calls heard input tick (Replays limit event) = WasEndedBy heard event × HadReplays terms heard input limit
-IsCaused terms calls heard input tick (ReplayTimeout first ready) = WasLate terms heard input tick first ready
-IsCaused terms calls heard input tick (Mismatch index seen now) = Differed terms heard input index seen now
+    WasEndedBy heard event × (((index : ℕ) × IsStateLost reason index
+    × LosesState terms calls heard input index) ⊎ HadReason heard input reason)
+IsCaused terms calls heard input tick (Replays limit event) = WasEndedBy heard event
+    × HadReplays terms heard input limit
+IsCaused terms calls heard input tick (ReplayTimeout first ready) =
+    WasLate terms heard input tick first ready
+IsCaused terms calls heard input tick (Mismatch index seen now) =
+    Differed terms heard input index seen now
 IsCaused terms calls heard input tick (PoolWait first now) = Waited terms heard input tick first now
 IsCaused terms calls heard input tick (Unknown ltxid) = IsForgotten heard input ltxid
 IsCaused terms calls heard input tick (BadPeer tag) = Unexpected heard input tag
 
 abbrev pub HasCause : Terms → List Call → Account → Done → Type 0
-HasCause terms calls heard done = (failed : Failed) → done.act.failed ≡ Some failed → IsCaused terms calls heard done.input done.now failed
+HasCause terms calls heard done = (failed : Failed) → done.act.failed ≡ Some failed
+    → IsCaused terms calls heard done.input done.now failed
 
 -- where a cause holds its error is shown
 abbrev pub FailsWhere : Terms → List Call → Account → Done → Type 0
-FailsWhere terms calls heard done = (failed : Failed) → IsCaused terms calls heard done.input done.now failed → done.act.failed ≡ Some failed
+FailsWhere terms calls heard done = (failed : Failed)
+    → IsCaused terms calls heard done.input done.now failed → done.act.failed ≡ Some failed
 
 abbrev pub FailsAtCause : Type 0
 FailsAtCause = Always (λ terms settings calls heard done. FailsWhere terms calls heard done)
@@ -213,8 +236,10 @@ FailsAtCause = Always (λ terms settings calls heard done. FailsWhere terms call
 -- no two errors have their causes at one step
 abbrev pub HasOneCause : Type 0
 HasOneCause =
-    (terms : Terms) (calls : List Call) (heard : Account) (input : Input) (tick : ℕ) (failed other : Failed)
-    → IsCaused terms calls heard input tick failed → IsCaused terms calls heard input tick other → failed ≡ other
+    (terms : Terms) (calls : List Call) (heard : Account) (input : Input) (tick : ℕ)
+    (failed other : Failed)
+    → IsCaused terms calls heard input tick failed → IsCaused terms calls heard input tick other
+    → failed ≡ other
 
 abbrev pub FailsForCause : Type 0
 FailsForCause = Always (λ terms settings calls heard done. HasCause terms calls heard done)
@@ -223,8 +248,10 @@ FailsForCause = Always (λ terms settings calls heard done. HasCause terms calls
 
 -- the request's settings, and under a rule that keeps settings every `set` that was shown before
 -- the last purge on them
-abbrev pub settings_known : Terms → List (List ℕ × Value) → List Call → Account → List (List ℕ × Value)
-settings_known terms settings calls heard = if terms.rules.keeps then with_sets settings (take heard.purged calls) else settings
+abbrev pub settings_known : Terms → List (List ℕ × Value) → List Call → Account
+    → List (List ℕ × Value)
+settings_known terms settings calls heard =
+    if terms.rules.keeps then with_sets settings (take heard.purged calls) else settings
 
 abbrev pub BegunWith : List (List ℕ × Value) → List Up → Type 0
 BegunWith known [] = Unit {0}
@@ -232,7 +259,8 @@ BegunWith known (up.Begin settings ∷ frames) = (settings ≡ known) × BegunWi
 BegunWith known (_ ∷ frames) = BegunWith known frames
 
 abbrev pub BeginsKnown : Type 0
-BeginsKnown = Always (λ terms settings calls heard done. BegunWith (settings_known terms settings calls heard) done.act.send)
+BeginsKnown = Always (λ terms settings calls heard done.
+    BegunWith (settings_known terms settings calls heard) done.act.send)
 
 -- OUTCOMES ----------------------------------------------------------------------------------------
 
@@ -241,7 +269,8 @@ abbrev pub FewReplays : Type 0
 FewReplays =
     (terms : Terms) (settings : List (List ℕ × Value)) (calls : List Call) (inputs : List Timed)
     → MayCome terms (requested settings calls) false inputs
-    → count_uncommitted (account_of terms calls (steps_of terms (requested settings calls) inputs)) ≤ terms.limits.replays + 1
+    → count_uncommitted (account_of terms calls (steps_of terms (requested settings calls) inputs))
+    ≤ terms.limits.replays + 1
 
 -- THE TRACK ---------------------------------------------------------------------------------------
 
@@ -265,7 +294,8 @@ pub record IsKept (calls : List Call) (account : Account) (track : Track) : Type
 
 abbrev pub KeepsWhatIsTold : Type 0
 KeepsWhatIsTold =
-    (terms : Terms) (settings : List (List ℕ × Value)) (calls : List Call) (inputs : List Timed) (track : Track)
+    (terms : Terms) (settings : List (List ℕ × Value)) (calls : List Call) (inputs : List Timed)
+    (track : Track)
     → MayCome terms (requested settings calls) false inputs
     → track_of (talk_after terms (requested settings calls) inputs).phase ≡ Some track
     → IsKept calls (account_of terms calls (steps_of terms (requested settings calls) inputs)) track
@@ -273,9 +303,11 @@ KeepsWhatIsTold =
 -- under each row of the table of rules the reason told is the earliest of the table of reasons
 abbrev pub HasTablesReason : Type 0
 HasTablesReason =
-    (kind : Kind) (terms : Terms) (settings : List (List ℕ × Value)) (calls : List Call) (inputs : List Timed)
+    (kind : Kind) (terms : Terms) (settings : List (List ℕ × Value)) (calls : List Call)
+    (inputs : List Timed)
     → terms.rules ≡ rules_of kind → MayCome terms (requested settings calls) false inputs
-    → (account_of terms calls (steps_of terms (requested settings calls) inputs)).reason ≡ reason_of kind terms.recorded (steps_of terms (requested settings calls) inputs)
+    → (account_of terms calls (steps_of terms (requested settings calls) inputs)).reason
+    ≡ reason_of kind terms.recorded (steps_of terms (requested settings calls) inputs)
 
 -- SLOTS -------------------------------------------------------------------------------------------
 
@@ -289,7 +321,8 @@ HoldsBy Drop None send = send ≡ []
 HoldsBy Drop (Some failed) send = (send ≡ []) ⊎ (send ≡ up.Close ∷ [])
 
 abbrev pub ReleasesRightly : Type 0
-ReleasesRightly = Always (λ terms settings calls heard done. HoldsBy done.act.hold done.act.failed done.act.send)
+ReleasesRightly = Always (λ terms settings calls heard done. HoldsBy done.act.hold done.act.failed
+    done.act.send)
 
 -- TRIED -------------------------------------------------------------------------------------------
 
@@ -300,4 +333,5 @@ TriesUnderHeld =
     (terms : Terms) (settings : List (List ℕ × Value)) (calls : List Call) (inputs : List Timed)
     → MayCome terms (requested settings calls) false inputs
     → let steps : List Done = steps_of terms (requested settings calls) inputs in
-    map (λ one. (one.call, Some one.ltxid)) (trying_of steps).sendings ≡ sent_in terms calls unheard [] steps
+    map (λ one. (one.call, Some one.ltxid)) (trying_of steps).sendings
+    ≡ sent_in terms calls unheard [] steps

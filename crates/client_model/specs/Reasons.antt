@@ -34,7 +34,8 @@ pub data Event : Type 0 where
 -- the submissions among frames, where so many calls are shown
 abbrev pub submissions : ℕ → List Up → List Event
 submissions index [] = []
-submissions index (up.Call false kept call ∷ frames) = Submitted call index ∷ submissions index frames
+submissions index (up.Call false kept call ∷ frames) =
+    Submitted call index ∷ submissions index frames
 submissions index (_ ∷ frames) = submissions index frames
 
 abbrev pub showing : Option Shown → List Event
@@ -46,7 +47,8 @@ abbrev pub events_from : ℕ → List Done → List Event
 events_from index [] = []
 events_from index (done ∷ steps) =
     let shown : List Event = showing done.act.shown in
-    shown ++ submissions (index + length shown) done.act.send ++ events_from (index + length shown) steps
+    shown ++ submissions (index + length shown) done.act.send
+    ++ events_from (index + length shown) steps
 
 abbrev pub events_of : List Done → List Event
 events_of steps = events_from 0 steps
@@ -73,9 +75,11 @@ show_reason kind limit since answers =
 -- the first reason of all
 abbrev pub reason_from : Kind → ℕ → ℕ → List Event → Option Why
 reason_from kind limit since [] = None
-reason_from kind limit since (Submitted call index ∷ events) = option_or (submit_reason kind call index) (reason_from kind limit since events)
+reason_from kind limit since (Submitted call index ∷ events) =
+    option_or (submit_reason kind call index) (reason_from kind limit since events)
 reason_from kind limit since (Showed answers ∷ events) =
-    option_or (show_reason kind limit since answers) (reason_from kind limit (if ends_decided answers then 0 else since + 1) events)
+    option_or (show_reason kind limit since answers)
+    (reason_from kind limit (if ends_decided answers then 0 else since + 1) events)
 
 abbrev pub reason_of : Kind → ℕ → List Done → Option Why
 reason_of kind limit steps = reason_from kind limit 0 (events_of steps)

@@ -15,7 +15,8 @@ sent_with held sent (up.Call false kept call) = (call, held) ∷ sent
 sent_with held sent _ = sent
 
 -- the same over all steps, each with what its account holds
-abbrev pub sent_in : Terms → List Call → Account → List (Call × Option Ltxid) → List Done → List (Call × Option Ltxid)
+abbrev pub sent_in : Terms → List Call → Account → List (Call × Option Ltxid) → List Done
+    → List (Call × Option Ltxid)
 sent_in terms calls account sent [] = sent
 sent_in terms calls account sent (done ∷ steps) =
     let after : Account = after_step terms calls account done in

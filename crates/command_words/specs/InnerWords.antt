@@ -21,7 +21,8 @@ bare_program = on_top (λ s. record s {
 
 -- the commands are `run`, `cover` and `check`
 abbrev pub program : App
-program = with_subcommand (with_subcommand (with_subcommand bare_program (new_shape (codes "run"))) (new_shape (codes "cover"))) (new_shape (codes "check"))
+program = with_subcommand (with_subcommand (with_subcommand bare_program (new_shape (codes "run")))
+    (new_shape (codes "cover"))) (new_shape (codes "check"))
 
 -- one word, the name of a command
 abbrev pub named_in : List (String Global) → Option Command

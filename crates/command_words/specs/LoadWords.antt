@@ -20,11 +20,13 @@ is_numeral digits = begins_as_numeral digits && list_all is_ascii_digit digits
 
 -- the number of 64 bits that a word is
 unfoldable pub number_of : List ℕ → Option ℕ
-number_of word = if is_numeral word && nat_lt (digits_value 10 word) (2 ^ 64) then Some (digits_value 10 word) else None
+number_of word = if is_numeral word && nat_lt (digits_value 10 word) (2 ^ 64) then
+    Some (digits_value 10 word) else None
 
 -- 1 to 64 clients, and 1 to 10 requests of each
 abbrev pub load_within : ℕ → ℕ → ℕ → Option Command
-load_within seed clients requests = if is_between 1 64 clients && is_between 1 10 requests then Some (command.Load seed clients requests) else None
+load_within seed clients requests = if is_between 1 64 clients && is_between 1 10 requests then
+    Some (command.Load seed clients requests) else None
 
 abbrev pub load_of : Option ℕ → Option ℕ → Option ℕ → Option Command
 load_of (Some seed) (Some clients) (Some requests) = load_within seed clients requests
@@ -33,7 +35,8 @@ load_of _ _ _ = None
 -- `load` and three numbers
 abbrev pub load_in : List ℕ → List ℕ → List ℕ → List ℕ → Option Command
 load_in name seed clients requests =
-    if bytes_eq name (codes "load") then load_of (number_of seed) (number_of clients) (number_of requests) else None
+    if bytes_eq name (codes "load") then load_of (number_of seed) (number_of clients)
+    (number_of requests) else None
 
 -- The numbers of a load are within their limits.
 pub record HasLoadNumbers (clients requests : ℕ) : Type 0 where

@@ -15,7 +15,8 @@ command_named name =
 -- one word, the name of the command; or `load` and its three numbers
 abbrev pub command_of : List (String Global) → Option Command
 command_of (word ∷ []) = command_named (string_bytes word)
-command_of (word ∷ seed ∷ clients ∷ requests ∷ []) = load_in (string_bytes word) (string_bytes seed) (string_bytes clients) (string_bytes requests)
+command_of (word ∷ seed ∷ clients ∷ requests ∷ []) =
+    load_in (string_bytes word) (string_bytes seed) (string_bytes clients) (string_bytes requests)
 command_of _ = None
 
 -- The command reads the source: `load` makes its own document.

@@ -71,7 +71,8 @@ fn load_within(seed: u64, clients: u64, requests: u64) -> Option<Command>
 
 /// The command of these three words behind `load`, if they are numbers within their limits.
 pub(crate) fn load_of(seed: &str, clients: &str, requests: &str) -> Option<Command>
-    ensures made { result ≡ load_def (number_def seed.now) (number_def clients.now) (number_def requests.now) }
+    ensures made { result ≡ load_def (number_def seed.now) (number_def clients.now)
+        (number_def requests.now) }
     ensures within { IfSome result HasItsNumbers }
 {
     let Some(seed) = number_of(seed) else {

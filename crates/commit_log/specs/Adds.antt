@@ -15,13 +15,15 @@ use Rattle.commit_log.specs.Logs.{GoesOnFrom, Trails}
 -- the record may come next in the journal of the disk, in which the store was opened or not and has
 -- a horizon or not
 abbrev pub MayAddTo : (is_opened has_horizon : Bool) → DiskState → Record → Type 0
-MayAddTo is_opened has_horizon disk new = (journal : Journal) → journal_of disk.now.seen ≡ Ok journal → IsTrue (may_come journal is_opened has_horizon new)
+MayAddTo is_opened has_horizon disk new = (journal : Journal)
+    → journal_of disk.now.seen ≡ Ok journal → IsTrue (may_come journal is_opened has_horizon new)
 
 -- it may come next in the journal of an opened store
 abbrev pub MayAdd : DiskState → Record → Type 0
 MayAdd disk new = MayAddTo true true disk new
 
-pub record AddsTo (is_opened has_horizon : Bool) (answer : Result (Unit {0}) RedoFault) (log : Log) (old new : DiskState) (added_record : Record) : Type 0 where
+pub record AddsTo (is_opened has_horizon : Bool) (answer : Result (Unit {0}) RedoFault) (log : Log)
+    (old new : DiskState) (added_record : Record) : Type 0 where
   -- at Ok the record is there, last
   pub added : OnOk answer (HasAdded old.now.seen (added_record ∷ []) new.now.seen)
   -- for want of memory there is none more
@@ -34,7 +36,9 @@ pub record AddsTo (is_opened has_horizon : Bool) (answer : Result (Unit {0}) Red
   -- the store is to be opened again
   pub goes_on : GoesOnFrom is_opened has_horizon added_record answer log new
   -- after Stopped it still knows where the old records end, in whatever a crash then leaves
-  pub trails : IsErrOf answer fault.Stopped → (journal : Journal) → so_far_of old.now.seen ≡ Ok (Begun journal is_opened has_horizon) → (image : List ℕ) → MayLeave new.now image
+  pub trails : IsErrOf answer fault.Stopped → (journal : Journal)
+      → so_far_of old.now.seen ≡ Ok (Begun journal is_opened has_horizon) → (image : List ℕ)
+      → MayLeave new.now image
       → Trails is_opened has_horizon journal log image
   -- it succeeds only with no stop or one of at least four; with either a quiet disk has no fault
   pub stop : Lowers 4 answer old.stop new.stop

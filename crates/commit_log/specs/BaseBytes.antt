@@ -20,14 +20,17 @@ use Rattle.commit_log.specs.declared.base.BaseSequence.{BaseSequence}
 use Rattle.commit_log.specs.meaning.BaseBytes.{base_at, sequence_at, table_at}
 
 unfoldable pub spell_table : BaseTable → List ℕ
-spell_table table = spell_bytes table.schema.name ++ spell_list spell_column table.schema.columns ++ spell_list spell_row table.rows
+spell_table table = spell_bytes table.schema.name ++ spell_list spell_column table.schema.columns
+    ++ spell_list spell_row table.rows
 
 abbrev pub FitsTable : BaseTable → Type 0
-FitsTable table = FitsName table.schema.name × FitsList FitsColumn 8 table.schema.columns × FitsList FitsRow 10000 table.rows
+FitsTable table = FitsName table.schema.name × FitsList FitsColumn 8 table.schema.columns
+    × FitsList FitsRow 10000 table.rows
 
 -- its name, its first value, and whether its values are kept
 unfoldable pub spell_sequence : BaseSequence → List ℕ
-spell_sequence sequence = spell_bytes sequence.name ++ spell_i64 sequence.start ++ spell_bool sequence.keep
+spell_sequence sequence = spell_bytes sequence.name ++ spell_i64 sequence.start
+    ++ spell_bool sequence.keep
 
 abbrev pub FitsSequence : BaseSequence → Type 0
 FitsSequence sequence = FitsName sequence.name × FitsI64 sequence.start
@@ -40,16 +43,29 @@ FitsBase base = FitsList FitsTable 32 base.tables × FitsList FitsSequence 32 ba
 
 -- ---- what was written is read again, whatever follows
 
-pub table_again : (x : BaseTable) (rest : List ℕ) → FitsTable x → table_at (spell_table x ++ rest) ≡ Ok (x, rest)
+pub table_again : (x : BaseTable) (rest : List ℕ) → FitsTable x
+    → table_at (spell_table x ++ rest) ≡ Ok (x, rest)
 unfolding table_at spell_table
 table_again x rest fits =
-    simp append_assoc (rw (name_again x.schema.name _ fits.0, list_again spell_column FitsColumn column_at column_again 8 x.schema.columns _ fits.1, list_again spell_row FitsRow row_at row_again 10000 x.rows rest fits.2) refl)
+    simp append_assoc (rw (
+      name_again x.schema.name _ fits.0,
+      list_again spell_column FitsColumn column_at column_again 8 x.schema.columns _ fits.1,
+      list_again spell_row FitsRow row_at row_again 10000 x.rows rest fits.2,
+    ) refl)
 
-pub sequence_again : (x : BaseSequence) (rest : List ℕ) → FitsSequence x → sequence_at (spell_sequence x ++ rest) ≡ Ok (x, rest)
+pub sequence_again : (x : BaseSequence) (rest : List ℕ) → FitsSequence x
+    → sequence_at (spell_sequence x ++ rest) ≡ Ok (x, rest)
 unfolding sequence_at spell_sequence
-sequence_again x rest fits = simp append_assoc (rw (name_again x.name _ fits.0, i64_again x.start _ fits.1, bool_again x.keep rest tt) refl)
+sequence_again x rest fits = simp append_assoc
+    (rw (name_again x.name _ fits.0, i64_again x.start _ fits.1, bool_again x.keep rest tt) refl)
 
-pub base_again : (x : Base) (rest : List ℕ) → FitsBase x → base_at (spell_base x ++ rest) ≡ Ok (x, rest)
+pub base_again : (x : Base) (rest : List ℕ) → FitsBase x
+    → base_at (spell_base x ++ rest) ≡ Ok (x, rest)
 unfolding base_at spell_base
 base_again x rest fits =
-    simp append_assoc (rw (list_again spell_table FitsTable table_at table_again 32 x.tables _ fits.0, list_again spell_sequence FitsSequence sequence_at sequence_again 32 x.sequences rest fits.1) refl)
+    simp append_assoc (rw (
+      list_again spell_table FitsTable table_at table_again
+          32 x.tables _ fits.0,
+      list_again spell_sequence FitsSequence sequence_at sequence_again
+          32 x.sequences rest fits.1,
+    ) refl)

@@ -33,20 +33,27 @@ pub record IsGrown (old : List ℕ) (records : List Record) (image : List ℕ) :
 
 -- what an opening with this horizon stores first: the horizon, where it rises or is the first
 abbrev pub horizon_of : ℕ → Journal → (has_horizon : Bool) → List Record
-horizon_of horizon journal has_horizon = if rises journal has_horizon horizon then kept.Horizon horizon ∷ [] else []
+horizon_of horizon journal has_horizon =
+    if rises journal has_horizon horizon then kept.Horizon horizon ∷ [] else []
 
 -- the same of a journal as far as it has come, and nothing where there is none
 abbrev pub first_of_opening : ℕ → Result SoFar ℕ → List Record
-first_of_opening horizon (Ok (Begun journal is_opened has_horizon)) = horizon_of horizon journal has_horizon
+first_of_opening horizon (Ok (Begun journal is_opened has_horizon)) =
+    horizon_of horizon journal has_horizon
 first_of_opening horizon _ = []
 
 -- the records that an opening adds to a journal: then the incarnation after the last
 abbrev pub opening_of : ℕ → Result SoFar ℕ → List Record
-opening_of horizon (Ok (Begun journal is_opened has_horizon)) = horizon_of horizon journal has_horizon ++ kept.Opened (journal.incarnation + 1) ∷ []
+opening_of horizon (Ok (Begun journal is_opened has_horizon)) =
+    horizon_of horizon journal has_horizon ++ kept.Opened (journal.incarnation + 1) ∷ []
 opening_of horizon _ = []
 
 -- the journal after an opening: the incarnation is the one after the last, and the horizon the
 -- greater one
 abbrev pub with_opening : ℕ → Result Journal ℕ → Result Journal ℕ
 with_opening horizon (Err place) = Err place
-with_opening horizon (Ok journal) = Ok (record journal { incarnation = journal.incarnation + 1; horizon = max journal.horizon horizon })
+with_opening horizon (Ok journal) = Ok (record journal {
+  incarnation =
+      journal.incarnation + 1;
+  horizon = max journal.horizon horizon;
+})

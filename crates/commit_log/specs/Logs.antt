@@ -32,7 +32,8 @@ abbrev pub CanAdd : Log → DiskState → Type 0
 CanAdd log disk = CanAppend log.redo disk
 
 -- The log ends behind the first records of an image, live or not, and these come to this journal.
-pub record Trails (is_opened has_horizon : Bool) (journal : Journal) (log : Log) (image : List ℕ) : Type 0 where
+pub record Trails (is_opened has_horizon : Bool) (journal : Journal) (log : Log)
+    (image : List ℕ) : Type 0 where
   pub done : List (List ℕ)
   pub stands : StandsBehind (tail_of log.redo) done image
   pub counted : count_of log ≡ length done
@@ -53,9 +54,11 @@ pub record IsBehindBase (log : Log) (image : List ℕ) : Type 0 where
   pub trails : Trails false false (new_journal base) log image
 
 -- The record behind may come next, and the log ends behind it now.
-pub record HasReadOn (is_opened has_horizon : Bool) (journal : Journal) (one : Record) (log : Log) (image : List ℕ) : Type 0 where
+pub record HasReadOn (is_opened has_horizon : Bool) (journal : Journal) (one : Record) (log : Log)
+    (image : List ℕ) : Type 0 where
   pub may : IsTrue (may_come journal is_opened has_horizon one)
-  pub trails : Trails (is_opened || is_opening one) (has_horizon || is_horizon one) (with_record journal one) log image
+  pub trails : Trails (is_opened || is_opening one) (has_horizon || is_horizon one)
+      (with_record journal one) log image
 
 -- they are ready: the store was opened, and has a horizon
 abbrev pub CanLog : Log → DiskState → Type 0
@@ -63,8 +66,11 @@ CanLog = HasBegun true true
 
 -- After an answer to the adding of a record the log goes on with its disk. But after Stopped it is
 -- not live; and no damage is told.
-abbrev pub GoesOnFrom : (is_opened has_horizon : Bool) → Record → Result (Unit {0}) RedoFault → Log → DiskState → Type 0
-GoesOnFrom is_opened has_horizon added (Ok done) log disk = HasBegun (is_opened || is_opening added) (has_horizon || is_horizon added) log disk
-GoesOnFrom is_opened has_horizon added (Err NoMemory) log disk = HasBegun is_opened has_horizon log disk
+abbrev pub GoesOnFrom : (is_opened has_horizon : Bool) → Record → Result (Unit {0}) RedoFault → Log
+    → DiskState → Type 0
+GoesOnFrom is_opened has_horizon added (Ok done) log disk =
+    HasBegun (is_opened || is_opening added) (has_horizon || is_horizon added) log disk
+GoesOnFrom is_opened has_horizon added (Err NoMemory) log disk =
+    HasBegun is_opened has_horizon log disk
 GoesOnFrom is_opened has_horizon added (Err Stopped) log disk = IsFalse (is_live log)
 GoesOnFrom is_opened has_horizon added (Err (Damaged place)) log disk = ⊥

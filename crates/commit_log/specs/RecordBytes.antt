@@ -44,17 +44,21 @@ FitsRecord (kept.Horizon horizon) = FitsU64 horizon
 
 -- ---- what was written is read again, whatever follows
 
-pub reservation_again : (x : Reservation) (rest : List ℕ) → FitsReservation x → reservation_at (spell_reservation x ++ rest) ≡ Ok (x, rest)
+pub reservation_again : (x : Reservation) (rest : List ℕ) → FitsReservation x
+    → reservation_at (spell_reservation x ++ rest) ≡ Ok (x, rest)
 unfolding reservation_at spell_reservation
-reservation_again x rest fits = simp append_assoc (rw (name_again x.name _ fits.0, i64_again x.upto rest fits.1) refl)
+reservation_again x rest fits = simp append_assoc
+    (rw (name_again x.name _ fits.0, i64_again x.upto rest fits.1) refl)
 
-pub record_again : (x : Record) (rest : List ℕ) → FitsRecord x → record_at (spell_record x ++ rest) ≡ Ok (x, rest)
+pub record_again : (x : Record) (rest : List ℕ) → FitsRecord x
+    → record_at (spell_record x ++ rest) ≡ Ok (x, rest)
 unfolding record_at
 record_again (kept.Base base) rest fits = rw (base_again base rest fits) refl
 record_again (kept.Opened incarnation) rest fits = rw (u64_again incarnation rest fits) refl
 record_again (kept.Commit entry) rest fits = rw (entry_again entry rest fits) refl
 record_again (kept.Blocked x) rest fits = rw (ltxid_again x rest fits) refl
-record_again (kept.Reserved reservation) rest fits = rw (reservation_again reservation rest fits) refl
+record_again (kept.Reserved reservation) rest fits =
+    rw (reservation_again reservation rest fits) refl
 record_again (kept.Alert line) rest fits = rw (text_again line rest fits) refl
 record_again (kept.Horizon horizon) rest fits = rw (u64_again horizon rest fits) refl
 

@@ -5,4 +5,9 @@ use Rattle.commit_log.specs.declared.recorded.Recorded.{Recorded}
 -- the part of a journal that is told: its last horizon, its commits, its blocked identifiers and
 -- its lines of text
 abbrev pub recorded_of : Journal → Recorded
-recorded_of journal = record { horizon = journal.horizon; entries = journal.entries; blocked = journal.blocked; alerts = journal.alerts }
+recorded_of journal = record {
+  horizon = journal.horizon;
+  entries = journal.entries;
+  blocked = journal.blocked;
+  alerts = journal.alerts;
+}

@@ -47,7 +47,8 @@ fn has_lower_key(row: &Row, other: &Row) -> bool
 
 // Whether each row has a higher key than the one before, so that no two have one.
 fn keys_rise(rows: &[Row]) -> bool
-    ensures rise { IsAllAdjacentAnswer (λ row next lower. lower ≡ has_lower_key_def row next) rows.now result }
+    ensures rise { IsAllAdjacentAnswer (λ row next lower. lower ≡ has_lower_key_def row next)
+        rows.now result }
     ensures apart { IsTrue result → IsTrue (keys_differ_def rows.now) }
 {
     rows.is_sorted_by(|row, next| has_lower_key(row, next))
@@ -81,7 +82,8 @@ fn rows_fit(schema: &Schema, rows: &[Row]) -> bool
 
 // Whether the table is declared as it may be, and its rows fit.
 fn has_fitting_rows(table: &BaseTable) -> bool
-    ensures { result ≡ (is_declared_def table.now.schema && list_all (row_fits table.now.schema.columns) table.now.rows) }
+    ensures { result ≡ (is_declared_def table.now.schema
+        && list_all (row_fits table.now.schema.columns) table.now.rows) }
 {
     is_declared(&table.schema) && rows_fit(&table.schema, table.rows.as_slice())
 }
@@ -122,7 +124,9 @@ fn are_sequences(sequences: &[BaseSequence]) -> bool
 
 // Whether names stand once, and sequences begin as they may.
 fn has_fitting_names(base: &Base) -> bool
-    ensures { result ≡ ((names_differ (map table_name base.now.tables) && names_differ (map sequence_name base.now.sequences)) && list_all is_sequence_def base.now.sequences) }
+    ensures { result ≡ ((names_differ (map table_name base.now.tables)
+        && names_differ (map sequence_name base.now.sequences))
+        && list_all is_sequence_def base.now.sequences) }
 {
     let sequences = base.sequences.as_slice();
     are_distinct(base.tables.as_slice()) && are_distinct(sequences) && are_sequences(sequences)

@@ -39,7 +39,8 @@ fn follows(end: i64, upto: i64) -> bool
 
 // Whether the reservation is the next one of one of the sequences.
 pub fn is_next(sequences: &[BaseSequence], ends: &[i64], reservation: &Reservation) -> bool
-    ensures { (reservations : List Part) → ends.now ≡ map (end_of reservations) sequences.now → result ≡ list_any (is_next_reservation reservations reservation.now) sequences.now }
+    ensures { (reservations : List Part) → ends.now ≡ map (end_of reservations) sequences.now
+        → result ≡ list_any (is_next_reservation reservations reservation.now) sequences.now }
 {
     let [sequence, sequences @ ..] = sequences else {
         return false;
@@ -53,7 +54,8 @@ pub fn is_next(sequences: &[BaseSequence], ends: &[i64], reservation: &Reservati
 
 // Where the values of the sequence end after the reservation, which may be one of another sequence.
 fn end_after(sequence: &BaseSequence, end: i64, reservation: &Reservation) -> i64
-    ensures { result ≡ (if bytes_eq reservation.now.name sequence.now.name then reservation.now.upto else end) }
+    ensures { result ≡ (if bytes_eq reservation.now.name sequence.now.name then
+        reservation.now.upto else end) }
 {
     if reservation.name == sequence.name {
         reservation.upto
@@ -65,7 +67,8 @@ fn end_after(sequence: &BaseSequence, end: i64, reservation: &Reservation) -> i6
 // Notes the reservation.
 pub fn note(sequences: &[BaseSequence], ends: &mut [i64], reservation: &Reservation)
     requires { length ends.old ≡ length sequences.now }
-    ensures { (reservations : List Part) → ends.old ≡ map (end_of reservations) sequences.now → ends.new ≡ map (end_of (reservations ++ reservation.now ∷ [])) sequences.now }
+    ensures { (reservations : List Part) → ends.old ≡ map (end_of reservations) sequences.now
+        → ends.new ≡ map (end_of (reservations ++ reservation.now ∷ [])) sequences.now }
 {
     for (place, sequence) in sequences.iter().enumerate() {
         ends[place] = end_after(sequence, ends[place], reservation);

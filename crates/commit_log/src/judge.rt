@@ -79,9 +79,11 @@ fn writes_fit(shape: &Shape, writes: &[Write]) -> bool
 impl Judge {
     // Judges the first record, which has to be a base that keeps its rules.
     pub fn begin(alloc: Global, payload: &[u8]) -> Result<Judge, Misfit>
-        ensures begun { IfOk result (λ judge. after_payload Empty payload.now ≡ Some (so_far_in judge)) }
+        ensures begun { IfOk result (λ judge. after_payload Empty payload.now
+            ≡ Some (so_far_in judge)) }
         ensures kept { IfOk result Keeps }
-        ensures misplaced { IsErrOf result Misfit.Misplaced → after_payload Empty payload.now ≡ None }
+        ensures misplaced { IsErrOf result Misfit.Misplaced
+            → after_payload Empty payload.now ≡ None }
     {
         let Some(Record::Base(base)) = record_of(alloc, payload)? else {
             return Err(Misfit::Misplaced);
@@ -105,9 +107,11 @@ impl Judge {
     // the declarations and at the ends of the sequences alone.
     pub fn take(&mut self, alloc: Global, payload: &[u8]) -> Result<(), Misfit>
         requires { Keeps self.old }
-        ensures taken { OnOk result (after_payload (so_far_in self.old) payload.now ≡ Some (so_far_in self.new)) }
+        ensures taken { OnOk result (after_payload (so_far_in self.old) payload.now
+            ≡ Some (so_far_in self.new)) }
         ensures kept { OnOk result (Keeps self.new) }
-        ensures misplaced { IsErrOf result Misfit.Misplaced → after_payload (so_far_in self.old) payload.now ≡ None }
+        ensures misplaced { IsErrOf result Misfit.Misplaced
+            → after_payload (so_far_in self.old) payload.now ≡ None }
     {
         match record_of(alloc, payload)? {
             None => Err(Misfit::Misplaced),
@@ -124,9 +128,11 @@ impl Judge {
     // Adds an opening.
     fn open(&mut self, incarnation: u64) -> Result<(), Misfit>
         requires { Keeps self.old }
-        ensures taken { OnOk result (after (so_far_in self.old) (Record.Opened incarnation) ≡ Some (so_far_in self.new)) }
+        ensures taken { OnOk result (after (so_far_in self.old) (Record.Opened incarnation)
+            ≡ Some (so_far_in self.new)) }
         ensures kept { OnOk result (Keeps self.new) }
-        ensures misplaced { IsErrOf result Misfit.Misplaced → after (so_far_in self.old) (Record.Opened incarnation) ≡ None }
+        ensures misplaced { IsErrOf result Misfit.Misplaced
+            → after (so_far_in self.old) (Record.Opened incarnation) ≡ None }
     {
         if incarnation > 1 << 63 {
             return Err(Misfit::Misplaced);
@@ -153,9 +159,11 @@ impl Judge {
     fn commit(&mut self, entry: Entry) -> Result<(), Misfit>
         requires kept { Keeps self.old }
         requires fits { FitsEntry entry }
-        ensures taken { OnOk result (after (so_far_in self.old) (Record.Commit entry) ≡ Some (so_far_in self.new)) }
+        ensures taken { OnOk result (after (so_far_in self.old) (Record.Commit entry)
+            ≡ Some (so_far_in self.new)) }
         ensures kept { OnOk result (Keeps self.new) }
-        ensures misplaced { IsErrOf result Misfit.Misplaced → after (so_far_in self.old) (Record.Commit entry) ≡ None }
+        ensures misplaced { IsErrOf result Misfit.Misplaced
+            → after (so_far_in self.old) (Record.Commit entry) ≡ None }
     {
         if !self.is_opened {
             return Err(Misfit::Misplaced);
@@ -179,9 +187,11 @@ impl Judge {
     // Adds the block of an identifier.
     fn block(&mut self, x: Ltxid) -> Result<(), Misfit>
         requires { Keeps self.old }
-        ensures taken { OnOk result (after (so_far_in self.old) (Record.Blocked x) ≡ Some (so_far_in self.new)) }
+        ensures taken { OnOk result (after (so_far_in self.old) (Record.Blocked x)
+            ≡ Some (so_far_in self.new)) }
         ensures kept { OnOk result (Keeps self.new) }
-        ensures misplaced { IsErrOf result Misfit.Misplaced → after (so_far_in self.old) (Record.Blocked x) ≡ None }
+        ensures misplaced { IsErrOf result Misfit.Misplaced
+            → after (so_far_in self.old) (Record.Blocked x) ≡ None }
     {
         if !self.can_block(&x) {
             return Err(Misfit::Misplaced);
@@ -208,9 +218,11 @@ impl Judge {
     // Adds a reservation of a sequence's values.
     fn reserve(&mut self, reservation: Reservation) -> Result<(), Misfit>
         requires { Keeps self.old }
-        ensures taken { OnOk result (after (so_far_in self.old) (Record.Reserved reservation) ≡ Some (so_far_in self.new)) }
+        ensures taken { OnOk result (after (so_far_in self.old) (Record.Reserved reservation)
+            ≡ Some (so_far_in self.new)) }
         ensures kept { OnOk result (Keeps self.new) }
-        ensures misplaced { IsErrOf result Misfit.Misplaced → after (so_far_in self.old) (Record.Reserved reservation) ≡ None }
+        ensures misplaced { IsErrOf result Misfit.Misplaced
+            → after (so_far_in self.old) (Record.Reserved reservation) ≡ None }
     {
         if !self.can_reserve(&reservation) {
             return Err(Misfit::Misplaced);
@@ -227,9 +239,11 @@ impl Judge {
     // Adds a line of text, which may come wherever it likes.
     fn alert(&mut self, line: Text) -> Result<(), Misfit>
         requires { Keeps self.old }
-        ensures taken { OnOk result (after (so_far_in self.old) (Record.Alert line) ≡ Some (so_far_in self.new)) }
+        ensures taken { OnOk result (after (so_far_in self.old) (Record.Alert line)
+            ≡ Some (so_far_in self.new)) }
         ensures kept { OnOk result (Keeps self.new) }
-        ensures misplaced { IsErrOf result Misfit.Misplaced → after (so_far_in self.old) (Record.Alert line) ≡ None }
+        ensures misplaced { IsErrOf result Misfit.Misplaced
+            → after (so_far_in self.old) (Record.Alert line) ≡ None }
     {
         self.journal.alerts.push(line)?;
         Ok(())
@@ -238,9 +252,11 @@ impl Judge {
     // Adds a horizon. Linear in the sessions.
     fn forget(&mut self, horizon: u64) -> Result<(), Misfit>
         requires { Keeps self.old }
-        ensures taken { OnOk result (after (so_far_in self.old) (Record.Horizon horizon) ≡ Some (so_far_in self.new)) }
+        ensures taken { OnOk result (after (so_far_in self.old) (Record.Horizon horizon)
+            ≡ Some (so_far_in self.new)) }
         ensures kept { OnOk result (Keeps self.new) }
-        ensures misplaced { IsErrOf result Misfit.Misplaced → after (so_far_in self.old) (Record.Horizon horizon) ≡ None }
+        ensures misplaced { IsErrOf result Misfit.Misplaced
+            → after (so_far_in self.old) (Record.Horizon horizon) ≡ None }
     {
         if !self.can_forget(horizon) {
             return Err(Misfit::Misplaced);

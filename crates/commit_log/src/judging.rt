@@ -15,8 +15,10 @@ use std::alloc::Global;
 fn begun<D: Disk>(alloc: Global, disk: &mut D, walk: &mut Walk) -> Result<Judge, RedoFault>
     requires { HasRead walk.old [] (D.state disk.old).now.seen }
     ensures judged { IfOk result (λ judge. HasJudged judge walk.new (D.state disk.old).now.seen) }
-    ensures damaged { (place : ℕ) → IsErrOf result (RedoFault.Damaged place) → journal_of (D.state disk.old).now.seen ≡ Err place }
-    ensures only_reads { OnlyReads (IsErrOf result RedoFault.Stopped) (D.state disk.old) (D.state disk.new) }
+    ensures damaged { (place : ℕ) → IsErrOf result (RedoFault.Damaged place)
+        → journal_of (D.state disk.old).now.seen ≡ Err place }
+    ensures only_reads { OnlyReads (IsErrOf result RedoFault.Stopped) (D.state disk.old)
+        (D.state disk.new) }
 {
     let place = walk.place();
     let Some(payload) = walk.next(disk)? else {
@@ -37,8 +39,10 @@ fn judge_rest<D: Disk>(
 ) -> Result<(), RedoFault>
     requires { HasJudged judge.old walk.old (D.state disk.old).now.seen }
     ensures judged { OnOk result (HasJudgedAll judge.new walk.new (D.state disk.old).now.seen) }
-    ensures damaged { (place : ℕ) → IsErrOf result (RedoFault.Damaged place) → journal_of (D.state disk.old).now.seen ≡ Err place }
-    ensures only_reads { OnlyReads (IsErrOf result RedoFault.Stopped) (D.state disk.old) (D.state disk.new) }
+    ensures damaged { (place : ℕ) → IsErrOf result (RedoFault.Damaged place)
+        → journal_of (D.state disk.old).now.seen ≡ Err place }
+    ensures only_reads { OnlyReads (IsErrOf result RedoFault.Stopped) (D.state disk.old)
+        (D.state disk.new) }
 {
     let mut place = walk.place();
     while let Some(payload) = walk.next(disk)? {
@@ -52,11 +56,15 @@ fn judge_rest<D: Disk>(
 
 // Reads all records and judges them. It keeps nothing but the journal, and reads each record once.
 pub fn judge_all<D: Disk>(alloc: Global, disk: &mut D) -> Result<(Redo, Judge), RedoFault>
-    ensures judged { IfOk result (λ read. so_far_of (D.state disk.old).now.seen ≡ Ok (so_far_in read.1)) }
+    ensures judged { IfOk result (λ read. so_far_of (D.state disk.old).now.seen
+        ≡ Ok (so_far_in read.1)) }
     ensures kept { IfOk result (λ read. Keeps read.1) }
-    ensures damaged { (place : ℕ) → IsErrOf result (RedoFault.Damaged place) → journal_of (D.state disk.old).now.seen ≡ Err place }
-    ensures ready { IsSettled (D.state disk.old) → IfOk result (λ read. CanAppend read.0 (D.state disk.new)) }
-    ensures only_reads { OnlyReads (IsErrOf result RedoFault.Stopped) (D.state disk.old) (D.state disk.new) }
+    ensures damaged { (place : ℕ) → IsErrOf result (RedoFault.Damaged place)
+        → journal_of (D.state disk.old).now.seen ≡ Err place }
+    ensures ready { IsSettled (D.state disk.old)
+        → IfOk result (λ read. CanAppend read.0 (D.state disk.new)) }
+    ensures only_reads { OnlyReads (IsErrOf result RedoFault.Stopped) (D.state disk.old)
+        (D.state disk.new) }
 {
     let mut walk = Walk::begin(alloc, disk)?;
     let mut judge = begun(alloc, disk, &mut walk)?;

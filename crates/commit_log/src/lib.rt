@@ -32,6 +32,7 @@
 //! there is no record, and 0 where the bytes don't begin as those of a store.
 #![tactic(auto)]
 
+mod adding;
 mod base;
 mod base_bytes;
 mod checks;

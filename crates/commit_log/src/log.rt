@@ -2,19 +2,14 @@
 ghost use Rattle.std.specs.Prelude.{◌≡◌, ◌+◌, ◌*◌, ◌<◌, ◌≤◌, ◌^◌, ◌⊎◌, [], ℕ, Bool, false, length, OnErr, OnOk, IfOk, IfSome, IfNone, IsErrOf, Ok, Err, Some};
 ghost use Rattle.disk_model.specs.Disk.{Meanwhile, IsSettled, SameBytes, Lowers, Caused, OnlyReads};
 ghost use Rattle.redo_store.specs.meaning.Records.{records_of};
-ghost use Rattle.redo_store.specs.Redo.{CanAppend, StoreGoesOn, tail_of};
-ghost use Rattle.redo_store.specs.Walk.{KeepsFront};
-ghost use Rattle.svc_values.specs.Identifiers.{IsLtxid};
-ghost use Rattle.canon_bytes.specs.Entries.{IsMadeEntry};
+ghost use Rattle.redo_store.specs.Redo.{CanAppend, tail_of};
 ghost use Rattle.commit_log.specs.declared.journal.Journal.{Journal as Held};
 ghost use Rattle.commit_log.specs.declared.records.Record.{Record as Spelled};
 ghost use Rattle.commit_log.specs.declared.records.Record.TheVariants as kept;
 ghost use Rattle.commit_log.specs.Bases.{IsBase};
-ghost use Rattle.commit_log.specs.RecordBytes.{FitsRecord, IsMadeRecord};
+ghost use Rattle.commit_log.specs.RecordBytes.{FitsRecord};
 ghost use Rattle.commit_log.specs.meaning.Rules.{Begun, new_journal};
 ghost use Rattle.commit_log.specs.meaning.Journals.{so_far_of, journal_of, is_opened, whole_record};
-ghost use Rattle.commit_log.specs.Adding.{record_in, HasAlso, IsOldOrWith};
-ghost use Rattle.commit_log.specs.Adds.{MayAddTo, MayAdd, AddsTo, Adds};
 ghost use Rattle.commit_log.specs.Growth.{HasAdded, IsGrown, horizon_of, first_of_opening, opening_of, with_opening};
 ghost use Rattle.commit_log.specs.Judging.{so_far_in, Keeps};
 
@@ -26,7 +21,7 @@ use crate::records::{Adding, Record, made_of, record_of};
 use disk_model::Disk;
 use redo_store::{Redo, RedoFault as LogFault, Walk};
 use std::alloc::Global;
-use svc_values::{Entry, Ltxid, Name, NoMemory, Text};
+use svc_values::NoMemory;
 
 // The record that these bytes of a journal spell.
 fn known_record(alloc: Global, payload: &[u8]) -> Result<Record, LogFault>
@@ -56,12 +51,12 @@ pub struct Found {
 /// A store that was opened. It holds no record: the journal is handed out at the opening.
 #[derive(Drop)]
 pub struct Log {
-    alloc: Global,
-    redo: Redo,
+    pub(crate) alloc: Global,
+    pub(crate) redo: Redo,
 }
 
 impl Log {
-    ghost use Rattle.commit_log.specs.Logs.{is_live, count_of, CanAdd, HasBegun, HasReadOn, IsBehind, IsBehindBase, Trails, CanLog};
+    ghost use Rattle.commit_log.specs.Logs.{is_live, count_of, CanAdd, HasReadOn, IsBehind, IsBehindBase, Trails, CanLog};
     ghost use Rattle.commit_log.specs.InnerOpening.{HasRaised};
 
     /// Whether a record may be added. After `Stopped` it may not: the store is to be opened again.
@@ -89,16 +84,20 @@ impl Log {
         requires base { IsBase base.now }
 
         // The journal is that of the base alone, and it is durable.
-        ensures made { OnOk result (so_far_of (D.state disk.new).now.seen ≡ Ok (Begun (new_journal base.now) false false)) }
+        ensures made { OnOk result (so_far_of (D.state disk.new).now.seen
+            ≡ Ok (Begun (new_journal base.now) false false)) }
         ensures ready { IfOk result (λ log. CanAdd log (D.state disk.new)) }
         ensures settled { OnOk result (IsSettled (D.state disk.new)) }
 
         // For want of memory the disk is as it was, or holds a store without a record.
-        ensures refused { IsErrOf result LogFault.NoMemory → (D.state disk.new ≡ D.state disk.old) ⊎ (records_of (D.state disk.new).now.seen ≡ Ok []) }
+        ensures refused { IsErrOf result LogFault.NoMemory
+            → (D.state disk.new ≡ D.state disk.old) ⊎ (records_of (D.state disk.new).now.seen
+            ≡ Ok []) }
 
         // It succeeds only with no stop or one of at least six; then a quiet disk has no fault.
         ensures stop { Lowers 6 result (D.state disk.old).stop (D.state disk.new).stop }
-        ensures cause { Caused (IsErrOf result LogFault.Stopped) (D.state disk.old) (D.state disk.new) }
+        ensures cause { Caused (IsErrOf result LogFault.Stopped) (D.state disk.old)
+            (D.state disk.new) }
         ensures whole { (place : ℕ) → IsErrOf result (LogFault.Damaged place) → ⊥ }
     {
         let Ok(made) = made_of(alloc, Adding::Base(base)) else {
@@ -115,11 +114,14 @@ impl Log {
     /// Time and memory grow with the records, for each commit with the logarithm of the number of
     /// sessions, and for a base of n rows with n log n.
     pub fn read<D: Disk>(alloc: Global, disk: &mut D) -> Result<Journal, LogFault>
-        ensures journal { IfOk result (λ journal. journal_of (D.state disk.old).now.seen ≡ Ok journal) }
+        ensures journal { IfOk result (λ journal. journal_of (D.state disk.old).now.seen
+            ≡ Ok journal) }
 
         // The place is the first at which the bytes are no journal.
-        ensures damaged { (place : ℕ) → IsErrOf result (LogFault.Damaged place) → journal_of (D.state disk.old).now.seen ≡ Err place }
-        ensures only_reads { OnlyReads (IsErrOf result LogFault.Stopped) (D.state disk.old) (D.state disk.new) }
+        ensures damaged { (place : ℕ) → IsErrOf result (LogFault.Damaged place)
+            → journal_of (D.state disk.old).now.seen ≡ Err place }
+        ensures only_reads { OnlyReads (IsErrOf result LogFault.Stopped) (D.state disk.old)
+            (D.state disk.new) }
     {
         let (_, judge) = judge_all(alloc, disk)?;
         Ok(judge.into_journal())
@@ -128,12 +130,16 @@ impl Log {
     /// Reads the journal and whether the store was opened before, at the cost of one `read`, and
     /// changes nothing.
     pub fn look<D: Disk>(alloc: Global, disk: &mut D) -> Result<(Journal, bool), LogFault>
-        ensures journal { IfOk result (λ found. journal_of (D.state disk.old).now.seen ≡ Ok found.0) }
-        ensures opened { IfOk result (λ found. found.1 ≡ is_opened (so_far_of (D.state disk.old).now.seen)) }
+        ensures journal { IfOk result (λ found. journal_of (D.state disk.old).now.seen
+            ≡ Ok found.0) }
+        ensures opened { IfOk result (λ found. found.1
+            ≡ is_opened (so_far_of (D.state disk.old).now.seen)) }
 
         // The place is the first at which the bytes are no journal.
-        ensures damaged { (place : ℕ) → IsErrOf result (LogFault.Damaged place) → journal_of (D.state disk.old).now.seen ≡ Err place }
-        ensures only_reads { OnlyReads (IsErrOf result LogFault.Stopped) (D.state disk.old) (D.state disk.new) }
+        ensures damaged { (place : ℕ) → IsErrOf result (LogFault.Damaged place)
+            → journal_of (D.state disk.old).now.seen ≡ Err place }
+        ensures only_reads { OnlyReads (IsErrOf result LogFault.Stopped) (D.state disk.old)
+            (D.state disk.new) }
     {
         let (_, judge) = judge_all(alloc, disk)?;
         let is_opened = judge.is_opened();
@@ -143,12 +149,16 @@ impl Log {
     /// Reads the journal, and gives the log to go on with behind it, at the cost of one `read`. It
     /// changes nothing.
     pub fn find<D: Disk>(alloc: Global, disk: &mut D) -> Result<Found, LogFault>
-        ensures found { IfOk result (λ found. so_far_of (D.state disk.old).now.seen ≡ Ok (Begun found.journal found.is_opened found.has_horizon)) }
-        ensures ready { IsSettled (D.state disk.old) → IfOk result (λ found. CanAdd found.log (D.state disk.new)) }
+        ensures found { IfOk result (λ found. so_far_of (D.state disk.old).now.seen
+            ≡ Ok (Begun found.journal found.is_opened found.has_horizon)) }
+        ensures ready { IsSettled (D.state disk.old)
+            → IfOk result (λ found. CanAdd found.log (D.state disk.new)) }
 
         // The place is the first at which the bytes are no journal.
-        ensures damaged { (place : ℕ) → IsErrOf result (LogFault.Damaged place) → journal_of (D.state disk.old).now.seen ≡ Err place }
-        ensures only_reads { OnlyReads (IsErrOf result LogFault.Stopped) (D.state disk.old) (D.state disk.new) }
+        ensures damaged { (place : ℕ) → IsErrOf result (LogFault.Damaged place)
+            → journal_of (D.state disk.old).now.seen ≡ Err place }
+        ensures only_reads { OnlyReads (IsErrOf result LogFault.Stopped) (D.state disk.old)
+            (D.state disk.new) }
     {
         let (redo, judge) = judge_all(alloc, disk)?;
         let is_opened = judge.is_opened();
@@ -168,18 +178,27 @@ impl Log {
     /// and memory grow with the record alone.
     pub fn next<D: Disk>(&mut self, disk: &mut D) -> Result<Option<Record>, LogFault>
         requires { IsBehind self.old (D.state disk.old).now.seen }
-        ensures next { (is_opened has_horizon : Bool) (journal : Held) → Trails is_opened has_horizon journal self.old (D.state disk.old).now.seen
-            → IfOk result (λ found. IfSome found (λ one. HasReadOn is_opened has_horizon journal one self.new (D.state disk.old).now.seen)) }
+        ensures next { (is_opened has_horizon : Bool) (journal : Held)
+            → Trails is_opened has_horizon journal self.old (D.state disk.old).now.seen
+            → IfOk result (λ found. IfSome found
+            (λ one. HasReadOn is_opened has_horizon journal one self.new
+            (D.state disk.old).now.seen)) }
         ensures fitting { IfOk result (λ found. IfSome found FitsRecord) }
-        ensures rises { IfOk result (λ found. IfSome found (λ _. (tail_of self.old.redo < tail_of self.new.redo) × (tail_of self.new.redo < length (D.state disk.old).now.seen))) }
+        ensures rises { IfOk result (λ found.
+            IfSome found (λ _. (tail_of self.old.redo < tail_of self.new.redo)
+            × (tail_of self.new.redo < length (D.state disk.old).now.seen))) }
 
         // At the end all records were read.
-        ensures end { (is_opened has_horizon : Bool) (journal : Held) → Trails is_opened has_horizon journal self.old (D.state disk.old).now.seen
-            → IfOk result (λ found. IfNone found (so_far_of (D.state disk.old).now.seen ≡ Ok (Begun journal is_opened has_horizon))) }
-        ensures ready { IsSettled (D.state disk.old) → IfOk result (λ found. IfNone found (CanAdd self.new (D.state disk.new))) }
+        ensures end { (is_opened has_horizon : Bool) (journal : Held)
+            → Trails is_opened has_horizon journal self.old (D.state disk.old).now.seen
+            → IfOk result (λ found. IfNone found (so_far_of (D.state disk.old).now.seen
+            ≡ Ok (Begun journal is_opened has_horizon))) }
+        ensures ready { IsSettled (D.state disk.old)
+            → IfOk result (λ found. IfNone found (CanAdd self.new (D.state disk.new))) }
         ensures stays { IsErrOf result LogFault.Stopped → self.new ≡ self.old }
         ensures whole { (place : ℕ) → IsErrOf result (LogFault.Damaged place) → ⊥ }
-        ensures only_reads { OnlyReads (IsErrOf result LogFault.Stopped) (D.state disk.old) (D.state disk.new) }
+        ensures only_reads { OnlyReads (IsErrOf result LogFault.Stopped) (D.state disk.old)
+            (D.state disk.new) }
     {
         let mut walk = Walk::behind(self.alloc, self.redo.tail(), self.redo.count());
         let payload = walk.next(disk)?;
@@ -196,7 +215,8 @@ impl Log {
         requires { (journal : Held) × (journal_of (D.state disk.old).now.seen ≡ Ok journal) }
         ensures behind { IfOk result (λ log. IsBehindBase log (D.state disk.old).now.seen) }
         ensures whole { (place : ℕ) → IsErrOf result (LogFault.Damaged place) → ⊥ }
-        ensures only_reads { OnlyReads (IsErrOf result LogFault.Stopped) (D.state disk.old) (D.state disk.new) }
+        ensures only_reads { OnlyReads (IsErrOf result LogFault.Stopped) (D.state disk.old)
+            (D.state disk.new) }
     {
         let mut walk = Walk::begin(alloc, disk)?;
         walk.next(disk)?;
@@ -218,32 +238,47 @@ impl Log {
         horizon: u64,
     ) -> Result<(Log, Journal), LogFault>
         requires settled { IsSettled (D.state disk.old) }
-        requires room { (journal : Held) → journal_of (D.state disk.old).now.seen ≡ Ok journal → (journal.incarnation < 2 ^ 63) × (horizon ≤ journal.incarnation + 1) }
+        requires room { (journal : Held) → journal_of (D.state disk.old).now.seen ≡ Ok journal
+            → (journal.incarnation < 2 ^ 63) × (horizon ≤ journal.incarnation + 1) }
 
         // The records that the opening adds are there, and the journal and the log are those of the
         // disk.
-        ensures added { IfOk result (λ _. HasAdded (D.state disk.old).now.seen (opening_of horizon (so_far_of (D.state disk.old).now.seen)) (D.state disk.new).now.seen) }
-        ensures opened { IfOk result (λ opened. with_opening horizon (journal_of (D.state disk.old).now.seen) ≡ Ok opened.1) }
-        ensures journal { IfOk result (λ opened. journal_of (D.state disk.new).now.seen ≡ Ok opened.1) }
+        ensures added { IfOk result (λ _. HasAdded (D.state disk.old).now.seen
+            (opening_of horizon (so_far_of (D.state disk.old).now.seen))
+            (D.state disk.new).now.seen) }
+        ensures opened { IfOk result (λ opened. with_opening horizon
+            (journal_of (D.state disk.old).now.seen) ≡ Ok opened.1) }
+        ensures journal { IfOk result (λ opened. journal_of (D.state disk.new).now.seen
+            ≡ Ok opened.1) }
         ensures ready { IfOk result (λ opened. CanLog opened.0 (D.state disk.new)) }
 
         // A damaged store is not written, and the place is the first at which the bytes are no
         // journal.
-        ensures damaged { (place : ℕ) → IsErrOf result (LogFault.Damaged place) → journal_of (D.state disk.old).now.seen ≡ Err place }
-        ensures unwritten { (place : ℕ) → journal_of (D.state disk.old).now.seen ≡ Err place → SameBytes (D.state disk.old) (D.state disk.new) }
+        ensures damaged { (place : ℕ) → IsErrOf result (LogFault.Damaged place)
+            → journal_of (D.state disk.old).now.seen ≡ Err place }
+        ensures unwritten { (place : ℕ) → journal_of (D.state disk.old).now.seen ≡ Err place
+            → SameBytes (D.state disk.old) (D.state disk.new) }
 
         // For want of memory there is at most the horizon more, and nothing is pending.
-        ensures refused { IsErrOf result LogFault.NoMemory → IsGrown (D.state disk.old).now.seen (first_of_opening horizon (so_far_of (D.state disk.old).now.seen)) (D.state disk.new).now.seen × IsSettled (D.state disk.new) }
+        ensures refused { IsErrOf result LogFault.NoMemory
+            → IsGrown (D.state disk.old).now.seen
+            (first_of_opening horizon (so_far_of (D.state disk.old).now.seen))
+            (D.state disk.new).now.seen × IsSettled (D.state disk.new) }
 
         // A crash at any moment of the call leaves the old records, or these with the horizon, if
         // it is stored, or with all that the opening adds. That the same is so of the time since it
         // began, and of what a read gives when it has ended, is `disk_model::laws::leaves`.
-        ensures any_moment { let old = (D.state disk.old).now.seen in Meanwhile (D.state disk.old) (D.state disk.new) (IsGrown old (opening_of horizon (so_far_of old))) }
+        ensures any_moment { let old = (D.state disk.old).now.seen in
+            Meanwhile (D.state disk.old) (D.state disk.new)
+            (IsGrown old (opening_of horizon (so_far_of old))) }
 
         // It succeeds only with no stop or one of at least four, or eight where the horizon is
         // stored; with either a quiet disk has no fault.
-        ensures stop { Lowers (4 * length (first_of_opening horizon (so_far_of (D.state disk.old).now.seen)) + 4) result (D.state disk.old).stop (D.state disk.new).stop }
-        ensures cause { Caused (IsErrOf result LogFault.Stopped) (D.state disk.old) (D.state disk.new) }
+        ensures stop { Lowers (4 * length (first_of_opening horizon
+            (so_far_of (D.state disk.old).now.seen)) + 4) result (D.state disk.old).stop
+            (D.state disk.new).stop }
+        ensures cause { Caused (IsErrOf result LogFault.Stopped) (D.state disk.old)
+            (D.state disk.new) }
     {
         let (redo, judge) = judge_all(alloc, disk)?;
         let mut log = Log { alloc, redo };
@@ -265,11 +300,18 @@ impl Log {
         requires judged { so_far_of (D.state disk.old).now.seen ≡ Ok (so_far_in judge) }
         requires kept { Keeps judge }
         requires room { horizon ≤ judge.journal.incarnation + 1 }
-        ensures raised { IfOk result (λ journal. HasRaised horizon judge journal self.new (D.state disk.old) (D.state disk.new)) }
-        ensures refused { IsErrOf result LogFault.NoMemory → HasAdded (D.state disk.old).now.seen [] (D.state disk.new).now.seen × IsSettled (D.state disk.new) }
-        ensures any_moment { Meanwhile (D.state disk.old) (D.state disk.new) (IsGrown (D.state disk.old).now.seen (horizon_of horizon judge.journal judge.has_horizon)) }
-        ensures stop { Lowers (4 * length (horizon_of horizon judge.journal judge.has_horizon)) result (D.state disk.old).stop (D.state disk.new).stop }
-        ensures cause { Caused (IsErrOf result LogFault.Stopped) (D.state disk.old) (D.state disk.new) }
+        ensures raised { IfOk result (λ journal. HasRaised horizon judge journal self.new
+            (D.state disk.old) (D.state disk.new)) }
+        ensures refused { IsErrOf result LogFault.NoMemory
+            → HasAdded (D.state disk.old).now.seen [] (D.state disk.new).now.seen
+            × IsSettled (D.state disk.new) }
+        ensures any_moment { Meanwhile (D.state disk.old) (D.state disk.new)
+            (IsGrown (D.state disk.old).now.seen
+            (horizon_of horizon judge.journal judge.has_horizon)) }
+        ensures stop { Lowers (4 * length (horizon_of horizon judge.journal judge.has_horizon))
+            result (D.state disk.old).stop (D.state disk.new).stop }
+        ensures cause { Caused (IsErrOf result LogFault.Stopped) (D.state disk.old)
+            (D.state disk.new) }
         ensures whole { (place : ℕ) → IsErrOf result (LogFault.Damaged place) → ⊥ }
     {
         if !judge.is_below(horizon) {
@@ -279,121 +321,5 @@ impl Log {
         let mut journal = judge.into_journal();
         journal.horizon = horizon;
         Ok(journal)
-    }
-
-    /// Adds a committed transaction, in four device calls.
-    ///
-    /// It takes the memory for the record before the first of them, in proportion to the entry
-    /// alone. The caller sees to it that the commit may come next in the journal of the disk.
-    pub fn commit<D: Disk>(&mut self, disk: &mut D, entry: &Entry) -> Result<(), LogFault>
-        requires ready { CanLog self.old (D.state disk.old) }
-        requires made { IsMadeEntry entry.now }
-        requires may { MayAdd (D.state disk.old) (kept.Commit entry.now) }
-        ensures { Adds result self.new (D.state disk.old) (D.state disk.new) (kept.Commit entry.now) }
-    {
-        self.add(disk, Adding::Commit(entry))
-    }
-
-    /// Adds the block of an identifier, which can commit no more, in four device calls.
-    ///
-    /// It takes the memory for the record before the first of them, 25 bytes. The caller sees to it
-    /// that the identifier may be blocked next in the journal of the disk.
-    pub fn block<D: Disk>(&mut self, disk: &mut D, x: &Ltxid) -> Result<(), LogFault>
-        requires ready { CanLog self.old (D.state disk.old) }
-        requires made { IsLtxid x.now }
-        requires may { MayAdd (D.state disk.old) (kept.Blocked x.now) }
-        ensures { Adds result self.new (D.state disk.old) (D.state disk.new) (kept.Blocked x.now) }
-    {
-        self.add(disk, Adding::Blocked(x))
-    }
-
-    /// Adds a reservation of a sequence, whose values up to and with `upto` are set aside, in four
-    /// device calls.
-    ///
-    /// It takes the memory for the record before the first of them, in proportion to the name
-    /// alone. The caller sees to it that the reservation may come next in the journal of the disk.
-    pub fn reserve<D: Disk>(&mut self, disk: &mut D, name: &Name, upto: i64) -> Result<(), LogFault>
-        requires ready { CanLog self.old (D.state disk.old) }
-        requires may { MayAdd (D.state disk.old) (kept.Reserved (record { name = name.now; upto = upto })) }
-        ensures { Adds result self.new (D.state disk.old) (D.state disk.new) (kept.Reserved (record { name = name.now; upto = upto })) }
-    {
-        self.add(disk, Adding::Reserved(name, upto))
-    }
-
-    /// Adds a line of text, in four device calls.
-    ///
-    /// It takes the memory for the record before the first of them, in proportion to the line
-    /// alone.
-    pub fn alert<D: Disk>(&mut self, disk: &mut D, line: &Text) -> Result<(), LogFault>
-        requires ready { CanLog self.old (D.state disk.old) }
-        requires may { MayAdd (D.state disk.old) (kept.Alert line.now) }
-        ensures { Adds result self.new (D.state disk.old) (D.state disk.new) (kept.Alert line.now) }
-    {
-        self.add(disk, Adding::Alert(line))
-    }
-
-    /// Adds a horizon, in four device calls: the sessions of incarnations below it are forgotten
-    /// for good. The store need not have been opened before.
-    ///
-    /// It takes the memory for the record before the first of them, 17 bytes. The caller sees to it
-    /// that the horizon may come next in the journal of the disk.
-    pub fn forget<D: Disk>(&mut self, disk: &mut D, horizon: u64) -> Result<(), LogFault>
-        requires { CanAdd self.old (D.state disk.old) }
-        ensures { (is_opened has_horizon : Bool) → HasBegun is_opened has_horizon self.old (D.state disk.old) → MayAddTo is_opened has_horizon (D.state disk.old) (kept.Horizon horizon)
-            → AddsTo is_opened has_horizon result self.new (D.state disk.old) (D.state disk.new) (kept.Horizon horizon) }
-    {
-        self.extend(disk, Adding::Horizon(horizon))
-    }
-
-    /// Adds an opening with this incarnation, in four device calls. The store need not have been
-    /// opened before.
-    ///
-    /// It takes the memory for the record before the first of them, 17 bytes. The caller sees to it
-    /// that the opening may come next in the journal of the disk.
-    pub fn begin<D: Disk>(&mut self, disk: &mut D, incarnation: u64) -> Result<(), LogFault>
-        requires { CanAdd self.old (D.state disk.old) }
-        ensures { (is_opened has_horizon : Bool) → HasBegun is_opened has_horizon self.old (D.state disk.old) → MayAddTo is_opened has_horizon (D.state disk.old) (kept.Opened incarnation)
-            → AddsTo is_opened has_horizon result self.new (D.state disk.old) (D.state disk.new) (kept.Opened incarnation) }
-    {
-        self.extend(disk, Adding::Opened(incarnation))
-    }
-
-    // Adds a record that may come next in a store that was opened.
-    fn add<D: Disk>(&mut self, disk: &mut D, adding: Adding) -> Result<(), LogFault>
-        requires ready { CanLog self.old (D.state disk.old) }
-        requires made { IsMadeRecord (record_in adding) }
-        requires may { MayAdd (D.state disk.old) (record_in adding) }
-        ensures { Adds result self.new (D.state disk.old) (D.state disk.new) (record_in adding.entry) }
-    {
-        self.extend(disk, adding)
-    }
-
-    // Adds a record. What it says is said of one that may come next in the journal of the disk, in
-    // which the store was opened or not, and has a horizon or not.
-    fn extend<D: Disk>(&mut self, disk: &mut D, adding: Adding) -> Result<(), LogFault>
-        requires ready { CanAppend self.old.redo (D.state disk.old) }
-        requires made { IsMadeRecord (record_in adding) }
-        ensures { (is_opened has_horizon : Bool) → HasBegun is_opened has_horizon self.old (D.state disk.old) → MayAddTo is_opened has_horizon (D.state disk.old) (record_in adding.entry)
-            → AddsTo is_opened has_horizon result self.new (D.state disk.old) (D.state disk.new) (record_in adding.entry) }
-    {
-        self.put(disk, adding)
-    }
-
-    // Adds a record, whichever it is.
-    fn put<D: Disk>(&mut self, disk: &mut D, adding: Adding) -> Result<(), LogFault>
-        requires ready { CanAppend self.old.redo (D.state disk.old) }
-        requires made { IsMadeRecord (record_in adding) }
-        ensures added { OnOk result (HasAlso (D.state disk.old).now.seen (record_in adding.entry) (D.state disk.new).now.seen) }
-        ensures refused { IsErrOf result LogFault.NoMemory → records_of (D.state disk.new).now.seen ≡ records_of (D.state disk.old).now.seen }
-        ensures any_moment { Meanwhile (D.state disk.old) (D.state disk.new) (IsOldOrWith (D.state disk.old).now.seen (record_in adding.entry)) }
-        ensures front { Meanwhile (D.state disk.old) (D.state disk.new) (KeepsFront (tail_of self.old.redo) (D.state disk.old).now.seen) }
-        ensures goes_on { StoreGoesOn result self.old.redo self.new.redo (D.state disk.new) }
-        ensures stop { Lowers 4 result (D.state disk.old).stop (D.state disk.new).stop }
-        ensures cause { Caused (IsErrOf result LogFault.Stopped) (D.state disk.old) (D.state disk.new) }
-    {
-        let Ok(made) = made_of(self.alloc, adding) else {
-            return Err(LogFault::NoMemory);
-        };
-        self.redo.append_made(disk, made)
     }
 }

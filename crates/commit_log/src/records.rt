@@ -118,7 +118,8 @@ pub fn record_of(alloc: Global, payload: &[u8]) -> Result<Option<Record>, NoMemo
 // there.
 #[tactic(auto, unfolding(crate::specs::RecordBytes::spell_reservation))]
 fn put_reservation(name: &Name, upto: i64, out: &mut Vec<u8>) -> Result<(), NoMemory>
-    ensures written { OnOk result (out.new.items ≡ out.old.items ++ spell_reservation (record { name = name.now; upto = upto })) }
+    ensures written { OnOk result (out.new.items ≡ out.old.items
+        ++ spell_reservation (record { name = name.now; upto = upto })) }
     ensures fitting { OnOk result (FitsReservation (record { name = name.now; upto = upto })) }
 {
     name.put(out)?;
@@ -128,7 +129,8 @@ fn put_reservation(name: &Name, upto: i64, out: &mut Vec<u8>) -> Result<(), NoMe
 // Writes the spelling of a record at the end. After want of memory a part of it may stand there.
 fn put_record(adding: Adding, out: &mut Vec<u8>) -> Result<(), NoMemory>
     requires { IsMadeRecord (record_in adding) }
-    ensures written { OnOk result (out.new.items ≡ out.old.items ++ spell_record (record_in adding.entry)) }
+    ensures written { OnOk result (out.new.items ≡ out.old.items
+        ++ spell_record (record_in adding.entry)) }
     ensures fitting { OnOk result (FitsRecord (record_in adding.entry)) }
 {
     match adding {
@@ -166,7 +168,8 @@ fn put_record(adding: Adding, out: &mut Vec<u8>) -> Result<(), NoMemory>
 // The bytes of a record, behind eight in whose place the store writes their number.
 pub fn made_of(alloc: Global, adding: Adding) -> Result<Vec<u8>, NoMemory>
     requires { IsMadeRecord (record_in adding) }
-    ensures payload { IfOk result (λ made. payload_in made.items ≡ spell_record (record_in adding.entry)) }
+    ensures payload { IfOk result (λ made. payload_in made.items
+        ≡ spell_record (record_in adding.entry)) }
     ensures room { IfOk result (λ made. 8 ≤ length made.items) }
     ensures fitting { OnOk result (FitsRecord (record_in adding.entry)) }
 {

@@ -13,8 +13,10 @@ IsVerdict bytes verdict.Yes = IsRight bytes
 IsVerdict bytes (verdict.No one path) = IsWrong bytes one path
 
 -- where each clause holds, that is written; else nothing is
-abbrev pub IsToldAs : Result Verdict DocFault → Status → Option (List ℕ) → Option (List ℕ) → ℕ → ℕ → Type 0
-IsToldAs (Ok verdict.Yes) end held_before held_after before now = IsWritten right_text end held_before held_after before now
+abbrev pub IsToldAs : Result Verdict DocFault → Status → Option (List ℕ) → Option (List ℕ) → ℕ → ℕ
+    → Type 0
+IsToldAs (Ok verdict.Yes) end held_before held_after before now =
+    IsWritten right_text end held_before held_after before now
 IsToldAs (Ok (verdict.No one path)) end held_before held_after before now = end ≡ status.No one path
 IsToldAs (Err fault) end held_before held_after before now = end ≡ ended_as fault
 

@@ -28,26 +28,34 @@ pub record IsAnsweredInPart (one : Telling)
 
 -- what was read is a document and a report of it, of which each clause holds, and the sink took a
 -- front of `yes` and a line feed
-pub record IsCheckedInPart (left_before left_after held_before held_after : Option (List ℕ)) : Type 0 where
+pub record IsCheckedInPart (left_before left_after held_before held_after : Option (List ℕ))
+    : Type 0 where
   pub bytes : List ℕ
   pub read : IsRead check_limit pair_at left_before left_after bytes
   pub right : IsRight bytes
   pub wrote : AppendsFront held_before held_after right_text
 
 -- the sink took a front of the line of a load
-pub record LoadIsCut (seed clients requests : ℕ) (held_before held_after : Option (List ℕ)) : Type 0 where
+pub record LoadIsCut (seed clients requests : ℕ)
+    (held_before held_after : Option (List ℕ)) : Type 0 where
   pub text : List ℕ
   pub loaded : IsLoaded seed clients requests text
   pub wrote : AppendsFront held_before held_after text
 
-abbrev pub IsCut : Command → Option (List ℕ) → Option (List ℕ) → Option (List ℕ) → Option (List ℕ) → Type 0
-IsCut command.Run left_before left_after held_before held_after = IsAnsweredInPart telling.Report left_before left_after held_before held_after
-IsCut command.Cover left_before left_after held_before held_after = IsAnsweredInPart telling.Cover left_before left_after held_before held_after
-IsCut command.Check left_before left_after held_before held_after = IsCheckedInPart left_before left_after held_before held_after
-IsCut (command.Load seed clients requests) left_before left_after held_before held_after = LoadIsCut seed clients requests held_before held_after
+abbrev pub IsCut : Command → Option (List ℕ) → Option (List ℕ) → Option (List ℕ) → Option (List ℕ)
+    → Type 0
+IsCut command.Run left_before left_after held_before held_after =
+    IsAnsweredInPart telling.Report left_before left_after held_before held_after
+IsCut command.Cover left_before left_after held_before held_after =
+    IsAnsweredInPart telling.Cover left_before left_after held_before held_after
+IsCut command.Check left_before left_after held_before held_after =
+    IsCheckedInPart left_before left_after held_before held_after
+IsCut (command.Load seed clients requests) left_before left_after held_before held_after =
+    LoadIsCut seed clients requests held_before held_after
 
 -- what was read is refused, and this is why
-pub record HasFault {A : Type 0} (most : ℕ) (reads : List ℕ → Result A Fault) (left_before left_after : Option (List ℕ)) (fault : Fault) : Type 0 where
+pub record HasFault {A : Type 0} (most : ℕ) (reads : List ℕ → Result A Fault)
+    (left_before left_after : Option (List ℕ)) (fault : Fault) : Type 0 where
   pub bytes : List ℕ
   pub read : IsRead most reads left_before left_after bytes
   pub refused : reads bytes ≡ Err fault
@@ -55,9 +63,12 @@ pub record HasFault {A : Type 0} (most : ℕ) (reads : List ℕ → Result A Fau
 -- what a command read is no document, and for `check` no document with a report of it; a load reads
 -- nothing
 abbrev pub IsRefused : Command → Option (List ℕ) → Option (List ℕ) → Fault → Type 0
-IsRefused command.Run left_before left_after fault = HasFault limit document_at left_before left_after fault
-IsRefused command.Cover left_before left_after fault = HasFault limit document_at left_before left_after fault
-IsRefused command.Check left_before left_after fault = HasFault check_limit pair_at left_before left_after fault
+IsRefused command.Run left_before left_after fault =
+    HasFault limit document_at left_before left_after fault
+IsRefused command.Cover left_before left_after fault =
+    HasFault limit document_at left_before left_after fault
+IsRefused command.Check left_before left_after fault =
+    HasFault check_limit pair_at left_before left_after fault
 IsRefused (command.Load seed clients requests) left_before left_after fault = ⊥
 
 abbrev pub Writes : Telling → List ℕ → Option (List ℕ) → Option (List ℕ) → Type 0

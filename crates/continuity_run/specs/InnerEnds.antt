@@ -15,5 +15,6 @@ ended_as (fault.At code path) = status.Document code path
 -- the report has this text: the sink took it, or failed and holds a front of it
 abbrev pub IsWritten : List ℕ → Status → Option (List ℕ) → Option (List ℕ) → ℕ → ℕ → Type 0
 IsWritten text status.Done held_before held_after before now = Appends held_before held_after text
-IsWritten text status.Write held_before held_after before now = AppendsFront held_before held_after text × Rose before now
+IsWritten text status.Write held_before held_after before now =
+    AppendsFront held_before held_after text × Rose before now
 IsWritten text _ held_before held_after before now = ⊥

@@ -27,12 +27,16 @@ pub record MayBeRead (sees : Seen → Type 0) (calls : ℕ) : Type 0 where
 
 -- a declared table as a report prints it: its rows in order of key
 abbrev pub printed_by : List PlainRow → Schema → ReportTable
-printed_by tables schema = record { name = schema.name; rows = map (λ one. one.row) (rows_at tables (place.Table schema.name)) }
+printed_by tables schema = record {
+  name = schema.name;
+  rows = map (λ one. one.row) (rows_at tables (place.Table schema.name));
+}
 
 -- The store of a run that is over has these bytes. The report has what their journal has more than
 -- stood there before event 1, the horizon, and the tables after the last entry; what the events
 -- did, what was served, and what clients were shown are those of the run.
-pub record IsReadOff {S : Type 0} (bytes : List ℕ) (before : Before) (print_image : Bool) (ran : Ran S) (report : Report) : Type 0 where
+pub record IsReadOff {S : Type 0} (bytes : List ℕ) (before : Before) (print_image : Bool)
+    (ran : Ran S) (report : Report) : Type 0 where
   pub journal : Journal
   pub reads : journal_of bytes ≡ Ok journal
   pub entries : report.entries ≡ drop before.entries journal.entries

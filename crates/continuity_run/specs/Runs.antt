@@ -21,20 +21,24 @@ use Rattle.continuity_run.specs.Reading.{IsReadOff}
 
 -- The document is one that was read, with this schedule, and its run begins with this service under
 -- these rules.
-pub record IsRunOf (sees : Seen → Type 0) (rules : Rules) (of : ServiceOf) (scripts : List Script) (schedule : List Event) (opened : Bool) (document : Document) : Type 0 where
+pub record IsRunOf (sees : Seen → Type 0) (rules : Rules) (of : ServiceOf) (scripts : List Script)
+    (schedule : List Event) (opened : Bool) (document : Document) : Type 0 where
   pub kept : IsDocument document
   pub schedule_is : document.schedule ≡ schedule
   pub seen : Seen
   pub begins : IsOf sees rules of scripts opened document seen
 
 -- there is such a document
-abbrev pub IsRunOfSome : (Seen → Type 0) → Rules → ServiceOf → List Script → List Event → Bool → Type 0
-IsRunOfSome sees rules of scripts schedule opened = (document : Document) × IsRunOf sees rules of scripts schedule opened document
+abbrev pub IsRunOfSome : (Seen → Type 0) → Rules → ServiceOf → List Script → List Event → Bool
+    → Type 0
+IsRunOfSome sees rules of scripts schedule opened = (document : Document)
+    × IsRunOf sees rules of scripts schedule opened document
 
 -- The run of the document is over: its events, and those of the finish behind them, led to these
 -- notes and to what was served, and its clients were shown what the machine's were. The service may
 -- be seen as it stands then.
-pub record HasRun {S : Type 0} (sees : S → Seen → Type 0) (document : Document) (ran : Ran S) : Type 0 where
+pub record HasRun {S : Type 0} (sees : S → Seen → Type 0) (document : Document)
+    (ran : Ran S) : Type 0 where
   pub seen : Seen
   pub traced : Traced
   pub traffic : Traffic
@@ -44,7 +48,8 @@ pub record HasRun {S : Type 0} (sees : S → Seen → Type 0) (document : Docume
 
 -- The report was read off the store of a service over which the document has run. The store began
 -- with these bytes, and has their base.
-pub record IsReportOf {S : Type 0} (sees : S → Seen → Type 0) (bytes : S → List ℕ) (first : List ℕ) (before : Before) (print_image : Bool) (document : Document) (report : Report) : Type 0 where
+pub record IsReportOf {S : Type 0} (sees : S → Seen → Type 0) (bytes : S → List ℕ) (first : List ℕ)
+    (before : Before) (print_image : Bool) (document : Document) (report : Report) : Type 0 where
   pub ran : Ran S
   pub has : HasRun sees document ran
   pub off : IsReadOff (bytes ran.service) before print_image ran report

@@ -39,5 +39,6 @@ pub record IsStoreOf (base : Base) (image : Option (List ℕ)) (store : Store) :
   pub no_fault : (mem_state store.disk).faults ≡ 0
   pub reads : journal_of (mem_state store.disk).now.seen ≡ Ok (given_journal base image)
   pub found : IsFoundOn (mem_state store.disk) store.found
-  pub opened : store.found.is_opened ≡ option_map_or (λ bytes. is_opened (so_far_of bytes)) image false
+  pub opened : store.found.is_opened ≡ option_map_or
+      (λ bytes. is_opened (so_far_of bytes)) image false
   pub counts : Counts (given_journal base image) store.before

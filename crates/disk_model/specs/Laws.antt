@@ -8,13 +8,15 @@ use Rattle.disk_model.specs.Disk.{DiskState, history, LeftSince, moment, Allows,
 abbrev pub LeavesSince : Type 0
 LeavesSince =
     (old new : DiskState) (added : List DiskMoment)
-    → history new ≡ history old ++ added → (image : List ℕ) → LeftSince new (moment old) image → MayLeave old.now image ⊎ AnyMayLeave added image
+    → history new ≡ history old ++ added → (image : List ℕ) → LeftSince new (moment old) image
+    → MayLeave old.now image ⊎ AnyMayLeave added image
 
 -- What a crash now may leave, it may have left at old, or at a moment that was added since.
 abbrev pub LeavesNow : Type 0
 LeavesNow =
     (old new : DiskState) (added : List DiskMoment)
-    → history new ≡ history old ++ added → (image : List ℕ) → MayLeave new.now image → MayLeave old.now image ⊎ AnyMayLeave added image
+    → history new ≡ history old ++ added → (image : List ℕ) → MayLeave new.now image
+    → MayLeave old.now image ⊎ AnyMayLeave added image
 
 -- a quiet disk has no fault in a call of n writes and syncs under no stop, or under one that lets
 -- them pass

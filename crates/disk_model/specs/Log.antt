@@ -24,12 +24,17 @@ ranges_after w ranges = if w.synced then [] else (w.at, w.len) ∷ ranges
 
 -- the moment between a write and the sync that followed it, if one did
 abbrev pub before_sync : KeptWrite → List ℕ → List (ℕ × ℕ) → List ℕ → List DiskMoment
-before_sync w synced ranges after = if w.synced then record { seen = after; synced = synced; written = (w.at, w.len) ∷ ranges } ∷ [] else []
+before_sync w synced ranges after = if w.synced then record {
+  seen = after;
+  synced = synced;
+  written = (w.at, w.len) ∷ ranges;
+} ∷ [] else []
 
 -- what was synced last, where `synced` was before these writes
 abbrev pub synced_of : List ℕ → List KeptWrite → List ℕ → List ℕ
 synced_of synced [] bytes = synced
-synced_of synced (w ∷ log) bytes = synced_of (synced_after w synced (first_bytes log bytes)) log bytes
+synced_of synced (w ∷ log) bytes = synced_of (synced_after w synced (first_bytes log bytes)) log
+    bytes
 
 -- the ranges written since the last sync, where these were before the writes
 abbrev pub ranges_of : List (ℕ × ℕ) → List KeptWrite → List (ℕ × ℕ)
@@ -46,7 +51,11 @@ past_of synced ranges (w ∷ log) bytes =
 
 -- the last moment; the bytes before the first write count as synced
 abbrev pub now_of : List KeptWrite → List ℕ → DiskMoment
-now_of log bytes = record { seen = bytes; synced = synced_of (first_bytes log bytes) log bytes; written = ranges_of [] log }
+now_of log bytes = record {
+  seen = bytes;
+  synced = synced_of (first_bytes log bytes) log bytes;
+  written = ranges_of [] log;
+}
 
 -- there are none
 abbrev pub is_nil : List ℕ → Bool

@@ -13,7 +13,8 @@ pub record DiskMoment : Type 0 where
 -- the offset lies in one of the ranges
 abbrev pub InRanges : List (ℕ × ℕ) → ℕ → Type 0
 InRanges [] offset = ⊥
-InRanges (range ∷ ranges) offset = ((range.0 ≤ offset) × (offset < range.0 + range.1)) ⊎ InRanges ranges offset
+InRanges (range ∷ ranges) offset = ((range.0 ≤ offset) × (offset < range.0 + range.1)) ⊎ InRanges
+    ranges offset
 
 -- A crash leaves an image whose size lies between that at the last sync and that now.
 -- Its bytes are those at that sync outside the ranges written since. In these, and past the old
@@ -21,7 +22,8 @@ InRanges (range ∷ ranges) offset = ((range.0 ≤ offset) × (offset < range.0 
 pub record MayLeave (m : DiskMoment) (image : List ℕ) : Type 0 where
   pub no_shorter : length m.synced ≤ length image
   pub no_longer : length image ≤ length m.seen
-  pub same : (k : ℕ) → k < length m.synced → (InRanges m.written k → ⊥) → slice_index image k ≡ slice_index m.synced k
+  pub same : (k : ℕ) → k < length m.synced → (InRanges m.written k → ⊥)
+      → slice_index image k ≡ slice_index m.synced k
 
 -- a crash at one of these moments may leave the image
 abbrev pub AnyMayLeave : List DiskMoment → List ℕ → Type 0
@@ -41,4 +43,5 @@ next_moment at n seen m = record { seen = seen; synced = m.synced; written = (at
 pub record Torn (at n : ℕ) (old new : List ℕ) : Type 0 where
   pub no_shorter : length old ≤ length new
   pub no_longer : length new ≤ max (length old) (at + n)
-  pub same : (k : ℕ) → k < length old → ((at ≤ k) × (k < at + n) → ⊥) → slice_index new k ≡ slice_index old k
+  pub same : (k : ℕ) → k < length old → ((at ≤ k) × (k < at + n) → ⊥)
+      → slice_index new k ≡ slice_index old k

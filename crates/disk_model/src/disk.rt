@@ -31,9 +31,11 @@ pub trait Disk {
     /// It changes no byte and counts for no stop. After `Failed` the content of `into` is not told.
     fn read(&mut self, at: u64, into: &mut [u8]) -> Result<(), DiskFault>
         requires { at + length into.old ≤ length (state self.old).now.seen }
-        ensures bytes { OnOk result (into.new ≡ take (length into.old) (drop at (state self.old).now.seen)) }
+        ensures bytes { OnOk result (into.new
+            ≡ take (length into.old) (drop at (state self.old).now.seen)) }
         ensures failed { OnErr result (IsErrOf result DiskFault.Failed) }
-        ensures only_reads { OnlyReads (IsErrOf result DiskFault.Failed) (state self.old) (state self.new) };
+        ensures only_reads { OnlyReads (IsErrOf result DiskFault.Failed) (state self.old)
+            (state self.new) };
 
     /// Writes `bytes` at the offset `at`, over what is there and past the end.
     ///
@@ -41,23 +43,27 @@ pub trait Disk {
     fn write_at(&mut self, at: u64, bytes: &[u8]) -> Result<(), DiskFault>
         requires { at ≤ length (state self.old).now.seen }
         ensures written { OnOk result ((state self.new).now
-            ≡ next_moment at (length bytes.now) (with_bytes at bytes.now (state self.old).now.seen) (state self.old).now) }
+            ≡ next_moment at (length bytes.now) (with_bytes at bytes.now (state self.old).now.seen)
+            (state self.old).now) }
 
         // For want of memory nothing changes; a write that failed may have changed any bytes of its
         // range.
         ensures refused { IsErrOf result DiskFault.NoMemory → state self.new ≡ state self.old }
-        ensures torn { OnErr result (Torn at (length bytes.now) (state self.old).now.seen (state self.new).now.seen) }
+        ensures torn { OnErr result (Torn at (length bytes.now) (state self.old).now.seen
+            (state self.new).now.seen) }
 
         // However it ends, a crash then leaves no more than it may leave with this range written.
         ensures crash { (image : List ℕ) → MayLeave (state self.new).now image
-            → MayLeave (next_moment at (length bytes.now) (state self.new).now.seen (state self.old).now) image }
+            → MayLeave (next_moment at (length bytes.now) (state self.new).now.seen
+            (state self.old).now) image }
         ensures time { Meanwhile (state self.old) (state self.new) (MayLeave (state self.new).now) }
 
         // Where it succeeds it lowers a set stop by one, and else it leaves it. At the stop 0 it
         // fails.
         ensures stop { Lowers 1 result (state self.old).stop (state self.new).stop }
         ensures stopped { (state self.old).stop ≡ Some 0 → IsErrOf result DiskFault.Failed }
-        ensures cause { Caused (IsErrOf result DiskFault.Failed) (state self.old) (state self.new) };
+        ensures cause { Caused (IsErrOf result DiskFault.Failed) (state self.old)
+            (state self.new) };
 
     /// Makes what a read gives durable: after it a crash leaves exactly that.
     ///
@@ -66,14 +72,16 @@ pub trait Disk {
         ensures durable { OnOk result (IsSettled (state self.new)) }
         ensures seen { (state self.new).now.seen ≡ (state self.old).now.seen }
         ensures failed { OnErr result (IsErrOf result DiskFault.Failed) }
-        ensures crash { OnErr result ((image : List ℕ) → MayLeave (state self.new).now image → MayLeave (state self.old).now image) }
+        ensures crash { OnErr result ((image : List ℕ) → MayLeave (state self.new).now image
+            → MayLeave (state self.old).now image) }
         ensures time { Meanwhile (state self.old) (state self.new) (MayLeave (state self.new).now) }
 
         // Where it succeeds it lowers a set stop by one, and else it leaves it. At the stop 0 it
         // fails.
         ensures stop { Lowers 1 result (state self.old).stop (state self.new).stop }
         ensures stopped { (state self.old).stop ≡ Some 0 → IsErrOf result DiskFault.Failed }
-        ensures cause { Caused (IsErrOf result DiskFault.Failed) (state self.old) (state self.new) };
+        ensures cause { Caused (IsErrOf result DiskFault.Failed) (state self.old)
+            (state self.new) };
 
     /// No disk has more than 2^62 bytes: a write that would need more finds no memory.
     ghost bounded: { (disk : Self) → length (state disk).now.seen ≤ 2 ^ 62 };

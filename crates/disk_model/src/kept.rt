@@ -41,7 +41,8 @@ pub fn put(
     requires at { at ≤ length bytes.old.items }
     requires room { at + length new.now ≤ 2 ^ 62 }
     ensures written { OnOk result (bytes.new.items ≡ with_bytes at new.now bytes.old.items) }
-    ensures logged { OnOk result (Logged at (length new.now) bytes.old.items bytes.new.items log.old.items log.new.items) }
+    ensures logged { OnOk result (Logged at (length new.now) bytes.old.items bytes.new.items
+        log.old.items log.new.items) }
     ensures same { OnErr result (bytes.new.items ≡ bytes.old.items) }
     ensures same_log { OnErr result (log.new.items ≡ log.old.items) }
 {
@@ -89,8 +90,10 @@ pub fn undo(bytes: &mut Vec<u8>, write: &KeptWrite)
 pub fn undo_odd(bytes: &mut Vec<u8>, write: &KeptWrite)
     requires { write.now.at + write.now.len ≤ length bytes.old.items }
     ensures long { length bytes.new.items ≡ length bytes.old.items }
-    ensures inside { (k : ℕ) → write.now.at ≤ k → k < write.now.at + write.now.len → k % 2 ≡ 1 → slice_index bytes.new.items k ≡ slice_index write.now.covered.items (k - write.now.at) }
-    ensures outside { (k : ℕ) → ((write.now.at ≤ k) × (k < write.now.at + write.now.len) × (k % 2 ≡ 1) → ⊥) → slice_index bytes.new.items k ≡ slice_index bytes.old.items k }
+    ensures inside { (k : ℕ) → write.now.at ≤ k → k < write.now.at + write.now.len → k % 2 ≡ 1
+        → slice_index bytes.new.items k ≡ slice_index write.now.covered.items (k - write.now.at) }
+    ensures outside { (k : ℕ) → ((write.now.at ≤ k) × (k < write.now.at + write.now.len)
+        × (k % 2 ≡ 1) → ⊥) → slice_index bytes.new.items k ≡ slice_index bytes.old.items k }
 {
     for offset in write.at..write.at + write.len {
         if offset % 2 == 1 {
@@ -107,8 +110,10 @@ pub fn undo_odd(bytes: &mut Vec<u8>, write: &KeptWrite)
 pub fn fill_ones(bytes: &mut Vec<u8>, write: &KeptWrite)
     requires { write.now.at + write.now.len ≤ length bytes.old.items }
     ensures long { length bytes.new.items ≡ length bytes.old.items }
-    ensures inside { (k : ℕ) → write.now.at ≤ k → k < write.now.at + write.now.len → slice_index bytes.new.items k ≡ 255 }
-    ensures outside { (k : ℕ) → ((write.now.at ≤ k) × (k < write.now.at + write.now.len) → ⊥) → slice_index bytes.new.items k ≡ slice_index bytes.old.items k }
+    ensures inside { (k : ℕ) → write.now.at ≤ k → k < write.now.at + write.now.len
+        → slice_index bytes.new.items k ≡ 255 }
+    ensures outside { (k : ℕ) → ((write.now.at ≤ k) × (k < write.now.at + write.now.len) → ⊥)
+        → slice_index bytes.new.items k ≡ slice_index bytes.old.items k }
 {
     for offset in write.at..write.at + write.len {
         bytes[offset] = 255;

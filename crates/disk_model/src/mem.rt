@@ -90,7 +90,10 @@ impl MemDisk {
     /// Makes the calls of `read`, `write_at` and `sync` with these numbers fail, in place of those
     /// that a call of `fail` named before. The first such call of the disk has the number 1.
     pub fn fail(&mut self, calls: &[u64]) -> Result<(), AllocError>
-        ensures failing { OnOk result (mem_state self.new ≡ record (mem_state self.old) { quiet = is_nil calls.now }) }
+        ensures failing { OnOk result (mem_state self.new ≡ record (mem_state self.old) {
+          quiet =
+              is_nil calls.now;
+        }) }
         ensures numbers { OnOk result (failing_of self.new ≡ calls.now) }
         ensures refused { OnErr result (mem_state self.new ≡ mem_state self.old) }
         ensures same_numbers { OnErr result (failing_of self.new ≡ failing_of self.old) }
@@ -163,9 +166,11 @@ impl Disk for MemDisk {
     /// As `Disk` says; and it fails exactly where its stop is reached or its number is to fail.
     fn read(&mut self, at: u64, into: &mut [u8]) -> Result<(), DiskFault>
         requires { at + length into.old ≤ length (mem_state self.old).now.seen }
-        ensures bytes { OnOk result (into.new ≡ take (length into.old) (drop at (mem_state self.old).now.seen)) }
+        ensures bytes { OnOk result (into.new
+            ≡ take (length into.old) (drop at (mem_state self.old).now.seen)) }
         ensures failed { OnErr result (IsErrOf result DiskFault.Failed) }
-        ensures only_reads { OnlyReads (IsErrOf result DiskFault.Failed) (mem_state self.old) (mem_state self.new) }
+        ensures only_reads { OnlyReads (IsErrOf result DiskFault.Failed) (mem_state self.old)
+            (mem_state self.new) }
         ensures counted { IsCounted self.old self.new }
         ensures fails { IsErrOf result DiskFault.Failed ↔ FailsNext self.old }
     {
@@ -182,16 +187,22 @@ impl Disk for MemDisk {
     fn write_at(&mut self, at: u64, bytes: &[u8]) -> Result<(), DiskFault>
         requires { at ≤ length (mem_state self.old).now.seen }
         ensures written { OnOk result ((mem_state self.new).now
-            ≡ next_moment at (length bytes.now) (with_bytes at bytes.now (mem_state self.old).now.seen) (mem_state self.old).now) }
+            ≡ next_moment at (length bytes.now)
+            (with_bytes at bytes.now (mem_state self.old).now.seen) (mem_state self.old).now) }
         ensures same { OnErr result (SameBytes (mem_state self.old) (mem_state self.new)) }
-        ensures refused { IsErrOf result DiskFault.NoMemory → mem_state self.new ≡ mem_state self.old }
-        ensures torn { OnErr result (Torn at (length bytes.now) (mem_state self.old).now.seen (mem_state self.new).now.seen) }
+        ensures refused { IsErrOf result DiskFault.NoMemory
+            → mem_state self.new ≡ mem_state self.old }
+        ensures torn { OnErr result (Torn at (length bytes.now) (mem_state self.old).now.seen
+            (mem_state self.new).now.seen) }
         ensures crash { (image : List ℕ) → MayLeave (mem_state self.new).now image
-            → MayLeave (next_moment at (length bytes.now) (mem_state self.new).now.seen (mem_state self.old).now) image }
-        ensures time { Meanwhile (mem_state self.old) (mem_state self.new) (MayLeave (mem_state self.new).now) }
+            → MayLeave (next_moment at (length bytes.now) (mem_state self.new).now.seen
+            (mem_state self.old).now) image }
+        ensures time { Meanwhile (mem_state self.old) (mem_state self.new)
+            (MayLeave (mem_state self.new).now) }
         ensures stop { Lowers 1 result (mem_state self.old).stop (mem_state self.new).stop }
         ensures stopped { (mem_state self.old).stop ≡ Some 0 → IsErrOf result DiskFault.Failed }
-        ensures cause { Caused (IsErrOf result DiskFault.Failed) (mem_state self.old) (mem_state self.new) }
+        ensures cause { Caused (IsErrOf result DiskFault.Failed) (mem_state self.old)
+            (mem_state self.new) }
         ensures counted { IsCounted self.old self.new }
         ensures fails { IsErrOf result DiskFault.Failed ↔ FailsNext self.old }
     {
@@ -216,11 +227,14 @@ impl Disk for MemDisk {
         ensures seen { (mem_state self.new).now.seen ≡ (mem_state self.old).now.seen }
         ensures same { OnErr result (SameBytes (mem_state self.old) (mem_state self.new)) }
         ensures failed { OnErr result (IsErrOf result DiskFault.Failed) }
-        ensures crash { OnErr result ((image : List ℕ) → MayLeave (mem_state self.new).now image → MayLeave (mem_state self.old).now image) }
-        ensures time { Meanwhile (mem_state self.old) (mem_state self.new) (MayLeave (mem_state self.new).now) }
+        ensures crash { OnErr result ((image : List ℕ) → MayLeave (mem_state self.new).now image
+            → MayLeave (mem_state self.old).now image) }
+        ensures time { Meanwhile (mem_state self.old) (mem_state self.new)
+            (MayLeave (mem_state self.new).now) }
         ensures stop { Lowers 1 result (mem_state self.old).stop (mem_state self.new).stop }
         ensures stopped { (mem_state self.old).stop ≡ Some 0 → IsErrOf result DiskFault.Failed }
-        ensures cause { Caused (IsErrOf result DiskFault.Failed) (mem_state self.old) (mem_state self.new) }
+        ensures cause { Caused (IsErrOf result DiskFault.Failed) (mem_state self.old)
+            (mem_state self.new) }
         ensures counted { IsCounted self.old self.new }
         ensures fails { IsErrOf result DiskFault.Failed ↔ FailsNext self.old }
     {

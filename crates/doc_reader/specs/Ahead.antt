@@ -21,11 +21,14 @@ held_back ms = without (codes "schedule") (without (codes "clients") (without (c
 -- second store, and the others are held
 pub record AreRead (ahead : Ahead) (ms : Named) : Type 0 where
   pub tables : option_map tables_of (ms (codes "tables")) ≡ option_map (λ ts. Ok ts) ahead.tables
-  pub clients : option_map clients_of (ms (codes "clients")) ≡ option_map (λ cs. Ok cs) ahead.clients
-  pub schedule : option_map (schedule_of 64 true) (ms (codes "schedule")) ≡ option_map (λ es. Ok es) ahead.schedule
+  pub clients : option_map clients_of (ms (codes "clients")) ≡ option_map
+      (λ cs. Ok cs) ahead.clients
+  pub schedule : option_map (schedule_of 64 true) (ms (codes "schedule")) ≡ option_map
+      (λ es. Ok es) ahead.schedule
   pub others : members_at ahead.others ≡ held_back ms
 
 -- the tokens begin with a value, and once it was passed it is read with the members before as the
 -- one at this name
 abbrev pub Passes : ℕ → List ℕ → Ahead → List Token → Ahead → List Token → Type 0
-Passes depth name old ts new rest = (d : Data) × (value_ahead depth ts ≡ Some (d, rest)) × ((ms : Named) → AreRead old ms → AreRead new (putting name d ms))
+Passes depth name old ts new rest = (d : Data) × (value_ahead depth ts ≡ Some (d, rest))
+    × ((ms : Named) → AreRead old ms → AreRead new (putting name d ms))

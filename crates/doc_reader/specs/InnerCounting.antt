@@ -12,7 +12,8 @@ left_of left count = if nat_le count left then Some (left - count) else None
 
 -- the different names so far and this one, if that is no seventeenth
 abbrev pub noted : List (List ℕ) → List ℕ → Result (List (List ℕ)) Fault
-noted before name = if is_name_of before name then Ok before else (if nat_lt (length before) 16 then Ok (before ++ name ∷ []) else Err (here Limit))
+noted before name = if is_name_of before name then Ok before else
+    (if nat_lt (length before) 16 then Ok (before ++ name ∷ []) else Err (here Limit))
 
 -- the different names so far and these, one after the other
 abbrev pub noted_all : List (List ℕ) → List (List ℕ) → Result (List (List ℕ)) Fault

@@ -14,7 +14,8 @@ use Rattle.doc_reader.specs.meaning.Counts.{is_small}
 -- an image stands alone, and is that of a store
 abbrev pub is_begin : List DocTable → List DocSequence → Option (List ℕ) → Bool
 is_begin tables sequences None = true
-is_begin tables sequences (Some image) = (length tables == 0) && ((length sequences == 0) && is_store (journal_of image))
+is_begin tables sequences (Some image) =
+    (length tables == 0) && ((length sequences == 0) && is_store (journal_of image))
 
 pub record IsDocument (document : Document) : Type 0 where
   pub service : IsTrue (is_service document.service)
@@ -22,11 +23,13 @@ pub record IsDocument (document : Document) : Type 0 where
   pub table_names : IsTrue (have_distinct_keys bytes_eq (λ table. table.name) document.tables)
   pub few_tables : length document.tables ≤ 32
   pub sequences : IsTrue (list_all is_sequence document.sequences)
-  pub sequence_names : IsTrue (have_distinct_keys bytes_eq (λ sequence. sequence.name) document.sequences)
+  pub sequence_names : IsTrue (have_distinct_keys bytes_eq (λ sequence. sequence.name)
+      document.sequences)
   pub few_sequences : length document.sequences ≤ 32
   pub begins : IsTrue (is_begin document.tables document.sequences document.image)
   pub clients : IsTrue (list_all is_client document.clients)
   pub few_clients : length document.clients ≤ 64
-  pub schedule : IsTrue (list_all (is_event (length document.clients) document.service.standby) document.schedule)
+  pub schedule : IsTrue (list_all (is_event (length document.clients) document.service.standby)
+      document.schedule)
   pub few_events : length document.schedule ≤ 100000
   pub small : IsTrue (is_small document)

@@ -157,7 +157,8 @@ fn note_update(
     key: &Operand,
     change: &Change,
 ) -> Result<Different, DocFault>
-    ensures { Gives result (noted_all before (flat_map names_in_operand (key.now ∷ operand_of change.now ∷ []))) }
+    ensures { Gives result (noted_all before
+        (flat_map names_in_operand (key.now ∷ operand_of change.now ∷ []))) }
 {
     let names = key.note(alloc, before)?;
     note_change(alloc, names, change)

@@ -36,7 +36,9 @@ pub struct Store {
 #[tactic(auto, unfolding(crate::specs::meaning::Documents::store_of), using(json_form::proofs::Offered::others_stay))]
 fn store_from(alloc: Global, members: &mut Members) -> Result<Store, DocFault>
     ensures read { Gives result (store_of (members_at members.old)) }
-    ensures left { IfOk result (λ _. members_at members.new ≡ without (codes "image") (without (codes "sequences") (without (codes "tables") (members_at members.old)))) }
+    ensures left { IfOk result (λ _. members_at members.new
+        ≡ without (codes "image") (without (codes "sequences")
+        (without (codes "tables") (members_at members.old)))) }
 {
     let alone = !members.has("tables") && !members.has("sequences");
     let tables = members.optional(alloc, "tables", &TablesReader, Listed::new(alloc))?;
@@ -61,7 +63,8 @@ pub struct Begin {
 #[tactic(auto, unfolding(crate::specs::meaning::Documents::begin_of), using(json_form::proofs::Offered::others_stay, crate::proofs::Parts::parts_stay))]
 pub(crate) fn begin_from(alloc: Global, members: &mut Members) -> Result<Begin, DocFault>
     ensures read { Gives result (begin_of (members_at members.old)) }
-    ensures left { IfOk result (λ _. members_at members.new ≡ without (codes "print_image") (without (codes "image") (without (codes "sequences")
+    ensures left { IfOk result (λ _. members_at members.new
+        ≡ without (codes "print_image") (without (codes "image") (without (codes "sequences")
         (without (codes "tables") (without (codes "service") (members_at members.old)))))) }
 {
     let service = members.optional(alloc, "service", &ServiceReader, usual_service())?;
@@ -113,7 +116,8 @@ pub(crate) fn clients_ahead(
     tokens: &mut json::Reader<'_>,
     depth: usize,
 ) -> Option<Clients>
-    ensures read { IfSome result (λ clients. Begins clients_of depth tokens.old clients tokens.new) }
+    ensures read { IfSome result (λ clients. Begins clients_of
+        depth tokens.old clients tokens.new) }
     ensures shorter { IfSome result (λ _. length tokens.new < length tokens.old) }
 {
     let most = Count::Clients.limit().most;
@@ -128,7 +132,8 @@ fn schedule_from(
     clients: u64,
     standby: bool,
 ) -> Result<Events, DocFault>
-    ensures { Gives result (read_or (codes "schedule") [] (schedule_of clients standby) (option_map view schedule)) }
+    ensures { Gives result (read_or (codes "schedule") [] (schedule_of clients standby)
+        (option_map view schedule)) }
 {
     match schedule {
         Some(value) => {

@@ -48,7 +48,8 @@ impl Ahead {
     }
 
     fn take_tables(&mut self, alloc: Global, tokens: &mut Reader<'_>, depth: usize) -> Option<()>
-        ensures read { IfSome result (λ _. Passes depth (codes "tables") self.old tokens.old self.new tokens.new) }
+        ensures read { IfSome result (λ _. Passes depth (codes "tables") self.old tokens.old
+            self.new tokens.new) }
         ensures shorter { IfSome result (λ _. length tokens.new < length tokens.old) }
     {
         let tables = tables_ahead(alloc, tokens, depth)?;
@@ -57,7 +58,8 @@ impl Ahead {
     }
 
     fn take_clients(&mut self, alloc: Global, tokens: &mut Reader<'_>, depth: usize) -> Option<()>
-        ensures read { IfSome result (λ _. Passes depth (codes "clients") self.old tokens.old self.new tokens.new) }
+        ensures read { IfSome result (λ _. Passes depth (codes "clients") self.old tokens.old
+            self.new tokens.new) }
         ensures shorter { IfSome result (λ _. length tokens.new < length tokens.old) }
     {
         let clients = clients_ahead(alloc, tokens, depth)?;
@@ -67,7 +69,8 @@ impl Ahead {
 
     /// The events, whose clients may stand behind them.
     fn take_schedule(&mut self, alloc: Global, tokens: &mut Reader<'_>, depth: usize) -> Option<()>
-        ensures read { IfSome result (λ _. Passes depth (codes "schedule") self.old tokens.old self.new tokens.new) }
+        ensures read { IfSome result (λ _. Passes depth (codes "schedule") self.old tokens.old
+            self.new tokens.new) }
         ensures shorter { IfSome result (λ _. length tokens.new < length tokens.old) }
     {
         let events = schedule_ahead(alloc, tokens, depth)?;
@@ -82,7 +85,8 @@ impl Ahead {
         depth: usize,
         name: &str,
     ) -> Option<()>
-        ensures read { IfSome result (λ _. is_among_def held_members name.now ≡ true → Passes depth name.now self.old tokens.old self.new tokens.new) }
+        ensures read { IfSome result (λ _. is_among_def held_members name.now ≡ true
+            → Passes depth name.now self.old tokens.old self.new tokens.new) }
         ensures shorter { IfSome result (λ _. length tokens.new < length tokens.old) }
     {
         let key = String::from_str(alloc, name).ok()?;
@@ -99,7 +103,8 @@ impl Ahead {
         depth: usize,
         name: &str,
     ) -> Option<()>
-        ensures read { IfSome result (λ _. Passes depth name.now self.old tokens.old self.new tokens.new) }
+        ensures read { IfSome result (λ _. Passes depth name.now self.old tokens.old self.new
+            tokens.new) }
         ensures known { IfSome result (λ _. is_among_def document_members name.now ≡ true) }
         ensures shorter { IfSome result (λ _. length tokens.new < length tokens.old) }
     {
@@ -121,7 +126,8 @@ impl Ahead {
 
 /// What is read of the members of an object, behind the bracket that begins it.
 fn members_ahead(alloc: Global, tokens: &mut Reader<'_>, depth: usize) -> Option<Ahead>
-    ensures read { IfSome result (λ ahead. (ms : MemberData) × (members_ahead_def depth tokens.old ≡ Some (ms, tokens.new))
+    ensures read { IfSome result (λ ahead. (ms : MemberData)
+        × (members_ahead_def depth tokens.old ≡ Some (ms, tokens.new))
         × (known document_members ms ≡ Ok tt) × AreRead ahead (named ms)) }
     ensures shorter { IfSome result (λ _. length tokens.new < length tokens.old) }
 {
@@ -136,7 +142,8 @@ fn members_ahead(alloc: Global, tokens: &mut Reader<'_>, depth: usize) -> Option
 /// is at fault.
 fn begin_with(alloc: Global, others: &mut Members, tables: Option<DocTables>) -> Option<Begin>
     ensures { IfSome result (λ begin. (ms : Named) → members_at others.old ≡ held_back ms
-        → option_map tables_of (ms (codes "tables")) ≡ option_map (λ ts. Ok ts) tables → begin_of ms ≡ Ok begin) }
+        → option_map tables_of (ms (codes "tables")) ≡ option_map (λ ts. Ok ts) tables
+        → begin_of ms ≡ Ok begin) }
 {
     match tables {
         Some(tables) => {
@@ -153,7 +160,8 @@ fn begin_with(alloc: Global, others: &mut Members, tables: Option<DocTables>) ->
 
 /// The document of which this was read. An event that does not fit it is at fault.
 fn joined(alloc: Global, ahead: Ahead) -> Option<Document>
-    ensures { IfSome result (λ document. (ms : MemberData) → known document_members ms ≡ Ok tt → AreRead ahead (named ms)
+    ensures { IfSome result (λ document. (ms : MemberData) → known document_members ms ≡ Ok tt
+        → AreRead ahead (named ms)
         → document_of (object ms) ≡ Ok document) }
 {
     let Ahead {
@@ -190,7 +198,8 @@ pub fn document_ahead(alloc: Global, tokens: &mut Reader<'_>, depth: usize) -> O
 
 /// The document that the text spells.
 fn text_ahead(alloc: Global, text: &str) -> Option<Document>
-    ensures { IfSome result (λ document. (d : Data) × (read text.now ≡ Some d) × (document_of d ≡ Ok document)) }
+    ensures { IfSome result (λ document. (d : Data) × (read text.now ≡ Some d)
+        × (document_of d ≡ Ok document)) }
 {
     let mut scratch = Scratch::new(alloc);
     let mut tokens = Reader::new(text, &mut scratch).ok()?;

@@ -22,8 +22,11 @@ use Rattle.document_forms.specs.meaning.Scripts.{is_one_transaction}
 -- the limits of the service's members
 unfoldable pub is_service : ServiceOf → Bool
 is_service service =
-    is_between 1 1000 service.retries && (is_between 0 1000 service.delay && (is_between 0 1000000 service.timeout && (is_between 0 4 service.replays && (is_between 1 256 service.record_limit
-    && (is_between 1 64 service.pool.max && (is_between 1 1000000 service.pool.wait && is_between 0 1000000 service.retention))))))
+    is_between 1 1000 service.retries && (is_between 0 1000 service.delay
+    && (is_between 0 1000000 service.timeout
+    && (is_between 0 4 service.replays && (is_between 1 256 service.record_limit
+    && (is_between 1 64 service.pool.max
+    && (is_between 1 1000000 service.pool.wait && is_between 0 1000000 service.retention))))))
 
 abbrev pub schema_in : DocTable → Schema
 schema_in table = record { name = table.name; columns = table.columns }
@@ -32,8 +35,10 @@ schema_in table = record { name = table.name; columns = table.columns }
 -- indexed by different columns
 unfoldable pub is_table : DocTable → Bool
 is_table table =
-    is_declared (schema_in table) && (list_all (row_fits table.columns) table.rows && (have_distinct_keys same_value key_of table.rows && (nat_le (length table.rows) 10000
-    && (list_all (has_column table.columns) table.index && have_distinct_keys bytes_eq (λ name. name) table.index))))
+    is_declared (schema_in table) && (list_all (row_fits table.columns) table.rows
+    && (have_distinct_keys same_value key_of table.rows && (nat_le (length table.rows) 10000
+    && (list_all (has_column table.columns) table.index
+    && have_distinct_keys bytes_eq (λ name. name) table.index))))
 
 abbrev pub is_sequence : DocSequence → Bool
 is_sequence sequence = int_le (pos 0) sequence.start && int_le sequence.start (pos 1000000000)
@@ -41,7 +46,9 @@ is_sequence sequence = int_le (pos 0) sequence.start && int_le sequence.start (p
 -- 1 to 1,024 calls that can be made; only one transaction is submitted again
 unfoldable pub is_request : Request → Bool
 is_request request =
-    list_all is_made request.calls && (is_between 1 1024 (length request.calls) && (is_between 0 4 request.again && ((request.again == 0) || is_one_transaction request.calls)))
+    list_all is_made request.calls && (is_between 1 1024 (length request.calls)
+    && (is_between 0 4 request.again
+    && ((request.again == 0) || is_one_transaction request.calls)))
 
 unfoldable pub is_client : Client → Bool
 is_client client = list_all is_request client.requests
@@ -61,12 +68,15 @@ fits clients standby _ = true
 unfoldable pub is_event : ℕ → Bool → Event → Bool
 is_event clients standby (event.Go client) = is_between 1 clients client
 is_event clients standby (event.Serve connection) = is_count connection
-is_event clients standby (event.Cut connection up down) = is_count connection && (is_count up && is_count down)
+is_event clients standby (event.Cut connection up down) =
+    is_count connection && (is_count up && is_count down)
 is_event clients standby (event.Reap connection) = is_count connection
-is_event clients standby (event.Crash connection after pick) = is_count connection && (is_count after && is_pick standby pick)
+is_event clients standby (event.Crash connection after pick) =
+    is_count connection && (is_count after && is_pick standby pick)
 is_event clients standby event.Up = true
 is_event clients standby (event.UpCrash after pick) = is_count after && nat_le pick 3
 is_event clients standby event.Tick = true
-is_event clients standby (event.Outside calls) = list_all is_made calls && is_between 1 1024 (length calls)
+is_event clients standby (event.Outside calls) =
+    list_all is_made calls && is_between 1 1024 (length calls)
 is_event clients standby (event.Ask ltxid) = is_small_ltxid ltxid
 is_event clients standby event.Drain = true

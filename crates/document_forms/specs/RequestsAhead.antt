@@ -17,11 +17,16 @@ request_members = codes "settings" ∷ codes "calls" ∷ codes "again" ∷ []
 
 -- what was read is what these members are read as
 pub record IsRequestRead (ahead : RequestAhead) (ms : Named) : Type 0 where
-  pub settings : option_map settings_of (ms (codes "settings")) ≡ option_map (λ settings. Ok settings) ahead.settings
-  pub calls : option_map (array_of 1 1024 (each_of (call_of digits.Any))) (ms (codes "calls")) ≡ option_map (λ calls. Ok calls) ahead.calls
-  pub again : option_map (whole_of 0 4) (ms (codes "again")) ≡ option_map (λ again. Ok again) ahead.again
+  pub settings : option_map settings_of (ms (codes "settings")) ≡ option_map
+      (λ settings. Ok settings) ahead.settings
+  pub calls : option_map (array_of 1 1024 (each_of (call_of digits.Any)))
+      (ms (codes "calls")) ≡ option_map (λ calls. Ok calls) ahead.calls
+  pub again : option_map (whole_of 0 4) (ms (codes "again")) ≡ option_map
+      (λ again. Ok again) ahead.again
 
 -- the tokens begin with a value, and once it was passed it is read with the members before as the
 -- one at this name
-abbrev pub PassesMember : ℕ → List ℕ → RequestAhead → List Token → RequestAhead → List Token → Type 0
-PassesMember depth name old ts new rest = (d : Data) × (value_ahead depth ts ≡ Some (d, rest)) × ((ms : Named) → IsRequestRead old ms → IsRequestRead new (putting name d ms))
+abbrev pub PassesMember : ℕ → List ℕ → RequestAhead → List Token → RequestAhead → List Token
+    → Type 0
+PassesMember depth name old ts new rest = (d : Data) × (value_ahead depth ts ≡ Some (d, rest))
+    × ((ms : Named) → IsRequestRead old ms → IsRequestRead new (putting name d ms))

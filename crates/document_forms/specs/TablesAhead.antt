@@ -17,12 +17,18 @@ columns_in (Some columns) = columns
 
 -- what was read is what these members are read as
 pub record IsTableRead (taken : List ℕ → Bool) (ahead : TableAhead) (ms : Named) : Type 0 where
-  pub name : option_map (new_name taken) (ms (codes "name")) ≡ option_map (λ name. Ok name) ahead.name
-  pub columns : option_map columns_of (ms (codes "columns")) ≡ option_map (λ columns. Ok columns) ahead.columns
-  pub rows : option_map (rows_of (columns_in ahead.columns)) (ms (codes "rows")) ≡ option_map (λ rows. Ok rows) ahead.rows
-  pub index : option_map (index_of (columns_in ahead.columns)) (ms (codes "index")) ≡ option_map (λ index. Ok index) ahead.index
+  pub name : option_map (new_name taken) (ms (codes "name")) ≡ option_map
+      (λ name. Ok name) ahead.name
+  pub columns : option_map columns_of (ms (codes "columns")) ≡ option_map
+      (λ columns. Ok columns) ahead.columns
+  pub rows : option_map (rows_of (columns_in ahead.columns)) (ms (codes "rows")) ≡ option_map
+      (λ rows. Ok rows) ahead.rows
+  pub index : option_map (index_of (columns_in ahead.columns)) (ms (codes "index")) ≡ option_map
+      (λ index. Ok index) ahead.index
 
 -- the tokens begin with a value, and once it was passed it is read with the members before as the
 -- one at this name
-abbrev pub PassesMember : (List ℕ → Bool) → ℕ → List ℕ → TableAhead → List Token → TableAhead → List Token → Type 0
-PassesMember taken depth name old ts new rest = (d : Data) × (value_ahead depth ts ≡ Some (d, rest)) × ((ms : Named) → IsTableRead taken old ms → IsTableRead taken new (putting name d ms))
+abbrev pub PassesMember : (List ℕ → Bool) → ℕ → List ℕ → TableAhead → List Token → TableAhead
+    → List Token → Type 0
+PassesMember taken depth name old ts new rest = (d : Data) × (value_ahead depth ts ≡ Some (d, rest))
+    × ((ms : Named) → IsTableRead taken old ms → IsTableRead taken new (putting name d ms))

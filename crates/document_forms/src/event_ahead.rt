@@ -80,7 +80,8 @@ fn upcrash_ahead(alloc: Global, tokens: &mut json::Reader<'_>, depth: usize) -> 
 }
 
 fn bare_ahead(tokens: &mut json::Reader<'_>, one: Event) -> Option<Event>
-    ensures ends { IfSome result (λ event. (depth : ℕ) → Ends (bare_of one) depth tokens.old event tokens.new) }
+    ensures ends { IfSome result (λ event. (depth : ℕ)
+        → Ends (bare_of one) depth tokens.old event tokens.new) }
     ensures shorter { IfSome result (λ _. length tokens.new < length tokens.old) }
 {
     array_ends(tokens)?;
@@ -109,7 +110,8 @@ fn failover_ahead(
     depth: usize,
     standby: bool,
 ) -> Option<Event>
-    ensures ends { IfSome result (λ one. Ends (failover_of standby) depth tokens.old one tokens.new) }
+    ensures ends { IfSome result (λ one. Ends (failover_of standby) depth tokens.old one
+        tokens.new) }
     ensures shorter { IfSome result (λ _. length tokens.new < length tokens.old) }
 {
     let connection = CountReader.ahead(alloc, tokens, depth)?;
@@ -134,7 +136,8 @@ fn parts_ahead(
     clients: u64,
     standby: bool,
 ) -> Option<Event>
-    ensures ends { IfSome result (λ one. Ends (event_by clients standby word) depth tokens.old one tokens.new) }
+    ensures ends { IfSome result (λ one. Ends (event_by clients standby word) depth tokens.old one
+        tokens.new) }
     ensures shorter { IfSome result (λ _. length tokens.new < length tokens.old) }
 {
     match word {
@@ -162,7 +165,8 @@ pub(crate) fn event_ahead(
     clients: u64,
     standby: bool,
 ) -> Option<Event>
-    ensures begins { IfSome result (λ one. Begins (event_of clients standby) depth tokens.old one tokens.new) }
+    ensures begins { IfSome result (λ one. Begins (event_of clients standby) depth tokens.old one
+        tokens.new) }
     ensures shorter { IfSome result (λ _. length tokens.new < length tokens.old) }
 {
     let inside = array_begins(tokens, depth)?;

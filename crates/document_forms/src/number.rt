@@ -7,7 +7,11 @@ use json_form::Whole;
 
 /// The reader of this number.
 pub(crate) fn whole(number: Number) -> Whole
-    ensures { result ≡ record { low = (number_limit number).least; high = (number_limit number).most } }
+    ensures { result ≡ record {
+      low = (number_limit number).least;
+      high =
+          (number_limit number).most;
+    } }
 {
     let limit = number.limit();
     Whole::new(limit.least, limit.most)

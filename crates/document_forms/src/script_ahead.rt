@@ -63,7 +63,8 @@ impl RequestAhead {
         tokens: &mut json::Reader<'_>,
         depth: usize,
     ) -> Option<()>
-        ensures read { IfSome result (λ _. PassesMember depth (codes "settings") self.old tokens.old self.new tokens.new) }
+        ensures read { IfSome result (λ _. PassesMember depth (codes "settings") self.old tokens.old
+            self.new tokens.new) }
         ensures shorter { IfSome result (λ _. length tokens.new < length tokens.old) }
     {
         let settings = SettingsReader.ahead(alloc, tokens, depth)?;
@@ -77,7 +78,8 @@ impl RequestAhead {
         tokens: &mut json::Reader<'_>,
         depth: usize,
     ) -> Option<()>
-        ensures read { IfSome result (λ _. PassesMember depth (codes "calls") self.old tokens.old self.new tokens.new) }
+        ensures read { IfSome result (λ _. PassesMember depth (codes "calls") self.old tokens.old
+            self.new tokens.new) }
         ensures shorter { IfSome result (λ _. length tokens.new < length tokens.old) }
     {
         let calls = calls_ahead(alloc, tokens, depth, Count::RequestCalls)?;
@@ -91,7 +93,8 @@ impl RequestAhead {
         tokens: &mut json::Reader<'_>,
         depth: usize,
     ) -> Option<()>
-        ensures read { IfSome result (λ _. PassesMember depth (codes "again") self.old tokens.old self.new tokens.new) }
+        ensures read { IfSome result (λ _. PassesMember depth (codes "again") self.old tokens.old
+            self.new tokens.new) }
         ensures shorter { IfSome result (λ _. length tokens.new < length tokens.old) }
     {
         let again = whole(Number::Again).ahead(alloc, tokens, depth)?;
@@ -107,7 +110,8 @@ impl RequestAhead {
         depth: usize,
         name: &str,
     ) -> Option<()>
-        ensures read { IfSome result (λ _. PassesMember depth name.now self.old tokens.old self.new tokens.new) }
+        ensures read { IfSome result (λ _. PassesMember depth name.now self.old tokens.old self.new
+            tokens.new) }
         ensures known { IfSome result (λ _. is_among request_members name.now ≡ true) }
         ensures shorter { IfSome result (λ _. length tokens.new < length tokens.old) }
     {
@@ -126,7 +130,8 @@ impl RequestAhead {
 
 /// What is read of a request's members, behind the bracket that begins it.
 fn members_ahead(alloc: Global, tokens: &mut json::Reader<'_>, depth: usize) -> Option<RequestAhead>
-    ensures read { IfSome result (λ ahead. (ms : MemberData) × (members_ahead_def depth tokens.old ≡ Some (ms, tokens.new))
+    ensures read { IfSome result (λ ahead. (ms : MemberData)
+        × (members_ahead_def depth tokens.old ≡ Some (ms, tokens.new))
         × (known request_members ms ≡ Ok tt) × IsRequestRead ahead (named ms)) }
     ensures shorter { IfSome result (λ _. length tokens.new ≤ length tokens.old) }
 {
@@ -144,7 +149,8 @@ pub(crate) fn request_ahead(
     tokens: &mut json::Reader<'_>,
     depth: usize,
 ) -> Option<Request>
-    ensures begins { IfSome result (λ request. Begins request_of depth tokens.old request tokens.new) }
+    ensures begins { IfSome result (λ request. Begins request_of
+        depth tokens.old request tokens.new) }
     ensures shorter { IfSome result (λ _. length tokens.new < length tokens.old) }
 {
     let inside = object_begins(tokens, depth)?;

@@ -119,7 +119,8 @@ impl Reader<KeepOf> for KeepReader {
 #[tactic(auto, unfolding(crate::specs::meaning::Service::limits_of), using(json_form::proofs::Offered::others_stay))]
 fn limits_from(alloc: Global, members: &mut Members) -> Result<Limits, DocFault>
     ensures read { Gives result (limits_of (members_at members.old)) }
-    ensures left { IfOk result (λ _. members_at members.new ≡ without (codes "record") (without (codes "replays") (without (codes "timeout")
+    ensures left { IfOk result (λ _. members_at members.new
+        ≡ without (codes "record") (without (codes "replays") (without (codes "timeout")
         (without (codes "delay") (without (codes "retries") (members_at members.old)))))) }
 {
     let retries = members.optional(alloc, "retries", &whole(Number::Tries), 30)?;
@@ -140,7 +141,8 @@ fn limits_from(alloc: Global, members: &mut Members) -> Result<Limits, DocFault>
 #[tactic(auto, unfolding(crate::specs::meaning::Service::words_of), using(json_form::proofs::Offered::others_stay))]
 fn words_from(alloc: Global, members: &mut Members) -> Result<Words, DocFault>
     ensures read { Gives result (words_of (members_at members.old)) }
-    ensures left { IfOk result (λ _. members_at members.new ≡ without (codes "consistency") (without (codes "failover") (members_at members.old))) }
+    ensures left { IfOk result (λ _. members_at members.new
+        ≡ without (codes "consistency") (without (codes "failover") (members_at members.old))) }
 {
     let failover = members.optional(alloc, "failover", &FailoverReader, Failover::Transaction)?;
     let consistency = members.optional(
@@ -170,7 +172,8 @@ const USUAL_KEEP: KeepOf = KeepOf {
 #[tactic(auto, unfolding(crate::specs::meaning::Service::shares_of), using(json_form::proofs::Offered::others_stay))]
 fn shares_from(alloc: Global, members: &mut Members) -> Result<Shares, DocFault>
     ensures read { Gives result (shares_of (members_at members.old)) }
-    ensures left { IfOk result (λ _. members_at members.new ≡ without (codes "keep") (without (codes "pool") (members_at members.old))) }
+    ensures left { IfOk result (λ _. members_at members.new
+        ≡ without (codes "keep") (without (codes "pool") (members_at members.old))) }
 {
     let pool = members.optional(alloc, "pool", &PoolReader, USUAL_POOL)?;
     let keep = members.optional(alloc, "keep", &KeepReader, USUAL_KEEP)?;

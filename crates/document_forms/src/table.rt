@@ -198,7 +198,8 @@ pub(crate) fn rows_ahead(
     depth: usize,
     columns: &Columns,
 ) -> Option<DocRows>
-    ensures read { IfSome result (λ rows. Begins (rows_of columns.now) depth tokens.old rows tokens.new) }
+    ensures read { IfSome result (λ rows. Begins (rows_of columns.now) depth tokens.old rows
+        tokens.new) }
     ensures shorter { IfSome result (λ _. length tokens.new < length tokens.old) }
 {
     let most = Count::Rows.limit().most;

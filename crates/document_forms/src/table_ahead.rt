@@ -43,7 +43,8 @@ impl TableAhead {
         tokens: &mut json::Reader<'_>,
         depth: usize,
     ) -> Option<()>
-        ensures read { IfSome result (λ _. PassesMember (is_key bytes_eq taken.now) depth (codes "name") self.old tokens.old self.new tokens.new) }
+        ensures read { IfSome result (λ _. PassesMember (is_key bytes_eq taken.now) depth
+            (codes "name") self.old tokens.old self.new tokens.new) }
         ensures shorter { IfSome result (λ _. length tokens.new < length tokens.old) }
     {
         let value = value_from(alloc, tokens, depth)?;
@@ -59,7 +60,8 @@ impl TableAhead {
         tokens: &mut json::Reader<'_>,
         depth: usize,
     ) -> Option<()>
-        ensures read { IfSome result (λ _. (taken : List ℕ → Bool) → PassesMember taken depth (codes "columns") self.old tokens.old self.new tokens.new) }
+        ensures read { IfSome result (λ _. (taken : List ℕ → Bool)
+            → PassesMember taken depth (codes "columns") self.old tokens.old self.new tokens.new) }
         ensures shorter { IfSome result (λ _. length tokens.new < length tokens.old) }
     {
         if self.rows.is_some() {
@@ -80,7 +82,8 @@ impl TableAhead {
         tokens: &mut json::Reader<'_>,
         depth: usize,
     ) -> Option<()>
-        ensures read { IfSome result (λ _. (taken : List ℕ → Bool) → PassesMember taken depth (codes "rows") self.old tokens.old self.new tokens.new) }
+        ensures read { IfSome result (λ _. (taken : List ℕ → Bool)
+            → PassesMember taken depth (codes "rows") self.old tokens.old self.new tokens.new) }
         ensures shorter { IfSome result (λ _. length tokens.new < length tokens.old) }
     {
         let columns = self.columns.as_ref()?;
@@ -95,7 +98,8 @@ impl TableAhead {
         tokens: &mut json::Reader<'_>,
         depth: usize,
     ) -> Option<()>
-        ensures read { IfSome result (λ _. (taken : List ℕ → Bool) → PassesMember taken depth (codes "index") self.old tokens.old self.new tokens.new) }
+        ensures read { IfSome result (λ _. (taken : List ℕ → Bool)
+            → PassesMember taken depth (codes "index") self.old tokens.old self.new tokens.new) }
         ensures shorter { IfSome result (λ _. length tokens.new < length tokens.old) }
     {
         let columns = self.columns.as_ref()?;
@@ -114,7 +118,8 @@ impl TableAhead {
         depth: usize,
         name: &str,
     ) -> Option<()>
-        ensures read { IfSome result (λ _. PassesMember (is_key bytes_eq taken.now) depth name.now self.old tokens.old self.new tokens.new) }
+        ensures read { IfSome result (λ _. PassesMember (is_key bytes_eq taken.now) depth name.now
+            self.old tokens.old self.new tokens.new) }
         ensures known { IfSome result (λ _. is_among table_members name.now ≡ true) }
         ensures shorter { IfSome result (λ _. length tokens.new < length tokens.old) }
     {
@@ -141,8 +146,10 @@ fn members_ahead(
     tokens: &mut json::Reader<'_>,
     depth: usize,
 ) -> Option<TableAhead>
-    ensures read { IfSome result (λ ahead. (ms : MemberData) × (members_ahead_def depth tokens.old ≡ Some (ms, tokens.new))
-        × (known table_members ms ≡ Ok tt) × IsTableRead (is_key bytes_eq taken.now) ahead (named ms)) }
+    ensures read { IfSome result (λ ahead. (ms : MemberData)
+        × (members_ahead_def depth tokens.old ≡ Some (ms, tokens.new))
+        × (known table_members ms ≡ Ok tt)
+        × IsTableRead (is_key bytes_eq taken.now) ahead (named ms)) }
     ensures shorter { IfSome result (λ _. length tokens.new ≤ length tokens.old) }
 {
     let mut ahead = TableAhead::new();
@@ -160,7 +167,8 @@ pub(crate) fn table_ahead(
     tokens: &mut json::Reader<'_>,
     depth: usize,
 ) -> Option<DocTable>
-    ensures begins { IfSome result (λ table. Begins (table_of (is_key bytes_eq taken.now)) depth tokens.old table tokens.new) }
+    ensures begins { IfSome result (λ table. Begins (table_of (is_key bytes_eq taken.now)) depth
+        tokens.old table tokens.new) }
     ensures shorter { IfSome result (λ _. length tokens.new < length tokens.old) }
 {
     let inside = object_begins(tokens, depth)?;

@@ -26,7 +26,12 @@ pub record Driving (R : Type 0) : Type 0 where
 
 -- what a driver goes by: answers are told apart by SHA-256 of their canonical bytes
 abbrev pub terms_of : Rules → Clocked → ℕ → Terms
-terms_of rules limits recorded = record { rules = rules; limits = limits; recorded = recorded; digest = λ answers. sha256 (spell_answers answers) }
+terms_of rules limits recorded = record {
+  rules = rules;
+  limits = limits;
+  recorded = recorded;
+  digest = λ answers. sha256 (spell_answers answers);
+}
 
 -- no request was handed in yet
 abbrev pub unasked : Talk

@@ -36,15 +36,30 @@ impl<R: BoundRule + Copy> Model for Driver<R> {
 
     ghost Value = { Driving R };
 
-    ghost view = { λ d. record { rule = d.terms.rule; limits = d.terms.limits; recorded = d.terms.recorded; talk = talk_of d.request (phase_of d.phase); gone_next = d.gone_next } };
+    ghost view = { λ d. record {
+      rule = d.terms.rule;
+      limits = d.terms.limits;
+      recorded =
+          d.terms.recorded;
+      talk = talk_of d.request (phase_of d.phase);
+      gone_next = d.gone_next;
+    } };
 
-    ghost invariant = { λ d. IsSound d.terms.limits.retries (talk_of d.request (phase_of d.phase)) };
+    ghost invariant = { λ d. IsSound d.terms.limits.retries
+        (talk_of d.request (phase_of d.phase)) };
 }
 
 impl<R: BoundRule + Copy> Driver<R> {
     /// A driver without a request, which records at most `limit` calls of one. It takes no memory.
     pub fn new(alloc: Global, rule: R, limits: Clocked, limit: u64) -> Driver<R>
-        ensures { result ≡ record { rule = rule; limits = limits; recorded = limit; talk = unasked; gone_next = false } }
+        ensures { result ≡ record {
+          rule = rule;
+          limits = limits;
+          recorded = limit;
+          talk =
+              unasked;
+          gone_next = false;
+        } }
     {
         Driver {
             terms: Terms {
@@ -66,7 +81,11 @@ impl<R: BoundRule + Copy> Driver<R> {
         requires some { 1 ≤ length calls.items }
         requires few { length calls.items ≤ 1024 }
         requires made { AllByRecursion IsMade calls.items }
-        ensures { self.new ≡ record self.old { talk = requested settings calls.items; gone_next = false } }
+        ensures { self.new ≡ record self.old {
+          talk = requested settings calls.items;
+          gone_next =
+              false;
+        } }
     {
         let alloc = self.terms.alloc;
         self.request = Request {
@@ -83,7 +102,8 @@ impl<R: BoundRule + Copy> Driver<R> {
     /// What may be handed in next, at this tick. It takes no memory.
     pub fn wants(&self, now: u64) -> Wants
         requires { ArePast self.now.talk now }
-        ensures { result ≡ wants_of (terms_of (R.rules self.now.rule) self.now.limits self.now.recorded) self.now.talk now }
+        ensures { result ≡ wants_of (terms_of (R.rules self.now.rule) self.now.limits
+            self.now.recorded) self.now.talk now }
     {
         match &self.phase {
             Phase::Idle => Wants::Idle,
@@ -104,7 +124,9 @@ impl<R: BoundRule + Copy> Driver<R> {
     /// Whether this input may be handed in next, at this tick. It takes no memory.
     pub fn may_come(&self, input: &Input, now: u64) -> bool
         requires { ArePast self.now.talk now }
-        ensures { result ≡ may_come_def self.now.gone_next (wants_of (terms_of (R.rules self.now.rule) self.now.limits self.now.recorded) self.now.talk now) input.now }
+        ensures { result ≡ may_come_def self.now.gone_next
+            (wants_of (terms_of (R.rules self.now.rule) self.now.limits self.now.recorded)
+            self.now.talk now) input.now }
     {
         let wanted = self.wants(now).is_served_by(input);
         wanted && (is_gone(input) || !self.gone_next)
@@ -118,11 +140,21 @@ impl<R: BoundRule + Copy> Driver<R> {
     /// copied but the draws of a call that is recorded: what is shown is moved out of the reply.
     /// Linear in what goes out and comes in.
     pub fn step(&mut self, input: Input, now: u64) -> Result<Act, NoMemory>
-        requires wanted { IsTrue (may_come_def self.old.gone_next (wants_of (terms_of (R.rules self.old.rule) self.old.limits self.old.recorded) self.old.talk now) input) }
+        requires wanted { IsTrue (may_come_def self.old.gone_next
+            (wants_of (terms_of (R.rules self.old.rule) self.old.limits self.old.recorded)
+            self.old.talk now) input) }
         requires past { ArePast self.old.talk now }
         requires ltxids { HasLtxids input }
-        ensures act { IfOk result (λ act. act ≡ (talk_step (terms_of (R.rules self.old.rule) self.old.limits self.old.recorded) self.old.talk input now).1) }
-        ensures after { IfOk result (λ act. self.new ≡ record self.old { talk = (talk_step (terms_of (R.rules self.old.rule) self.old.limits self.old.recorded) self.old.talk input now).0; gone_next = is_gone_next_def input act.hold }) }
+        ensures act { IfOk result (λ act. act
+            ≡ (talk_step (terms_of (R.rules self.old.rule) self.old.limits self.old.recorded)
+            self.old.talk input now).1) }
+        ensures after { IfOk result (λ act. self.new
+            ≡ record self.old {
+              talk = (talk_step
+                  (terms_of (R.rules self.old.rule) self.old.limits self.old.recorded) self.old.talk input
+                  now).0;
+              gone_next = is_gone_next_def input act.hold;
+            }) }
         ensures past { OnOk result (ArePast self.new.talk now) }
         ensures made { IfOk result (λ act. AllByRecursion IsMadeUp act.send) }
     {

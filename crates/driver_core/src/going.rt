@@ -43,7 +43,9 @@ impl<R: BoundRule + Copy> Terms<R> {
     /// The track of a call that goes out. The first reason and the first tick stand.
     fn submit(&self, mut track: Track, call: &Call, now: u64) -> Track
         requires { IsMade call.now }
-        ensures { result ≡ with_submitted (terms_of (R.rules self.now.rule) self.now.limits self.now.recorded) track call.now now }
+        ensures { result ≡ with_submitted
+            (terms_of (R.rules self.now.rule) self.now.limits self.now.recorded) track call.now
+            now }
     {
         if track.why.is_none() {
             track.why = self.rule.on_submit(call, track.call);
@@ -66,7 +68,10 @@ impl<R: BoundRule + Copy> Terms<R> {
         call: &Call,
     ) -> Result<Turn, NoMemory>
         requires { IsMade call.now }
-        ensures { IfOk result (λ turn. step_in (rest_of request.now) turn ≡ sends_call (terms_of (R.rules self.now.rule) self.now.limits self.now.recorded) (rest_of request.now) live here.alive (frames_of before (rest_of request.now)) shown here.now call.now) }
+        ensures { IfOk result (λ turn. step_in (rest_of request.now) turn
+            ≡ sends_call (terms_of (R.rules self.now.rule) self.now.limits self.now.recorded)
+            (rest_of request.now) live here.alive (frames_of before (rest_of request.now)) shown
+            here.now call.now) }
     {
         if !here.alive {
             return Ok(Turn {
@@ -108,7 +113,10 @@ impl<R: BoundRule + Copy> Terms<R> {
         shown: Option<Shown>,
     ) -> Result<Turn, NoMemory>
         requires { AllByRecursion IsMade request.now.left.items }
-        ensures { IfOk result (λ turn. step_in (rest_of request.now) turn ≡ goes_on (terms_of (R.rules self.now.rule) self.now.limits self.now.recorded) (rest_of request.now) live here.alive (frames_of before (rest_of request.now)) shown here.now) }
+        ensures { IfOk result (λ turn. step_in (rest_of request.now) turn
+            ≡ goes_on (terms_of (R.rules self.now.rule) self.now.limits self.now.recorded)
+            (rest_of request.now) live here.alive (frames_of before (rest_of request.now)) shown
+            here.now) }
     {
         match request.next() {
             None => Turn::end(self.alloc, here.alive, shown),

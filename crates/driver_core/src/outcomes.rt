@@ -33,7 +33,10 @@ impl<R: BoundRule + Copy> Terms<R> {
         requires room { asked.track.call + 1 < 2 ^ 64 }
         requires past { IsPast asked.track.first here.now }
         requires before { length asked.track.recorder.calls ≤ asked.track.call }
-        ensures { let terms = terms_of (R.rules self.now.rule) self.now.limits self.now.recorded in IfOk result (λ turn. step_in (rest_of request.new) turn ≡ on_told_def terms (rest_of request.old) asked here.alive here.now (told_of asked committed completed self.now.limits here.now)) }
+        ensures { let terms = terms_of (R.rules self.now.rule) self.now.limits self.now.recorded in
+            IfOk result (λ turn. step_in (rest_of request.new) turn
+            ≡ on_told_def terms (rest_of request.old) asked here.alive here.now
+            (told_of asked committed completed self.now.limits here.now)) }
     {
         let ltxid = *asked.ltxid();
         let failed = match asked.answer(committed, completed, &self.limits, here.now) {
@@ -66,7 +69,10 @@ impl<R: BoundRule + Copy> Terms<R> {
     ) -> Result<Turn, NoMemory>
         requires made { AllByRecursion IsMade request.old.left.items }
         requires room { fresh.track.call + 1 < 2 ^ 64 }
-        ensures { IfOk result (λ turn. step_in (rest_of request.new) turn ≡ on_completed_def (terms_of (R.rules self.now.rule) self.now.limits self.now.recorded) (rest_of request.old) (resumed fresh) fresh.event here.alive here.now (next_call (rest_of request.old))) }
+        ensures { IfOk result (λ turn. step_in (rest_of request.new) turn
+            ≡ on_completed_def (terms_of (R.rules self.now.rule) self.now.limits self.now.recorded)
+            (rest_of request.old) (resumed fresh) fresh.event here.alive here.now
+            (next_call (rest_of request.old))) }
     {
         let event = fresh.event();
         let Some(call) = request.take() else {
@@ -112,7 +118,10 @@ impl<R: BoundRule + Copy> Terms<R> {
         shown: Shown,
     ) -> Result<Turn, NoMemory>
         requires { AllByRecursion IsMade request.now.left.items }
-        ensures { IfOk result (λ turn. step_in (rest_of request.now) turn ≡ after_completed (terms_of (R.rules self.now.rule) self.now.limits self.now.recorded) (rest_of request.now) live event here.alive shown here.now (next_call (rest_of request.now))) }
+        ensures { IfOk result (λ turn. step_in (rest_of request.now) turn
+            ≡ after_completed (terms_of (R.rules self.now.rule) self.now.limits self.now.recorded)
+            (rest_of request.now) live event here.alive shown here.now
+            (next_call (rest_of request.now))) }
     {
         let Some(call) = request.next() else {
             return Turn::end(self.alloc, here.alive, Some(shown));

@@ -36,7 +36,10 @@ impl<R: BoundRule + Copy> Terms<R> {
     ) -> Result<Turn, NoMemory>
         requires made { AllByRecursion IsMade request.old.left.items }
         requires room { live.track.call + 1 < 2 ^ 64 }
-        ensures { IfOk result (λ turn. step_in (rest_of request.new) turn ≡ on_reply_def (terms_of (R.rules self.now.rule) self.now.limits self.now.recorded) (rest_of request.old) live answers draws ltxid here.alive here.now (next_call (rest_of request.old))) }
+        ensures { IfOk result (λ turn. step_in (rest_of request.new) turn
+            ≡ on_reply_def (terms_of (R.rules self.now.rule) self.now.limits self.now.recorded)
+            (rest_of request.old) live answers draws ltxid here.alive here.now
+            (next_call (rest_of request.old))) }
     {
         let Some(call) = request.take() else {
             return Turn::fail(self.alloc, here.alive, None, Failed::BadPeer { tag: REPLY });
@@ -65,7 +68,11 @@ impl<R: BoundRule + Copy> Terms<R> {
         here: Here,
     ) -> Result<Turn, NoMemory>
         requires { AllByRecursion IsMade request.now.left.items }
-        ensures { (draws : List ADraw) (ltxid : Identifier) → IfOk result (λ turn. step_in (rest_of request.now) turn ≡ on_repeated_def (terms_of (R.rules self.now.rule) self.now.limits self.now.recorded) (rest_of request.now) replaying answers.now draws ltxid here.alive here.now (next_of replaying)) }
+        ensures { (draws : List ADraw) (ltxid : Identifier)
+            → IfOk result (λ turn. step_in (rest_of request.now) turn
+            ≡ on_repeated_def (terms_of (R.rules self.now.rule) self.now.limits self.now.recorded)
+            (rest_of request.now) replaying answers.now draws ltxid here.alive here.now
+            (next_of replaying)) }
     {
         if replaying.next().is_none() {
             return Turn::fail(self.alloc, here.alive, None, Failed::BadPeer { tag: REPLY });
@@ -95,7 +102,10 @@ impl<R: BoundRule + Copy> Terms<R> {
         before: Before,
     ) -> Result<Turn, NoMemory>
         requires { AllByRecursion IsMade request.now.left.items }
-        ensures { IfOk result (λ turn. step_in (rest_of request.now) turn ≡ repeats (terms_of (R.rules self.now.rule) self.now.limits self.now.recorded) (rest_of request.now) replaying here.alive (frames_of before (rest_of request.now)) here.now) }
+        ensures { IfOk result (λ turn. step_in (rest_of request.now) turn
+            ≡ repeats (terms_of (R.rules self.now.rule) self.now.limits self.now.recorded)
+            (rest_of request.now) replaying here.alive (frames_of before (rest_of request.now))
+            here.now) }
     {
         let Some(recorded) = replaying.next() else {
             return self.submit_lost(request, replaying, here, before);
@@ -130,7 +140,10 @@ impl<R: BoundRule + Copy> Terms<R> {
     ) -> Result<Turn, NoMemory>
         requires made { AllByRecursion IsMade request.now.left.items }
         requires verified { IsTrue (is_done replaying) }
-        ensures { IfOk result (λ turn. step_in (rest_of request.now) turn ≡ goes_on (terms_of (R.rules self.now.rule) self.now.limits self.now.recorded) (rest_of request.now) (submitted replaying) here.alive (frames_of before (rest_of request.now)) None here.now) }
+        ensures { IfOk result (λ turn. step_in (rest_of request.now) turn
+            ≡ goes_on (terms_of (R.rules self.now.rule) self.now.limits self.now.recorded)
+            (rest_of request.now) (submitted replaying) here.alive
+            (frames_of before (rest_of request.now)) None here.now) }
     {
         match replaying.ready() {
             Ok(ready) => self.go_on(request, ready.submit(), here, before, None),

@@ -52,7 +52,8 @@ impl Request {
     /// The call that is sent next, or whose reply is awaited.
     pub(crate) fn next(&self) -> Option<&Call>
         ensures call { option_copied result ≡ next_call (rest_of self.now) }
-        ensures made { AllByRecursion IsMade self.now.left.items → IfSome result (λ call. IsMade call.now) }
+        ensures made { AllByRecursion IsMade self.now.left.items
+            → IfSome result (λ call. IsMade call.now) }
     {
         self.left.front()
     }
@@ -60,8 +61,12 @@ impl Request {
     /// Takes that call out, to be shown.
     pub(crate) fn take(&mut self) -> Option<Call>
         ensures call { result ≡ next_call (rest_of self.old) }
-        ensures rest { rest_of self.new ≡ record (rest_of self.old) { left = drop 1 self.old.left.items } }
-        ensures made { AllByRecursion IsMade self.old.left.items → AllByRecursion IsMade self.new.left.items × IfSome result IsMade }
+        ensures rest { rest_of self.new ≡ record (rest_of self.old) {
+          left =
+              drop 1 self.old.left.items;
+        } }
+        ensures made { AllByRecursion IsMade self.old.left.items
+            → AllByRecursion IsMade self.new.left.items × IfSome result IsMade }
     {
         self.left.pop_front()
     }
@@ -75,7 +80,12 @@ impl Request {
         call: &Call,
         after: After,
     ) -> Result<(), NoMemory>
-        ensures { let sets = sets_by keeps self.old.sets.items call.now in OnOk result (rest_of self.new ≡ record (rest_of self.old) { settings = settled_by after self.old.settings sets; sets = waits_after after sets }) }
+        ensures { let sets = sets_by keeps self.old.sets.items call.now in
+            OnOk result (rest_of self.new ≡ record (rest_of self.old) {
+              settings =
+                  settled_by after self.old.settings sets;
+              sets = waits_after after sets;
+            }) }
     {
         if keeps {
             self.note_set(alloc, call)?;
@@ -89,7 +99,10 @@ impl Request {
 
     /// Notes what a call sets, if it is a `set`.
     fn note_set(&mut self, alloc: Global, call: &Call) -> Result<(), NoMemory>
-        ensures { OnOk result (rest_of self.new ≡ record (rest_of self.old) { sets = self.old.sets.items ++ set_by call.now }) }
+        ensures { OnOk result (rest_of self.new ≡ record (rest_of self.old) {
+          sets =
+              self.old.sets.items ++ set_by call.now;
+        }) }
     {
         if let Call::Set { name, value } = call {
             self.sets.push((name.copy(alloc)?, value.copy(alloc)?))?;

@@ -24,7 +24,9 @@ impl<R: BoundRule + Copy> Terms<R> {
     ) -> Result<Track, NoMemory>
         requires made { IsMade call }
         requires room { track.call + 1 < 2 ^ 64 }
-        ensures { let terms = terms_of (R.rules self.now.rule) self.now.limits self.now.recorded in IfOk result (λ shown. shown ≡ with_counted (with_reply terms track (recorded_as terms call answers.now draws.now) after) call) }
+        ensures { let terms = terms_of (R.rules self.now.rule) self.now.limits self.now.recorded in
+            IfOk result (λ shown. shown ≡ with_counted
+            (with_reply terms track (recorded_as terms call answers.now draws.now) after) call) }
     {
         let is_set = matches!(call, Call::Set { .. });
         match after {
@@ -47,7 +49,9 @@ impl<R: BoundRule + Copy> Terms<R> {
     ) -> Result<Track, NoMemory>
         requires { IsMade call }
         ensures call { IfOk result (λ recorded. recorded.call ≡ track.call) }
-        ensures recorded { let terms = terms_of (R.rules self.now.rule) self.now.limits self.now.recorded in IfOk result (λ recorded. recorded ≡ with_recorded terms track (recorded_as terms call answers.now draws.now) track.why) }
+        ensures recorded { let terms = terms_of (R.rules self.now.rule) self.now.limits
+            self.now.recorded in IfOk result (λ recorded. recorded
+            ≡ with_recorded terms track (recorded_as terms call answers.now draws.now) track.why) }
     {
         if track.why.is_some() {
             return Ok(track);

@@ -31,7 +31,9 @@ impl<R: BoundRule + Copy> Terms<R> {
         now: u64,
     ) -> Result<Turn, NoMemory>
         requires { waits_from_def (phase_of phase) now ≤ now }
-        ensures { IfOk result (λ turn. step_in (rest_of request.now) turn ≡ on_waiting_def (terms_of (R.rules self.now.rule) self.now.limits self.now.recorded) (rest_of request.now) (waits_from_def (phase_of phase) now) now) }
+        ensures { IfOk result (λ turn. step_in (rest_of request.now) turn
+            ≡ on_waiting_def (terms_of (R.rules self.now.rule) self.now.limits self.now.recorded)
+            (rest_of request.now) (waits_from_def (phase_of phase) now) now) }
     {
         let first = waits_from(&phase, now);
         if self.limits.waited(first, now) {
@@ -48,7 +50,9 @@ impl<R: BoundRule + Copy> Terms<R> {
         now: u64,
     ) -> Result<Turn, NoMemory>
         requires { request.old.tries + 1 < 2 ^ 64 }
-        ensures { IfOk result (λ turn. step_in (rest_of request.new) turn ≡ on_try_failed_def (terms_of (R.rules self.now.rule) self.now.limits self.now.recorded) (talk_of request.old (phase_of phase)) now) }
+        ensures { IfOk result (λ turn. step_in (rest_of request.new) turn
+            ≡ on_try_failed_def (terms_of (R.rules self.now.rule) self.now.limits self.now.recorded)
+            (talk_of request.old (phase_of phase)) now) }
     {
         request.tries += 1;
         request.last_try = Some(now);

@@ -28,11 +28,15 @@ impl<R: BoundRule + Copy> Terms<R> {
     ) -> Result<Turn, NoMemory>
         requires made { AllByRecursion IsMade request.old.left.items }
         requires room { IfSome (track_of (phase_of phase)) (λ track. track.call + 1 < 2 ^ 64) }
-        requires before { IfSome (track_of (phase_of phase)) (λ track. length track.recorder.calls ≤ track.call) }
-        requires past { IsPast (option_and_then (λ track. track.first) (track_of (phase_of phase))) now }
+        requires before { IfSome (track_of (phase_of phase)) (λ track. length track.recorder.calls
+            ≤ track.call) }
+        requires past { IsPast (option_and_then (λ track. track.first) (track_of (phase_of phase)))
+            now }
         requires waits { waits_from (phase_of phase) now ≤ now }
         requires tries { request.old.tries + 1 < 2 ^ 64 }
-        ensures { IfOk result (λ turn. step_in (rest_of request.new) turn ≡ talk_step (terms_of (R.rules self.now.rule) self.now.limits self.now.recorded) (talk_of request.old (phase_of phase)) input now) }
+        ensures { IfOk result (λ turn. step_in (rest_of request.new) turn
+            ≡ talk_step (terms_of (R.rules self.now.rule) self.now.limits self.now.recorded)
+            (talk_of request.old (phase_of phase)) input now) }
     {
         match input {
             Input::Start => Ok(Turn::quiet(self.alloc, Phase::Queued { from: None })),

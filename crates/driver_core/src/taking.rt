@@ -27,7 +27,8 @@ use svc_values::{Ahead, Down, Ltxid, NoMemory, Up};
 impl<R: BoundRule + Copy> Terms<R> {
     /// A request's track at its first Begin.
     fn unsubmitted(&self) -> Track
-        ensures { result ≡ unsubmitted_def (terms_of (R.rules self.now.rule) self.now.limits self.now.recorded) }
+        ensures { result ≡ unsubmitted_def
+            (terms_of (R.rules self.now.rule) self.now.limits self.now.recorded) }
     {
         Track {
             recorder: Recorder::new(self.alloc, self.recorded),
@@ -49,7 +50,9 @@ impl<R: BoundRule + Copy> Terms<R> {
         here: Here,
     ) -> Result<Turn, NoMemory>
         requires { AllByRecursion IsMade request.now.left.items }
-        ensures { IfOk result (λ turn. step_in (rest_of request.now) turn ≡ on_hello_def (terms_of (R.rules self.now.rule) self.now.limits self.now.recorded) (rest_of request.now) (losing_of lost) ltxid here.alive here.now) }
+        ensures { IfOk result (λ turn. step_in (rest_of request.now) turn
+            ≡ on_hello_def (terms_of (R.rules self.now.rule) self.now.limits self.now.recorded)
+            (rest_of request.now) (losing_of lost) ltxid here.alive here.now) }
     {
         if !here.alive {
             return Ok(Turn::quiet(self.alloc, Phase::Greeting { lost }));
@@ -70,7 +73,8 @@ impl<R: BoundRule + Copy> Terms<R> {
 
     /// A frame with this tag, which no server sends here.
     fn bad_peer(&self, tag: u8, here: Here) -> Result<Turn, NoMemory>
-        ensures { (talk : Talk) (frame : Frame) → tag ≡ tag_of_def frame → IfOk result (λ turn. step_in talk turn ≡ bad_peer_def talk here.alive frame) }
+        ensures { (talk : Talk) (frame : Frame) → tag ≡ tag_of_def frame
+            → IfOk result (λ turn. step_in talk turn ≡ bad_peer_def talk here.alive frame) }
     {
         Turn::fail(self.alloc, here.alive, None, Failed::BadPeer { tag })
     }
@@ -78,7 +82,10 @@ impl<R: BoundRule + Copy> Terms<R> {
     /// The outcome is refused with a frame of this tag: it is forgotten, or the server is not at
     /// one with the client on what was committed.
     fn on_refused(&self, asked: Asked, tag: u8, ahead: Ahead, here: Here) -> Result<Turn, NoMemory>
-        ensures { (terms : WhatIsKept) (talk : Talk) (frame : Frame) (next : ℕ) → tag ≡ tag_of_def frame → frame ≡ OutcomeRefused ahead next → IfOk result (λ turn. step_in talk turn ≡ takes terms talk (AsksFor asked) frame here.alive here.now) }
+        ensures { (terms : WhatIsKept) (talk : Talk) (frame : Frame) (next : ℕ)
+            → tag ≡ tag_of_def frame → frame ≡ OutcomeRefused ahead next
+            → IfOk result (λ turn. step_in talk turn
+            ≡ takes terms talk (AsksFor asked) frame here.alive here.now) }
     {
         match ahead {
             Ahead::Forgotten => {
@@ -102,9 +109,13 @@ impl<R: BoundRule + Copy> Terms<R> {
     ) -> Result<Turn, NoMemory>
         requires made { AllByRecursion IsMade request.old.left.items }
         requires room { IfSome (track_of (phase_of phase)) (λ track. track.call + 1 < 2 ^ 64) }
-        requires before { IfSome (track_of (phase_of phase)) (λ track. length track.recorder.calls ≤ track.call) }
-        requires past { IsPast (option_and_then (λ track. track.first) (track_of (phase_of phase))) here.now }
-        ensures { IfOk result (λ turn. step_in (rest_of request.new) turn ≡ takes (terms_of (R.rules self.now.rule) self.now.limits self.now.recorded) (talk_of request.old (phase_of phase)) (phase_of phase) frame here.alive here.now) }
+        requires before { IfSome (track_of (phase_of phase)) (λ track. length track.recorder.calls
+            ≤ track.call) }
+        requires past { IsPast (option_and_then (λ track. track.first) (track_of (phase_of phase)))
+            here.now }
+        ensures { IfOk result (λ turn. step_in (rest_of request.new) turn
+            ≡ takes (terms_of (R.rules self.now.rule) self.now.limits self.now.recorded)
+            (talk_of request.old (phase_of phase)) (phase_of phase) frame here.alive here.now) }
     {
         let tag = tag_of(&frame);
         match frame {

@@ -34,7 +34,11 @@ impl Turn {
 
     /// A frame goes out, and nothing else is done.
     pub(crate) fn sending(alloc: Global, phase: Phase, frame: Up) -> Result<Turn, NoMemory>
-        ensures { IfOk result (λ turn. turn ≡ record { phase = phase; act = sending_def (frame ∷ []) }) }
+        ensures { IfOk result (λ turn. turn ≡ record {
+          phase = phase;
+          act =
+              sending_def (frame ∷ []);
+        }) }
     {
         Ok(Turn {
             phase,
@@ -54,7 +58,11 @@ impl Turn {
         shown: Option<Shown>,
         failed: Failed,
     ) -> Result<Turn, NoMemory>
-        ensures { IfOk result (λ turn. turn ≡ record { phase = Idle; act = closing alive shown failed }) }
+        ensures { IfOk result (λ turn. turn ≡ record {
+          phase = Idle;
+          act =
+              closing alive shown failed;
+        }) }
     {
         Ok(Turn {
             phase: Phase::Idle,

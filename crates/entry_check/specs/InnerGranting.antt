@@ -9,7 +9,8 @@ use Rattle.outage_schedule.specs.declared.document.KeepOf.{KeepOf}
 
 -- a sequence of this name is there, and its values are kept
 abbrev pub is_kept : List BaseSequence → List ℕ → Bool
-is_kept sequences name = list_any (λ sequence. bytes_eq sequence.name name && sequence.keep) sequences
+is_kept sequences name = list_any (λ sequence. bytes_eq sequence.name name && sequence.keep)
+    sequences
 
 -- a value is kept where its kind is, and one of a sequence where the sequence is too
 abbrev pub keeps : KeepOf → List BaseSequence → Draw → Bool

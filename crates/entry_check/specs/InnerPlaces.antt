@@ -9,4 +9,6 @@ use Rattle.entry_check.specs.Ids.{as_list}
 
 -- beside each key is the place of the only entry of its identifier
 abbrev pub Finds : List ((ℕ × ℕ × ℕ) × ℕ) → List Entry → Type 0
-Finds places entries = (x : Ltxid) → as_list (option_and_then (slice_get entries) (value_of same_key places (key_of x))) ≡ entries_in entries (x ∷ [])
+Finds places entries = (x : Ltxid) → as_list
+    (option_and_then (slice_get entries) (value_of same_key places (key_of x)))
+    ≡ entries_in entries (x ∷ [])

@@ -75,7 +75,8 @@ most_of (next ∷ copies) = 0
 
 abbrev pub copies_known : (Ltxid → Bool) → List RequestReport → Bool
 copies_known stored [] = true
-copies_known stored (copy ∷ copies) = nat_le (known_in stored (ids_tried copy)) (most_of copies) && copies_known stored copies
+copies_known stored (copy ∷ copies) = nat_le (known_in stored (ids_tried copy)) (most_of copies)
+    && copies_known stored copies
 
 abbrev pub have_one : (Ltxid → Bool) → Copies → Bool
 have_one stored copies = (copies.request.again == 0) || copies_known stored copies.reports
@@ -99,4 +100,5 @@ lists_right stored document report =
 abbrev pub entries_right : (Ltxid → Bool) → Document → Report → Bool
 entries_right tried document report =
     list_all (λ x. is_foreign (outside_sessions report.notes) x || tried x) (ids_of report.entries)
-    && (ids_differ (ids_of report.entries) && lists_right (holds (ids_of report.entries)) document report)
+    && (ids_differ (ids_of report.entries)
+    && lists_right (holds (ids_of report.entries)) document report)

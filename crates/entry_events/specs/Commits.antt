@@ -24,5 +24,6 @@ all_stored all = map stored_as all
 -- the item is a commit of its session
 abbrev pub is_commit : List Entry → List Commit → SessionId → Item → Bool
 is_commit entries before session (item.Call replay call answers draws) = ends_committed answers
-is_commit entries before session (item.CrashedCall replay call) = has_crashed_commit entries before session replay call
+is_commit entries before session (item.CrashedCall replay call) =
+    has_crashed_commit entries before session replay call
 is_commit entries before session _ = false

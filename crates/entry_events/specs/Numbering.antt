@@ -20,7 +20,8 @@ key_cmp a b = ordering_then (ordering_then (nat_cmp a.0 b.0) (nat_cmp a.1 b.1)) 
 
 -- it is one of this session, no later than this time
 abbrev pub is_until : SessionId → ℕ → ℕ × ℕ × ℕ → Bool
-is_until session time key = (key.0 == session.incarnation && key.1 == session.session) && nat_le key.2 time
+is_until session time key = (key.0 == session.incarnation && key.1 == session.session)
+    && nat_le key.2 time
 
 -- how many are
 abbrev pub until : List (ℕ × ℕ × ℕ) → SessionId → ℕ → ℕ

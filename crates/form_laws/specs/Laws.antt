@@ -18,13 +18,15 @@ use Rattle.world_model.specs.meaning.Followed.{followed}
 
 -- the events of served items rise, and each names a note at which its item may stand
 abbrev pub EventsAreFit : Type 0
-EventsAreFit = (document : Document) (report : Report) → IsTrue (followed document report) → IsTrue (events_fit report.notes 0 report.served)
+EventsAreFit = (document : Document) (report : Report) → IsTrue (followed document report)
+    → IsTrue (events_fit report.notes 0 report.served)
 
 -- ---- calls, by a test of them
 
 -- the calls of the clients' scripts pass
 abbrev pub scripts_pass : (Call → Bool) → Document → Bool
-scripts_pass test document = list_all (λ client. list_all (λ request. list_all test request.calls) client.requests) document.clients
+scripts_pass test document = list_all (λ client. list_all (λ request. list_all test request.calls)
+    client.requests) document.clients
 
 -- the calls of an `outside` pass
 abbrev pub event_passes : (Call → Bool) → Event → Bool
@@ -54,14 +56,16 @@ entry_passes test entry = list_all (λ piece. test piece.call) entry.pieces
 abbrev pub ServedCallsPass : Type 0
 ServedCallsPass =
     (test : Call → Bool) (document : Document) (report : Report)
-    → IsTrue (scripts_pass test document) → IsTrue (followed document report) → IsTrue (served_pass test report)
+    → IsTrue (scripts_pass test document) → IsTrue (followed document report)
+    → IsTrue (served_pass test report)
 
 -- What holds of each call that was served, and of each that ran from outside, holds of each call of
 -- an entry.
 abbrev pub StoredCallsPass : Type 0
 StoredCallsPass =
     (test : Call → Bool) (document : Document) (report : Report)
-    → IsTrue (outsides_pass test document) → IsTrue (served_pass test report) → IsTrue (legal_of document report)
+    → IsTrue (outsides_pass test document) → IsTrue (served_pass test report)
+    → IsTrue (legal_of document report)
     → IsTrue (list_all (entry_passes test) report.entries)
 
 -- ---- the form
@@ -70,5 +74,6 @@ StoredCallsPass =
 -- legal, has the form that reports have, where it keeps to the limits of its types.
 abbrev pub ReportsHaveTheForm : Type 0
 ReportsHaveTheForm =
-    (bytes : List ℕ) (document : Document) (report : Report) → document_at bytes ≡ Ok document → IsTrue (followed document report) → IsTrue (legal_of document report)
+    (bytes : List ℕ) (document : Document) (report : Report) → document_at bytes ≡ Ok document
+    → IsTrue (followed document report) → IsTrue (legal_of document report)
     → KeepsLimits report → IsOfForm report

@@ -42,8 +42,10 @@ module _ {F : Type 0} (spell : F → List ℕ) (fits : F → Type 0) where
   abbrev pub Leads : Pending → List (Step F) → Pending → Type 0
   Leads before [] after = before ≡ after
   Leads before (Push bytes ∷ steps) after = Leads (with_bytes before bytes) steps after
-  Leads before (Cut count ∷ steps) after = (count ≤ length before.bytes) × Leads (with_first before (length before.bytes - count)) steps after
-  Leads before (Next answer ∷ steps) after = (between : Pending) × IsNext spell fits before answer between × Leads between steps after
+  Leads before (Cut count ∷ steps) after = (count ≤ length before.bytes)
+      × Leads (with_first before (length before.bytes - count)) steps after
+  Leads before (Next answer ∷ steps) after = (between : Pending)
+      × IsNext spell fits before answer between × Leads between steps after
 
   -- how many bytes a frame has on the wire
   abbrev pub frame_size : F → ℕ

@@ -33,7 +33,8 @@ first_payload bytes =
 -- those that lie whole in the first so many bytes, where each has a size
 abbrev pub whole_front : {A : Type 0} → (A → ℕ) → ℕ → List A → List A
 whole_front size bytes [] = []
-whole_front size bytes (first ∷ later) = if nat_le (size first) bytes then first ∷ whole_front size (bytes - size first) later else []
+whole_front size bytes (first ∷ later) =
+    if nat_le (size first) bytes then first ∷ whole_front size (bytes - size first) later else []
 
 module _ {F : Type 0} (spell : F → List ℕ) (fits : F → Type 0) where
   -- a frame stands first, and these bytes behind it
@@ -44,7 +45,8 @@ module _ {F : Type 0} (spell : F → List ℕ) (fits : F → Type 0) where
 
   -- a whole payload stands first, and it is that of no frame
   abbrev pub IsBadFront : List ℕ → Type 0
-  IsBadFront bytes = (payload : List ℕ) × (first_payload bytes ≡ Some payload) × ((frame : F) → fits frame → spell frame ≢ payload)
+  IsBadFront bytes = (payload : List ℕ) × (first_payload bytes ≡ Some payload)
+      × ((frame : F) → fits frame → spell frame ≢ payload)
 
   -- no frame stands first: no whole payload does, or one that is that of no frame
   abbrev pub HasNoFrame : List ℕ → Type 0
@@ -54,7 +56,13 @@ module _ {F : Type 0} (spell : F → List ℕ) (fits : F → Type 0) where
   -- whole one does; a bad frame where one stands first or was met before, and for good; and after
   -- want of memory all is as before
   abbrev pub IsNext : Pending → Result (Option F) FrameFault → Pending → Type 0
-  IsNext before (Ok (Some frame)) after = (before.bad ≡ false) × StandsFirst before.bytes frame after.bytes × (after.bad ≡ false)
-  IsNext before (Ok None) after = (before.bad ≡ false) × (first_payload before.bytes ≡ None) × (after ≡ before)
-  IsNext before (Err BadFrame) after = ((before.bad ≡ true) ⊎ IsBadFront before.bytes) × (after ≡ record { bytes = before.bytes; bad = true })
+  IsNext before (Ok (Some frame)) after = (before.bad ≡ false)
+      × StandsFirst before.bytes frame after.bytes × (after.bad ≡ false)
+  IsNext before (Ok None) after = (before.bad ≡ false) × (first_payload before.bytes ≡ None)
+      × (after ≡ before)
+  IsNext before (Err BadFrame) after = ((before.bad ≡ true) ⊎ IsBadFront before.bytes)
+      × (after ≡ record {
+        bytes = before.bytes;
+        bad = true;
+      })
   IsNext before (Err NoMemory) after = (before.bad ≡ false) × (after ≡ before)

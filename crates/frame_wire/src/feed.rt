@@ -50,7 +50,8 @@ impl<F> Model for Feed<F> {
 #[tactic(auto, unfolding(crate::specs::Stream::first_payload, canon_bytes::specs::meaning::TextBytes::spell_bytes, canon_bytes::specs::meaning::Numbers::spell_u64))]
 fn payload_of(bytes: &[u8]) -> Option<&[u8]>
     ensures exact { option_map (λ payload. payload.now) result ≡ first_payload bytes.now }
-    ensures front { IfSome result (λ payload. bytes.now ≡ spell_bytes payload.now ++ drop (8 + length payload.now) bytes.now) }
+    ensures front { IfSome result (λ payload. bytes.now ≡ spell_bytes payload.now
+        ++ drop (8 + length payload.now) bytes.now) }
     ensures within { IfSome result (λ payload. 8 + length payload.now ≤ length bytes.now) }
     ensures short { IfSome result (λ payload. length payload.now < 2 ^ 64) }
 {
@@ -66,7 +67,8 @@ fn payload_of(bytes: &[u8]) -> Option<&[u8]>
 fn frame_of<F: Take + Drop>(alloc: Global, payload: &[u8]) -> Result<F, FrameFault>
     ensures found { IfOk result (λ frame. payload.now ≡ F.spelling frame) }
     ensures fitting { IfOk result (λ frame. F.fits frame) }
-    ensures none { result ≡ Err FrameFault.BadFrame → (frame : F) → F.fits frame → F.spelling frame ≢ payload.now }
+    ensures none { result ≡ Err FrameFault.BadFrame → (frame : F) → F.fits frame
+        → F.spelling frame ≢ payload.now }
 {
     let (frame, rest) = match F::take(alloc, payload) {
         Ok(first) => first,

@@ -12,4 +12,6 @@ use Rattle.world_model.specs.Reported.{IsReported}
 -- No value stands twice among what the entries drew, where the requests of the document are right.
 abbrev pub RunsAreFresh : Type 0
 RunsAreFresh =
-    (document : Document) (report : Report) (seen : Seen) (t : Traced) (server : Server) → IsTrue (all_requests_right document) → IsReported document report seen t server → IsTrue (fresh report)
+    (document : Document) (report : Report) (seen : Seen) (t : Traced) (server : Server)
+    → IsTrue (all_requests_right document) → IsReported document report seen t server
+    → IsTrue (fresh report)

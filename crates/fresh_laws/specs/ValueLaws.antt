@@ -17,8 +17,10 @@ use Rattle.world_model.specs.Traced.{Traced}
 -- a test of each state that a run comes to
 abbrev pub HoldsOnTheWay : (Traced → Bool) → Type 0
 HoldsOnTheWay test =
-    (document : Document) (events : List Event) (notes : List Note) (items : List Served) (seen : Seen) (t : Traced)
-    → IsTrue (all_requests_right document) → Reached document events notes items seen t → IsTrue (test t)
+    (document : Document) (events : List Event) (notes : List Note) (items : List Served)
+    (seen : Seen) (t : Traced)
+    → IsTrue (all_requests_right document) → Reached document events notes items seen t
+    → IsTrue (test t)
 
 -- and of the state at the end of a whole run
 abbrev pub HoldsAtTheEnd : (Traced → Bool) → Type 0
@@ -44,7 +46,9 @@ ValuesEndOwn = HoldsAtTheEnd none_foreign
 -- Where no call of a request is stored twice, no value stands twice among what the entries drew
 -- that the run added.
 abbrev pub StoredValuesAreFresh : Type 0
-StoredValuesAreFresh = HoldsOnTheWay (λ t. implies (are_stored_once t) (fresh (drop t.image t.entries)))
+StoredValuesAreFresh = HoldsOnTheWay (λ t. implies (are_stored_once t)
+    (fresh (drop t.image t.entries)))
 
 abbrev pub StoredValuesEndFresh : Type 0
-StoredValuesEndFresh = HoldsAtTheEnd (λ t. implies (are_stored_once t) (fresh (drop t.image t.entries)))
+StoredValuesEndFresh = HoldsAtTheEnd (λ t. implies (are_stored_once t)
+    (fresh (drop t.image t.entries)))

@@ -18,7 +18,8 @@ IsRead read None = (journal : Journal) → read ≡ Ok journal → ⊥
 -- its tables can be made
 pub record IsUsable (journal : Journal) : Type 0 where
   pub base : IsBase journal.base
-  pub fitting : All (λ entry. IsTrue (writes_fit (schemas_of journal.base) entry.writes)) journal.entries
+  pub fitting : All (λ entry. IsTrue (writes_fit (schemas_of journal.base) entry.writes))
+      journal.entries
 
 -- it has the base, the entries, the blocks and the alert lines
 abbrev pub is_grown : Journal → Report → Journal → Bool

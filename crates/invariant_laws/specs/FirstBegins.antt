@@ -14,12 +14,14 @@ is_call_by owner sent = same_owners owner sent.owner && is_call sent.frame
 
 -- Who begins sent no call before.
 abbrev pub begins_new : List Sent → Sent → Up → Bool
-begins_new before sent (up.Begin settings) = list_all (λ one. not (is_call_by sent.owner one)) before
+begins_new before sent (up.Begin settings) =
+    list_all (λ one. not (is_call_by sent.owner one)) before
 begins_new before sent _ = true
 
 abbrev pub begin_new : List Sent → List Sent → Bool
 begin_new before [] = true
-begin_new before (sent ∷ more) = begins_new before sent sent.frame && begin_new (before ++ sent ∷ []) more
+begin_new before (sent ∷ more) = begins_new before sent sent.frame
+    && begin_new (before ++ sent ∷ []) more
 
 -- so it is on each connection
 abbrev pub begins_once : Link → Bool

@@ -15,7 +15,9 @@ is_shown_or_next shown sent = is_marked sent.frame || nat_le sent.call (length s
 
 -- on each connection that the request held
 abbrev pub sends_near : Traced → Course → Bool
-sends_near t course = list_all (λ number. option_map_or (λ link. list_all (is_shown_or_next course.report.calls) (calls_on course link)) (link_at t.machine.links number) false) (held_in course.steps)
+sends_near t course = list_all (λ number.
+    option_map_or (λ link. list_all (is_shown_or_next course.report.calls) (calls_on course link))
+    (link_at t.machine.links number) false) (held_in course.steps)
 
 abbrev pub send_near : Traced → Bool
 send_near t = list_all (sends_near t) (courses_of t)

@@ -14,7 +14,9 @@ use Rattle.world_model.specs.meaning.Links.{Link}
 
 abbrev pub served_in : List Happened → SessionId → List (Up × Telling)
 served_in [] session = []
-served_in (Served other now frame told ∷ history) session = if same_session other session then (frame, told) ∷ served_in history session else served_in history session
+served_in (Served other now frame told ∷ history) session =
+    if same_session other session then (frame, told) ∷ served_in history session else served_in
+    history session
 served_in (Asked x told ∷ history) session = served_in history session
 
 -- what was told with this item, where this reply was given: nothing at a stop

@@ -15,8 +15,13 @@ use table_store::{IndexOf, TableRows, Tables};
 /// The tables of a base, with what these entries wrote. n log n for n rows and writes.
 pub fn tables_of(alloc: Global, base: Base, entries: &[Entry]) -> Result<Tables, NoMemory>
     requires base { IsBase base }
-    requires fitting { All (λ entry. IsTrue (writes_fit (schemas_of base) entry.writes)) entries.now }
-    ensures { IfOk result (λ tables. tables ≡ record { schemas = schemas_of base; rows = tables_with (start_def base) entries.now }) }
+    requires fitting { All (λ entry. IsTrue (writes_fit (schemas_of base) entry.writes))
+        entries.now }
+    ensures { IfOk result (λ tables. tables ≡ record {
+      schemas = schemas_of base;
+      rows =
+          tables_with (start_def base) entries.now;
+    }) }
 {
     indexed_tables_of(alloc, base, entries, &[])
 }
@@ -29,9 +34,14 @@ pub fn indexed_tables_of(
     indexes: &[IndexOf],
 ) -> Result<Tables, NoMemory>
     requires base { IsBase base }
-    requires fitting { All (λ entry. IsTrue (writes_fit (schemas_of base) entry.writes)) entries.now }
+    requires fitting { All (λ entry. IsTrue (writes_fit (schemas_of base) entry.writes))
+        entries.now }
     requires indexes { IsTrue (list_all (is_index_of (schemas_of base)) indexes.now) }
-    ensures { IfOk result (λ tables. tables ≡ record { schemas = schemas_of base; rows = tables_with (start_def base) entries.now }) }
+    ensures { IfOk result (λ tables. tables ≡ record {
+      schemas = schemas_of base;
+      rows =
+          tables_with (start_def base) entries.now;
+    }) }
 {
     let mut tables = start_of(alloc, base, indexes)?;
     apply_each(&mut tables, entries)?;
@@ -41,7 +51,11 @@ pub fn indexed_tables_of(
 /// The tables after the writes of these entries.
 fn apply_each(tables: &mut Tables, entries: &[Entry]) -> Result<(), NoMemory>
     requires { IsTrue (list_all (entry_fits tables.old.schemas) entries.now) }
-    ensures { OnOk result (tables.new ≡ record { schemas = tables.old.schemas; rows = tables_with tables.old.rows entries.now }) }
+    ensures { OnOk result (tables.new ≡ record {
+      schemas = tables.old.schemas;
+      rows =
+          tables_with tables.old.rows entries.now;
+    }) }
 {
     for entry in entries {
         tables.apply(&entry.writes)?;
@@ -53,7 +67,11 @@ fn apply_each(tables: &mut Tables, entries: &[Entry]) -> Result<(), NoMemory>
 fn start_of(alloc: Global, base: Base, indexes: &[IndexOf]) -> Result<Tables, NoMemory>
     requires base { IsBase base }
     requires indexes { IsTrue (list_all (is_index_of (schemas_of base)) indexes.now) }
-    ensures { IfOk result (λ tables. tables ≡ record { schemas = schemas_of base; rows = start_def base }) }
+    ensures { IfOk result (λ tables. tables ≡ record {
+      schemas = schemas_of base;
+      rows =
+          start_def base;
+    }) }
 {
     let Base { tables, .. } = base;
     let (schemas, given) = gathered(alloc, tables)?;

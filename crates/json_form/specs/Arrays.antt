@@ -11,7 +11,8 @@ use Rattle.json_form.specs.meaning.Arrays.{Placed, placed}
 -- no key stands twice
 abbrev pub have_distinct_keys : {A K : Type 0} → (K → K → Bool) → (A → K) → List A → Bool
 have_distinct_keys same key [] = true
-have_distinct_keys same key (x ∷ xs) = not (list_any (λ y. same (key y) (key x)) xs) && have_distinct_keys same key xs
+have_distinct_keys same key (x ∷ xs) = not (list_any (λ y. same (key y) (key x)) xs)
+    && have_distinct_keys same key xs
 
 abbrev pub items_at : held.Parts → Items
 items_at held = items_view held.items.items

@@ -94,7 +94,8 @@ pub fn list_from<T: Drop, R: Reader<T>>(
     value: Value,
     reader: &R,
 ) -> Result<Vec<T>, DocFault>
-    ensures { GivesBy (λ v. v.items) result (list_of (each_of (R.Reader.reads reader.now)) (view value)) }
+    ensures { GivesBy (λ v. v.items) result
+        (list_of (each_of (R.Reader.reads reader.now)) (view value)) }
 {
     let values = items_from(alloc, value)?;
     each(alloc, values, reader)
@@ -157,7 +158,8 @@ pub fn rest_ahead<T: Drop, R: Reader<T>>(
     mut found: Vec<T>,
 ) -> Option<Vec<T>>
     requires { length found.items ≤ high }
-    ensures read { IfSome result (λ v. parse_map (each_after (λ before. R.Reader.reads reader.now) found.items)
+    ensures read { IfSome result (λ v. parse_map
+        (each_after (λ before. R.Reader.reads reader.now) found.items)
         (items_ahead depth tokens.old) ≡ Some (Ok v.items, tokens.new)) }
     ensures count { IfSome result (λ v. length v.items ≤ high) }
     ensures shorter { IfSome result (λ _. length tokens.new < length tokens.old) }

@@ -88,7 +88,8 @@ impl<K: Ord + Drop> Taken<K> {
     /// One key more. The cost is one comparison where the key is greater than the last of the run,
     /// and else is logarithmic in the number of keys out of order.
     fn add(&mut self, key: K) -> Result<(), AllocError>
-        ensures { OnOk result ((k : K) → is_key K.eq self.new k ≡ (is_key K.eq self.old k || K.eq k key)) }
+        ensures { OnOk result ((k : K) → is_key K.eq self.new k
+            ≡ (is_key K.eq self.old k || K.eq k key)) }
     {
         if rises_to(self.run.as_slice(), &key) {
             self.run.push(key)?;
@@ -143,7 +144,8 @@ pub trait KeyedReader<T> {
         tokens: &mut json::Reader<'_>,
         depth: usize,
     ) -> Option<T>
-        ensures begins { IfSome result (λ x. Begins (reads self.now (is_key Self.Key.eq taken.now)) depth tokens.old x tokens.new) }
+        ensures begins { IfSome result (λ x. Begins (reads self.now (is_key Self.Key.eq taken.now))
+            depth tokens.old x tokens.new) }
         ensures shorter { IfSome result (λ _. length tokens.new < length tokens.old) }
     {
         let value = value_from(alloc, tokens, depth)?;
@@ -159,7 +161,8 @@ fn next_distinct<T, R: KeyedReader<T>>(
     found: &[T],
     taken: &Taken<R::Key>,
 ) -> Result<T, DocFault>
-    requires { (k : R.Key) → is_key R.Key.eq taken.now k ≡ is_key R.Key.eq (map R.KeyedReader.key_of found.now) k }
+    requires { (k : R.Key) → is_key R.Key.eq taken.now k
+        ≡ is_key R.Key.eq (map R.KeyedReader.key_of found.now) k }
     ensures { Gives result (within_item_def (length found.now)
         (R.KeyedReader.reads reader.now (is_key R.Key.eq (map R.KeyedReader.key_of found.now)) (view value))) }
 {
@@ -175,7 +178,8 @@ fn next_ahead<T, R: KeyedReader<T>>(
     found: &[T],
     taken: &Taken<R::Key>,
 ) -> Option<T>
-    requires { (k : R.Key) → is_key R.Key.eq taken.now k ≡ is_key R.Key.eq (map R.KeyedReader.key_of found.now) k }
+    requires { (k : R.Key) → is_key R.Key.eq taken.now k
+        ≡ is_key R.Key.eq (map R.KeyedReader.key_of found.now) k }
     ensures begins { IfSome result (λ x. Begins
         (R.KeyedReader.reads reader.now (is_key R.Key.eq (map R.KeyedReader.key_of found.now)))
         depth tokens.old x tokens.new) }

@@ -17,7 +17,8 @@ pub fn word_ahead<T: Copy>(
     table: &[(&str, T)],
 ) -> Option<T>
     ensures begins { IfSome result (λ x. (depth : ℕ)
-        → Begins (word_of (map (λ pair. (pair.0.now, pair.1)) table.now)) depth tokens.old x tokens.new) }
+        → Begins (word_of (map (λ pair. (pair.0.now, pair.1)) table.now)) depth tokens.old x
+        tokens.new) }
     ensures shorter { IfSome result (λ _. length tokens.new < length tokens.old) }
 {
     match tokens.next()? {
@@ -28,7 +29,8 @@ pub fn word_ahead<T: Copy>(
 
 /// Passes the bracket that ends an array, if it is next.
 pub fn array_ends(tokens: &mut json::Reader<'_>) -> Option<()>
-    ensures ends { IfSome result (λ _. (depth : ℕ) → items_ahead depth tokens.old ≡ Some (no_items, tokens.new)) }
+    ensures ends { IfSome result (λ _. (depth : ℕ)
+        → items_ahead depth tokens.old ≡ Some (no_items, tokens.new)) }
     ensures shorter { IfSome result (λ _. length tokens.new < length tokens.old) }
 {
     if !tokens.take_end_array() {

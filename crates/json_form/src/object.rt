@@ -54,7 +54,8 @@ fn known(alloc: Global, members: &Map<String, Value>, names: &[&str]) -> Result<
 /// The members of an object that has none but those named. The cost is the number of members times
 /// the number of names.
 pub fn object_with(alloc: Global, value: Value, names: &[&str]) -> Result<Members, DocFault>
-    ensures { GivesBy members_at result (object_with_def (map (λ n. n.now) names.now) (view value)) }
+    ensures { GivesBy members_at result (object_with_def (map (λ n. n.now) names.now)
+        (view value)) }
 {
     let map = members_from(alloc, value)?;
     known(alloc, &map, names)?;

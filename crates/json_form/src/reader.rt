@@ -26,7 +26,8 @@ pub trait Reader<T> {
     /// What the value that the tokens begin with is read as, once they are passed. There is none
     /// where there is a fault, and in the forms that are read otherwise: `read` says which.
     fn ahead(&self, alloc: Global, tokens: &mut json::Reader<'_>, depth: usize) -> Option<T>
-        ensures begins { IfSome result (λ x. Begins (reads self.now) depth tokens.old x tokens.new) }
+        ensures begins { IfSome result (λ x. Begins (reads self.now) depth tokens.old x
+            tokens.new) }
         ensures shorter { IfSome result (λ _. length tokens.new < length tokens.old) }
     {
         let value = value_from(alloc, tokens, depth)?;

@@ -52,7 +52,8 @@ pub fn object_from(alloc: Global, tokens: &mut Reader<'_>, depth: usize) -> Opti
 
 #[cycle(ahead)]
 fn items_from(alloc: Global, tokens: &mut Reader<'_>, depth: usize) -> Option<Vec<Value>>
-    ensures read { IfSome result (λ v. items_ahead depth tokens.old ≡ Some (items_view v.items, tokens.new)) }
+    ensures read { IfSome result (λ v. items_ahead depth tokens.old
+        ≡ Some (items_view v.items, tokens.new)) }
     ensures shorter { IfSome result (λ _. length tokens.new < length tokens.old) }
 {
     let mut found = Vec::new(alloc);

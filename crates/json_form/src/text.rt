@@ -127,7 +127,8 @@ impl TextWriter {
 
     /// Octets as a text of two hexadecimal digits each, in lower case.
     pub fn octets(&mut self, alloc: Global, octets: &[u8]) -> Result<(), AllocError>
-        ensures { OnOk result (self.new ≡ self.old ++ tokens_of (text_def (encode_lower octets.now))) }
+        ensures { OnOk result (self.new ≡ self.old
+            ++ tokens_of (text_def (encode_lower octets.now))) }
     {
         let digits = hex::encode(alloc, octets)?;
         self.text(digits.as_str())
@@ -140,7 +141,8 @@ impl TextWriter {
         items: &[T],
         writer: &W,
     ) -> Result<(), AllocError>
-        ensures { OnOk result (self.new ≡ self.old ++ flat_map (λ item. tokens_of (W.Writer.writes writer.now item)) items.now) }
+        ensures { OnOk result (self.new ≡ self.old
+            ++ flat_map (λ item. tokens_of (W.Writer.writes writer.now item)) items.now) }
     {
         for item in items {
             writer.write(alloc, item, self)?;
@@ -155,7 +157,8 @@ impl TextWriter {
         items: &[T],
         writer: &W,
     ) -> Result<(), AllocError>
-        ensures { OnOk result (self.new ≡ self.old ++ tokens_of (list_by (W.Writer.writes writer.now) items.now)) }
+        ensures { OnOk result (self.new ≡ self.old
+            ++ tokens_of (list_by (W.Writer.writes writer.now) items.now)) }
     {
         self.begin_array()?;
         self.each(alloc, items, writer)?;

@@ -13,7 +13,10 @@ asks_in asked name = length (filter (is_of_sequence name) asked)
 
 -- a sequence of which a stop may have left the blocks that these need
 abbrev pub stopped_by : List DrawKind → Count → Count
-stopped_by asked count = record count { maybe = count.maybe + blocks_for (asks_in asked count.name) count.next count.upto }
+stopped_by asked count = record count {
+  maybe =
+      count.maybe + blocks_for (asks_in asked count.name) count.next count.upto;
+}
 
 -- a sequence that gave all of these
 abbrev pub unseen_by : List DrawKind → Count → Count
@@ -23,7 +26,9 @@ unseen_by asked count = gave_often (asks_in asked count.name) count
 -- belong to statements whose draws are all there.
 abbrev pub whole_from : ℕ → List Statement → ℕ → ℕ
 whole_from before [] drawn = before
-whole_from before (first ∷ more) drawn = let through = before + length (asked_by_statement first) in if nat_lt drawn through then before else whole_from through more drawn
+whole_from before (first ∷ more) drawn = let through =
+    before + length (asked_by_statement first) in if nat_lt drawn through then before else
+    whole_from through more drawn
 
 abbrev pub whole_in : Call → ℕ → ℕ
 whole_in (call.Work statements commit) drawn = whole_from 0 statements drawn

@@ -4,7 +4,12 @@ use Rattle.server_model.specs.meaning.NewValues.{Count}
 
 -- with so many of the blocks that may stand
 abbrev pub way_at : ℕ → Count → Count
-way_at blocks count = record count { next = count.next +ℤ pos (16 * blocks); upto = count.upto +ℤ pos (16 * blocks); maybe = 0 }
+way_at blocks count = record count {
+  next = count.next +ℤ pos (16 * blocks);
+  upto =
+      count.upto +ℤ pos (16 * blocks);
+  maybe = 0;
+}
 
 -- the value is the next one with so many of them
 abbrev pub IsBefore : Count → ℤ → ℕ → Type 0

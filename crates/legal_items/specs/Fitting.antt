@@ -10,4 +10,5 @@ use Rattle.shown_clauses.specs.meaning.LegalItems.{outside_fits}
 abbrev pub misfit_from : ℕ → List Event → List Note → Option ℕ
 misfit_from number schedule [] = None
 misfit_from number schedule (first ∷ notes) =
-    if outside_fits (first_item schedule) first then misfit_from (number + 1) (rest_items schedule) notes else Some number
+    if outside_fits (first_item schedule) first then misfit_from (number + 1) (rest_items schedule)
+    notes else Some number

@@ -22,8 +22,11 @@ ticks_from tick (first ∷ notes) = tick ∷ ticks_from (tick_after tick first) 
 -- The items of what happened at an event. (`tick` are the ticks before it, `kept` is what a served
 -- item brings.)
 abbrev pub items_then : List Event → ℕ → List Draw → ℕ → Happened → List Item
-items_then schedule tick kept event (ServedItem session served) = did_at event tick session (thing_of kept served) ∷ []
-items_then schedule tick kept event (RanOutside ran) = outside_items event tick (session_of ran.ltxid) (calls_of (slice_get schedule (event - 1))) ran.runs
+items_then schedule tick kept event (ServedItem session served) =
+    did_at event tick session (thing_of kept served) ∷ []
+items_then schedule tick kept event (RanOutside ran) =
+    outside_items event tick (session_of ran.ltxid) (calls_of (slice_get schedule (event - 1)))
+    ran.runs
 items_then schedule tick kept event (Asked x told) = AskTold event x (outcome_of told) ∷ []
 
 -- how many served items that is
@@ -41,8 +44,10 @@ at_place at items = map (λ item. (at, item)) items
 
 -- Of moments, the served ones of which bring so much in turn. (`ticks` are those before each
 -- event.) Each item has its moment's place.
-abbrev pub items_told : List Event → List ℕ → List (List Draw) → List (At × HappenedAt) → List (At × Item)
+abbrev pub items_told : List Event → List ℕ → List (List Draw) → List (At × HappenedAt)
+    → List (At × Item)
 items_told schedule ticks kept [] = []
 items_told schedule ticks kept (one ∷ more) =
-    at_place one.0 (items_then schedule (slice_index ticks (one.1.event - 1)) (first_kept kept) one.1.event one.1.happened)
+    at_place one.0 (items_then schedule (slice_index ticks (one.1.event - 1)) (first_kept kept)
+    one.1.event one.1.happened)
     ++ items_told schedule ticks (drop (served_count one.1.happened) kept) more

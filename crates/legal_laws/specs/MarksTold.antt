@@ -21,7 +21,8 @@ use Rattle.shown_laws.specs.Telling.{seen_told}
 use Rattle.legal_laws.specs.Points.{Point, IsPoint, next_point, LeadsTo}
 
 -- A call with the mark is served at an event behind this point, on the way to the last one.
-pub record ServesMarked (document : Document) (last p : Point) (served : Served) (kept : List Draw) : Type 0 where
+pub record ServesMarked (document : Document) (last p : Point) (served : Served)
+    (kept : List Draw) : Type 0 where
   pub event : Event
   pub note : Note
   pub after : Seen
@@ -34,20 +35,31 @@ pub record ServesMarked (document : Document) (last p : Point) (served : Served)
   pub there : front_at p.t.machine.links number ≡ Some front
   pub call : Call
   pub brings : front.first.frame ≡ up.Call true kept call
-  pub ordinary : IsTrue (is_ordinary (record p.t.machine { event = p.t.machine.event + 1 }) front served)
+  pub ordinary : IsTrue (is_ordinary (record p.t.machine { event = p.t.machine.event + 1 }) front
+      served)
   pub marked : IsTrue (is_marked_item served.item)
 
 -- What its frame brought is what is told of it, by these submissions with their steps.
 abbrev pub TellsMarked : Document → Point → List Part → Type 0
 TellsMarked document last parts =
-    (p : Point) (served : Served) (kept : List Draw) → IsPoint document p → ServesMarked document last p served kept → kept_at parts (seen_told p.notes p.items) served.session ≡ kept
+    (p : Point) (served : Served) (kept : List Draw) → IsPoint document p
+    → ServesMarked document last p served kept
+    → kept_at parts (seen_told p.notes p.items) served.session ≡ kept
 
 -- the point at which the run of a report ends
 abbrev pub end_of : List Event → Report → Seen → Traced → Point
-end_of events report seen t = record { events = events; notes = report.notes; items = report.served; seen = seen; t = t }
+end_of events report seen t = record {
+  events = events;
+  notes = report.notes;
+  items = report.served;
+  seen = seen;
+  t = t;
+}
 
 -- so it is in the report of every whole run
 abbrev pub ReportsTellMarked : Type 0
 ReportsTellMarked =
-    (document : Document) (report : Report) (seen : Seen) (t : Traced) (server : Server) (events : List Event)
-    → IsTrue (all_requests_right document) → IsReported document report seen t server → TellsMarked document (end_of events report seen t) (parts document report)
+    (document : Document) (report : Report) (seen : Seen) (t : Traced) (server : Server)
+    (events : List Event)
+    → IsTrue (all_requests_right document) → IsReported document report seen t server
+    → TellsMarked document (end_of events report seen t) (parts document report)

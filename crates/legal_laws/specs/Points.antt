@@ -24,10 +24,18 @@ IsPoint document p = Reached document p.events p.notes p.items p.seen p.t
 
 -- behind one event more
 abbrev pub next_point : Point → Event → Note → List Served → Seen → Traced → Point
-next_point p event note more after new = record { events = p.events ++ event ∷ []; notes = p.notes ++ note ∷ []; items = p.items ++ more; seen = after; t = new }
+next_point p event note more after new = record {
+  events = p.events ++ event ∷ [];
+  notes = p.notes ++ note ∷ [];
+  items = p.items ++ more;
+  seen = after;
+  t = new;
+}
 
 -- from there it comes to the last point
 pub data LeadsTo (document : Document) (last : Point) : Point → Type 0 where
   IsThere : LeadsTo document last last
-  Onward : (p : Point) (event : Event) (note : Note) (more : List Served) (after : Seen) (new : Traced) → OneEvent p.seen p.t event note more [] after new → IsPoint document (next_point p event note more after new)
+  Onward : (p : Point) (event : Event) (note : Note) (more : List Served) (after : Seen)
+      (new : Traced) → OneEvent p.seen p.t event note more [] after new
+      → IsPoint document (next_point p event note more after new)
       → LeadsTo document last (next_point p event note more after new) → LeadsTo document last p

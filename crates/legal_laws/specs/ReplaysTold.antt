@@ -51,25 +51,30 @@ pub record TellsPlace (p : Point) (served : Served) (front : List Sent) : Type 0
 
 -- The request that acquired the session of the turn is told as the one that sent it, and as shown
 -- as many calls before as it was before it opened the connection, the same ones.
-pub record TellsShown (parts : List Part) (p : Point) (number : ℕ) (course : Course) (turn : Turn) : Type 0 where
+pub record TellsShown (parts : List Part) (p : Point) (number : ℕ) (course : Course)
+    (turn : Turn) : Type 0 where
   pub acquired : Acquired
   pub acquires : turn.acquired ≡ Some acquired
   pub part : Part
   pub its : acquired_by parts acquired ≡ Some part
   pub before : List Step
   pub opened : before_opening number [] course.steps ≡ Some before
-  pub shown : shown_before part.steps acquired.event ≡ length (shown_at p.t.setting.terms course.request before)
+  pub shown : shown_before part.steps acquired.event ≡ length
+      (shown_at p.t.setting.terms course.request before)
   pub more : List ShownCall
   pub so_far : course.report.calls ≡ shown_at p.t.setting.terms course.request before ++ more
   pub later : List ShownCall
-  pub report : part.submission.copy.calls ≡ shown_at p.t.setting.terms course.request before ++ later
+  pub report : part.submission.copy.calls ≡ shown_at p.t.setting.terms course.request before
+      ++ later
 
 -- both
-pub record TellsReplay (parts : List Part) (p : Point) (served : Served) (number : ℕ) (course : Course) (front : List Sent) : Type 0 where
+pub record TellsReplay (parts : List Part) (p : Point) (served : Served) (number : ℕ)
+    (course : Course) (front : List Sent) : Type 0 where
   pub place : TellsPlace p served front
   pub shows : TellsShown parts p number course place.turn
 
-pub record ReplayTold (parts : List Part) (p : Point) (served : Served) (number : ℕ) (first : Sent) : Type 0 where
+pub record ReplayTold (parts : List Part) (p : Point) (served : Served) (number : ℕ)
+    (first : Sent) : Type 0 where
   pub by : IsSentBy p number first
   pub tells : TellsReplay parts p served number by.course by.front
 
@@ -90,21 +95,28 @@ pub record IsPlaced (p : Point) (served : Served) (number : ℕ) (first : Sent) 
 abbrev pub ReplaysArePlaced : Type 0
 ReplaysArePlaced =
     (document : Document) (last : Point) → IsTrue (all_requests_right document)
-    → (p : Point) (served : Served) (kept : List Draw) → IsPoint document p → (serves : ServesMarked document last p served kept) → IsPlaced p served serves.number serves.front.first
+    → (p : Point) (served : Served) (kept : List Draw) → IsPoint document p
+    → (serves : ServesMarked document last p served kept)
+    → IsPlaced p served serves.number serves.front.first
 
 -- The request is told as it is of each call with the mark that is served in a whole run, whose
 -- place is told.
 abbrev pub ReportsShowReplays : Type 0
 ReportsShowReplays =
-    (document : Document) (report : Report) (seen : Seen) (t : Traced) (server : Server) (events : List Event)
+    (document : Document) (report : Report) (seen : Seen) (t : Traced) (server : Server)
+    (events : List Event)
     → IsTrue (all_requests_right document) → IsReported document report seen t server
-    → (p : Point) (served : Served) (kept : List Draw) → IsPoint document p → (serves : ServesMarked document (end_of events report seen t) p served kept)
-    → (placed : IsPlaced p served serves.number serves.front.first) → TellsShown (parts document report) p serves.number placed.by.course placed.place.turn
+    → (p : Point) (served : Served) (kept : List Draw) → IsPoint document p
+    → (serves : ServesMarked document (end_of events report seen t) p served kept)
+    → (placed : IsPlaced p served serves.number serves.front.first)
+    → TellsShown (parts document report) p serves.number placed.by.course placed.place.turn
 
 -- so it is of each call with the mark that is served in a whole run
 abbrev pub ReportsTellReplays : Type 0
 ReportsTellReplays =
-    (document : Document) (report : Report) (seen : Seen) (t : Traced) (server : Server) (events : List Event)
+    (document : Document) (report : Report) (seen : Seen) (t : Traced) (server : Server)
+    (events : List Event)
     → IsTrue (all_requests_right document) → IsReported document report seen t server
-    → (p : Point) (served : Served) (kept : List Draw) → IsPoint document p → (serves : ServesMarked document (end_of events report seen t) p served kept)
+    → (p : Point) (served : Served) (kept : List Draw) → IsPoint document p
+    → (serves : ServesMarked document (end_of events report seen t) p served kept)
     → ReplayTold (parts document report) p served serves.number serves.front.first

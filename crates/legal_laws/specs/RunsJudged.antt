@@ -13,15 +13,20 @@ use Rattle.world_model.specs.Reported.{IsReported}
 
 -- What was served is legal.
 abbrev pub RunsAreLegal : Type 0
-RunsAreLegal = (document : Document) (report : Report) (seen : Seen) (t : Traced) (server : Server) → IsReported document report seen t server → IsTrue (is_legal document report)
+RunsAreLegal = (document : Document) (report : Report) (seen : Seen) (t : Traced) (server : Server)
+    → IsReported document report seen t server → IsTrue (is_legal document report)
 
 -- No value was drawn anew twice.
 abbrev pub RunsAreFreshNew : Type 0
-RunsAreFreshNew = (document : Document) (report : Report) (seen : Seen) (t : Traced) (server : Server) → IsReported document report seen t server → IsTrue (is_fresh_new document report)
+RunsAreFreshNew = (document : Document) (report : Report) (seen : Seen) (t : Traced)
+    (server : Server) → IsReported document report seen t server
+    → IsTrue (is_fresh_new document report)
 
 -- What was drawn anew lies in what the source has set aside, and nothing that was set aside before
 -- event 1 is given back.
 abbrev pub RunsAreSetAside : Type 0
 RunsAreSetAside =
-    (document : Document) (report : Report) (seen : Seen) (t : Traced) (server : Server) → IsReported document report seen t server
-    → SetAside (service_base document).sequences (ends_of server.core.opening) (drawn_in document report)
+    (document : Document) (report : Report) (seen : Seen) (t : Traced) (server : Server)
+    → IsReported document report seen t server
+    → SetAside (service_base document).sequences (ends_of server.core.opening)
+    (drawn_in document report)

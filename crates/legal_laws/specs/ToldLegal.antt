@@ -12,8 +12,12 @@ use Rattle.world_model.specs.Traced.{Traced}
 
 -- the clause `Legal`
 abbrev pub RunsAreLegalTold : Type 0
-RunsAreLegalTold = (document : Document) (report : Report) (seen : Seen) (t : Traced) (server : Server) → IsTrue (all_requests_right document) → IsReported document report seen t server → IsTrue (legal_of document report)
+RunsAreLegalTold = (document : Document) (report : Report) (seen : Seen) (t : Traced)
+    (server : Server) → IsTrue (all_requests_right document)
+    → IsReported document report seen t server → IsTrue (legal_of document report)
 
 -- no value that was drawn anew was drawn twice
 abbrev pub RunsAreFreshNewTold : Type 0
-RunsAreFreshNewTold = (document : Document) (report : Report) (seen : Seen) (t : Traced) (server : Server) → IsTrue (all_requests_right document) → IsReported document report seen t server → IsTrue (fresh_new_of document report)
+RunsAreFreshNewTold = (document : Document) (report : Report) (seen : Seen) (t : Traced)
+    (server : Server) → IsTrue (all_requests_right document)
+    → IsReported document report seen t server → IsTrue (fresh_new_of document report)

@@ -22,9 +22,11 @@ is_alone commits (Some since) = (since == commits) && nat_lt since (2 ^ 64 - 1)
 -- What a transaction read is there still where none has committed since it began to.
 abbrev pub HoldsSince : Service → Option ℕ → List Reading → Type 0
 HoldsSince service None readings = readings ≡ []
-HoldsSince service (Some since) readings = (since ≤ service.commits) × (IsTrue (is_alone service.commits (Some since)) → AreUnchanged service.tables.rows readings)
+HoldsSince service (Some since) readings = (since ≤ service.commits)
+    × (IsTrue (is_alone service.commits (Some since)) → AreUnchanged service.tables.rows readings)
 
 -- A service later on: where it has counted no commit more, its tables are the same.
 pub record MovesOn (service later : Service) : Type 0 where
   pub rises : service.commits ≤ later.commits
-  pub same : later.commits ≡ service.commits → service.commits < 2 ^ 64 - 1 → later.tables.rows ≡ service.tables.rows
+  pub same : later.commits ≡ service.commits → service.commits < 2 ^ 64 - 1
+      → later.tables.rows ≡ service.tables.rows

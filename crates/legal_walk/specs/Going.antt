@@ -20,11 +20,15 @@ begins_with settings = record { going = begun_with settings; since = None }
 
 -- with one more call, as it was told
 abbrev pub with_piece : Ongoing → Piece → Ongoing
-with_piece one piece = record one { going = record one.going { pieces = one.going.pieces ++ piece ∷ [] } }
+with_piece one piece = record one {
+  going =
+      record one.going { pieces = one.going.pieces ++ piece ∷ [] };
+}
 
 -- the transaction of a session that was not met has done nothing
 abbrev pub ongoing_in : List ((ℕ × ℕ) × Ongoing) → SessionId → Ongoing
-ongoing_in ongoings session = unwrap_or (value_of same_key ongoings (key_of session)) (begins_with [])
+ongoing_in ongoings session = unwrap_or (value_of same_key ongoings (key_of session))
+    (begins_with [])
 
 -- it is kept with readings in place of reads, and its writes fit what is declared
 pub record Goes (schemas : List Schema) (transaction : Transaction) (one : Ongoing) : Type 0 where
@@ -41,4 +45,5 @@ pub record GoesAt (service : Service) (transaction : Transaction) (one : Ongoing
   pub holds : HoldsSince service one.since one.going.readings
 
 abbrev pub AllGo : Service → List (SessionId × Transaction) → List ((ℕ × ℕ) × Ongoing) → Type 0
-AllGo service sessions ongoings = (session : SessionId) → GoesAt service (transaction_in sessions session) (ongoing_in ongoings session)
+AllGo service sessions ongoings = (session : SessionId)
+    → GoesAt service (transaction_in sessions session) (ongoing_in ongoings session)

@@ -17,10 +17,12 @@ use Rattle.server_model.specs.meaning.Walk.{Deed, Walk, after, after_deed, after
 -- ---- an item
 
 abbrev pub item_holds_here : Base → Walk → Item → Bool
-item_holds_here base walk item = item_holds base (entered walk item) item (deed_of base (entered walk item) item)
+item_holds_here base walk item = item_holds base (entered walk item) item
+    (deed_of base (entered walk item) item)
 
 abbrev pub after_item : Base → Walk → Item → Walk
-after_item base walk item = after base (entered walk item) item (deed_of base (entered walk item) item)
+after_item base walk item = after base (entered walk item) item
+    (deed_of base (entered walk item) item)
 
 -- ---- what a session did in the opening of now
 
@@ -28,10 +30,13 @@ abbrev pub did_so : Base → Walk → ℕ → SessionId → Thing → Deed
 did_so base walk now session thing = deed base walk (performed_by walk now session thing)
 
 abbrev pub does_hold : Base → Walk → ℕ → SessionId → Thing → Bool
-does_hold base walk now session thing = deed_holds base walk (did_so base walk now session thing) && thing_holds base walk now session thing
+does_hold base walk now session thing = deed_holds base walk (did_so base walk now session thing)
+    && thing_holds base walk now session thing
 
 abbrev pub after_does : Base → Walk → ℕ → SessionId → Thing → Walk
-after_does base walk now session thing = after_thing (after_deed base walk (did_so base walk now session thing)) session (did_so base walk now session thing) thing
+after_does base walk now session thing =
+    after_thing (after_deed base walk (did_so base walk now session thing)) session
+    (did_so base walk now session thing) thing
 
 -- ---- a request that begins
 
@@ -39,23 +44,31 @@ abbrev pub settings_in : Option (Bor NamedValues) → NamedValues
 settings_in settings = option_map_or (λ one. one.now) settings []
 
 abbrev pub begins : Walk → SessionId → NamedValues → Walk
-begins walk session settings = record walk { sessions = with_transaction walk.sessions session (begun settings) }
+begins walk session settings = record walk {
+  sessions =
+      with_transaction walk.sessions session (begun settings);
+}
 
 -- ---- a call that was stopped
 
 -- the last piece of the entry that the call stored, if it is a commit without the mark and the
 -- entry that comes next is its session's
 abbrev pub standing : Walk → SessionId → Bool → Call → Option Piece
-standing walk session replay called = if has_commit called && not replay then stands (next_of walk session) walk.left else None
+standing walk session replay called = if has_commit called
+    && not replay then stands (next_of walk session) walk.left else None
 
 abbrev pub stopped_holds : Base → Walk → ℕ → SessionId → Bool → Call → Bool
-stopped_holds base walk now session replay called = deed_holds base walk (deed base walk (performed_if walk now session replay called))
+stopped_holds base walk now session replay called =
+    deed_holds base walk (deed base walk (performed_if walk now session replay called))
 
 abbrev pub after_stopped : Base → Walk → ℕ → SessionId → Bool → Call → Walk
 after_stopped base walk now session replay called =
-    if_nothing (deed base walk (performed_if walk now session replay called)) (after_deed base walk (deed base walk (performed_if walk now session replay called))) called
+    if_nothing (deed base walk (performed_if walk now session replay called))
+    (after_deed base walk (deed base walk (performed_if walk now session replay called))) called
 
 -- ---- a call that met a block
 
 abbrev pub reaches : Base → Walk → ℕ → SessionId → Call → Bool
-reaches base walk now session called = meets_with (λ draws. means_commit (meaning base walk session called draws)) now (asked_by_call called) walk.numbers
+reaches base walk now session called = meets_with
+    (λ draws. means_commit (meaning base walk session called draws)) now (asked_by_call called)
+    walk.numbers

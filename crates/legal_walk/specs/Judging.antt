@@ -18,17 +18,20 @@ use Rattle.legal_walk.specs.Going.{begins_with}
 
 -- answers that mean a commit are told with the verdict last
 abbrev pub answered_by : List Answer → Bool → Bool → List Answer
-answered_by answers replay changed = if ends_committed answers then ending_with answers (verdict replay changed) else answers
+answered_by answers replay changed = if ends_committed answers then
+    ending_with answers (verdict replay changed) else answers
 
 -- the entry has this identifier, the transaction, the settings at its start, and tells a lone
 -- commit
 abbrev pub is_entry_with : Ltxid → OnWay → Bool → Entry → Bool
 is_entry_with next going is_lone entry =
-    same_ltxid entry.ltxid next && (pointwise same_piece entry.pieces going.pieces && (same_settings entry.settings going.at_start && same_bool entry.completed is_lone))
+    same_ltxid entry.ltxid next && (pointwise same_piece entry.pieces going.pieces
+    && (same_settings entry.settings going.at_start && same_bool entry.completed is_lone))
 
 -- a commit or a conflict comes only under an identifier that is not blocked
 abbrev pub is_free_at : List Ltxid → Ltxid → List Answer → Bool
-is_free_at blocked next answers = if ends_committed answers || ends_conflict answers then not (is_blocked blocked next) else true
+is_free_at blocked next answers = if ends_committed answers
+    || ends_conflict answers then not (is_blocked blocked next) else true
 
 abbrev pub is_first_with : Ltxid → OnWay → Bool → List Entry → Bool
 is_first_with next going is_lone [] = false
@@ -36,7 +39,8 @@ is_first_with next going is_lone (entry ∷ left) = is_entry_with next going is_
 
 -- a call that was answered as committed stores the first of these entries
 abbrev pub stores_with : Ltxid → OnWay → List Answer → Call → List Entry → Bool
-stores_with next going answers called left = if ends_committed answers then is_first_with next going (is_lone_commit called) left else true
+stores_with next going answers called left =
+    if ends_committed answers then is_first_with next going (is_lone_commit called) left else true
 
 -- the next transaction begins where this one is ended
 abbrev pub ended_if : Bool → Ongoing → Ongoing

@@ -11,7 +11,8 @@ use Rattle.legal_walk.specs.declared.performed.Performed.{Performed as Performed
 
 -- a session of a later opening comes behind its opening
 abbrev pub entered_at : Walk → SessionId → Walk
-entered_at walk session = if nat_lt walk.numbers.incarnation session.incarnation then record walk { numbers = opened walk.numbers session.incarnation; is_over = false } else walk
+entered_at walk session = if nat_lt walk.numbers.incarnation session.incarnation then
+    record walk { numbers = opened walk.numbers session.incarnation; is_over = false } else walk
 
 -- the identifier is or may be blocked
 abbrev pub may_block : Walk → Ltxid → Bool
@@ -30,4 +31,12 @@ abbrev pub piece_of : PerformedAt → Piece
 piece_of one = record { call = one.call.now; answers = one.answers.now; draws = one.draws.now }
 
 abbrev pub performed_as : PerformedAt → Performed
-performed_as one = record { session = one.session; now = one.now; replay = one.replay; kept = one.kept.now; called = one.call.now; answers = one.answers.now; draws = one.draws.now }
+performed_as one = record {
+  session = one.session;
+  now = one.now;
+  replay = one.replay;
+  kept = one.kept.now;
+  called = one.call.now;
+  answers = one.answers.now;
+  draws = one.draws.now;
+}

@@ -11,12 +11,17 @@ pub record Stored : Type 0 where
 
 -- of these entries of a run the first few were stored behind those of the time before
 abbrev pub stored_so_far : List Entry → List Entry → ℕ → Stored
-stored_so_far before entries taken = record { stored = before ++ take taken entries; left = drop taken entries }
+stored_so_far before entries taken = record {
+  stored = before ++ take taken entries;
+  left = drop taken entries;
+}
 
 -- no more are stored than there are, and they are counted
-pub record IsLedger (before entries : List Entry) (taken : ℕ) (counts : List ((ℕ × ℕ) × ℕ)) : Type 0 where
+pub record IsLedger (before entries : List Entry) (taken : ℕ)
+    (counts : List ((ℕ × ℕ) × ℕ)) : Type 0 where
   pub within : taken ≤ length entries
-  pub are_counted : (session : SessionId) → counted counts session ≡ number_of (before ++ take taken entries) session
+  pub are_counted : (session : SessionId)
+      → counted counts session ≡ number_of (before ++ take taken entries) session
 
 abbrev pub first_of : List Entry → Option Entry
 first_of [] = None

@@ -11,4 +11,6 @@ use Rattle.calls_again.specs.OnWay.{OnWay}
 
 -- with these draws the call uses all of them and reaches its commit
 abbrev pub commits_with : Stored → List (List ℕ) → OnWay → Call → List Draw → Bool
-commits_with tables names going called draws = means_commit (mean (shape_of tables names) (with_writes tables.rows going.writes) going.settings called draws)
+commits_with tables names going called draws =
+    means_commit (mean (shape_of tables names) (with_writes tables.rows going.writes) going.settings
+    called draws)

@@ -17,4 +17,5 @@ IsWalked walker = (base : Base) × ((walk : Walk) × Walks base walk walker)
 
 -- whether a test of the walk holds, and where it does the code goes on as the walk
 abbrev pub Steps : Walker → (Base → Walk → Bool) → (Base → Walk → Walk) → Bool → Walker → Type 0
-Steps old holds after told new = (base : Base) (walk : Walk) → Walks base walk old → (told ≡ holds base walk) × (IsTrue told → Walks base (after base walk) new)
+Steps old holds after told new = (base : Base) (walk : Walk) → Walks base walk old
+    → (told ≡ holds base walk) × (IsTrue told → Walks base (after base walk) new)

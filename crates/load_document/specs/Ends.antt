@@ -14,10 +14,18 @@ ends_in requests = record {
 
 -- of shown calls alone, of one of them, and of the failure of a request
 unfoldable pub shown_ends : List ShownCall → Counted
-shown_ends calls = record { committed = committed_in calls; conflict = conflict_in calls; failed = 0 }
+shown_ends calls = record {
+  committed = committed_in calls;
+  conflict = conflict_in calls;
+  failed = 0;
+}
 
 unfoldable pub call_ends : ShownCall → Counted
-call_ends one = record { committed = cond (was_committed one) 1 0; conflict = cond (was_conflict one) 1 0; failed = 0 }
+call_ends one = record {
+  committed = cond (was_committed one) 1 0;
+  conflict = cond (was_conflict one) 1 0;
+  failed = 0;
+}
 
 unfoldable pub failed_ends : RequestReport → Counted
 failed_ends one = record { committed = 0; conflict = 0; failed = cond (is_some one.failed) 1 0 }

@@ -15,7 +15,11 @@ use Rattle.load_document.specs.meaning.Loads.{commit, look, pay}
 
 -- the account of a key with a balance
 abbrev pub account_at : ℕ → ℤ → PlainRow
-account_at key balance = record { table = codes "acc"; key = value.Int (pos key); row = value.Int (pos key) ∷ value.Int balance ∷ [] }
+account_at key balance = record {
+  table = codes "acc";
+  key = value.Int (pos key);
+  row = value.Int (pos key) ∷ value.Int balance ∷ [];
+}
 
 -- the accounts of the keys from this one on, with these balances
 abbrev pub accounts_with : ℕ → List ℤ → List PlainRow
@@ -36,7 +40,14 @@ pub record AreAccounts (total : ℤ) (tables : List PlainRow) : Type 0 where
 -- the one table with its two columns, and no sequence
 abbrev pub account_shape : Shape
 account_shape = record {
-  schemas = record { name = codes "acc"; columns = record { name = codes "id"; kind = kind.Int } ∷ record { name = codes "bal"; kind = kind.Int } ∷ [] } ∷ [];
+  schemas = record {
+    name = codes "acc";
+    columns = record { name = codes "id"; kind = kind.Int } ∷ record {
+      name = codes "bal";
+      kind =
+          kind.Int;
+    } ∷ [];
+  } ∷ [];
   sequences = [];
 }
 
@@ -49,8 +60,11 @@ pub data IsTransferCall : Call → Type 0 where
 -- such a call leaves accounts with the total that they had
 abbrev pub TransfersKeepAccounts : Type 0
 TransfersKeepAccounts =
-    (asked : Call) (total : ℤ) (tables : List PlainRow) (settings : NamedValues) (draws : List Draw) (meant : Meant)
-    → IsTransferCall asked → AreAccounts total tables → mean account_shape tables settings asked draws ≡ Some meant → AreAccounts total meant.tables
+    (asked : Call) (total : ℤ) (tables : List PlainRow) (settings : NamedValues) (draws : List Draw)
+    (meant : Meant)
+    → IsTransferCall asked → AreAccounts total tables
+    → mean account_shape tables settings asked draws ≡ Some meant
+    → AreAccounts total meant.tables
 
 abbrev pub AreTransferCalls : List Call → Type 0
 AreTransferCalls [] = Unit {0}
@@ -69,4 +83,5 @@ AreTransferEntries (entry ∷ entries) = AreTransferPieces entry.pieces × AreTr
 abbrev pub SerialRunsKeepAccounts : Type 0
 SerialRunsKeepAccounts =
     (total : ℤ) (before : List PlainRow) (entries : List Entry) (after : List PlainRow)
-    → AreTransferEntries entries → AreAccounts total before → Serial account_shape before entries after → AreAccounts total after
+    → AreTransferEntries entries → AreAccounts total before
+    → Serial account_shape before entries after → AreAccounts total after

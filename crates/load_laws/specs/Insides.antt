@@ -17,4 +17,5 @@ none_outside events = list_all (λ one. not (is_outside one)) events
 
 -- Where a schedule has no `outside`, no note of its run tells a session of one.
 abbrev pub InsidesTellNone : Type 0
-InsidesTellNone = (document : Document) (report : Report) → IsTrue (none_outside document.schedule) → IsTrue (followed document report) → outside_sessions report.notes ≡ []
+InsidesTellNone = (document : Document) (report : Report) → IsTrue (none_outside document.schedule)
+    → IsTrue (followed document report) → outside_sessions report.notes ≡ []

@@ -20,7 +20,9 @@ pub record IsRunReport (document : Document) (report : Report) : Type 0 where
 
 -- each piece of each entry of a load is a call of a transfer
 abbrev pub LoadsRunTransfers : Type 0
-LoadsRunTransfers = (seed clients requests : ℕ) (report : Report) → IsRunReport (loaded seed clients requests) report → AreTransferEntries report.entries
+LoadsRunTransfers = (seed clients requests : ℕ) (report : Report)
+    → IsRunReport (loaded seed clients requests) report → AreTransferEntries report.entries
 
 abbrev pub LoadsKeepTotal : Type 0
-LoadsKeepTotal = (seed clients requests : ℕ) (report : Report) → IsRunReport (loaded seed clients requests) report → total report ≡ pos 16000
+LoadsKeepTotal = (seed clients requests : ℕ) (report : Report)
+    → IsRunReport (loaded seed clients requests) report → total report ≡ pos 16000

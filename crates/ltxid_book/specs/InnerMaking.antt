@@ -10,10 +10,17 @@ use Rattle.ltxid_book.specs.meaning.Journal.{Committed}
 abbrev pub counted : Sessions → Committed → Sessions
 counted sessions c =
     let state = sessions.state c.ltxid.incarnation c.ltxid.session in
-    if is_forgotten sessions c.ltxid.incarnation then sessions else with_state sessions c.ltxid (record state { next = state.next + 1; completed = c.completed })
+    if is_forgotten sessions c.ltxid.incarnation then sessions else
+    with_state sessions c.ltxid (record state {
+      next = state.next + 1;
+      completed =
+          c.completed;
+    })
 
 -- its session is blocked, if this is its next identifier
 abbrev pub marked : Sessions → Ltxid → Sessions
 marked sessions x =
     let state = sessions.state x.incarnation x.session in
-    if is_forgotten sessions x.incarnation then sessions else (if x.number == state.next then with_state sessions x (record state { blocked = true }) else sessions)
+    if is_forgotten sessions x.incarnation then sessions else
+    (if x.number == state.next then with_state sessions x (record state { blocked = true }) else
+    sessions)

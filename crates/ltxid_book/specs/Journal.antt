@@ -6,4 +6,5 @@ use Rattle.ltxid_book.specs.meaning.Journal.{Committed, commits_of, is_blocked}
 
 -- each blocked identifier is its session's next one still: a block ends the session's commits
 abbrev pub BlocksStand : List Committed → List Ltxid → Type 0
-BlocksStand commits blocks = (x : Ltxid) → is_blocked blocks x ≡ true → x.number ≡ length (commits_of commits x.incarnation x.session)
+BlocksStand commits blocks = (x : Ltxid) → is_blocked blocks x ≡ true
+    → x.number ≡ length (commits_of commits x.incarnation x.session)

@@ -14,15 +14,24 @@ none_yet = record { horizon = 0; state = λ incarnation session. untouched }
 
 -- the identifier's session has this state, and each other session the one that it had
 abbrev pub with_state : Sessions → Ltxid → State → Sessions
-with_state sessions x state = record sessions { state = λ incarnation session. if is_of x incarnation session then state else sessions.state incarnation session }
+with_state sessions x state = record sessions {
+  state =
+      λ incarnation session. if is_of x incarnation session then state else
+      sessions.state incarnation session;
+}
 
 -- after a commit the session is at its next identifier, which is not blocked
 abbrev pub after_commit : Sessions → Ltxid → Bool → Sessions
-after_commit sessions x completed = with_state sessions x (record { next = x.number + 1; blocked = false; completed = completed })
+after_commit sessions x completed = with_state sessions x (record {
+  next = x.number + 1;
+  blocked = false;
+  completed = completed;
+})
 
 -- after a block the session is where it was, and its next identifier is blocked
 abbrev pub after_block : Sessions → Ltxid → Sessions
-after_block sessions x = with_state sessions x (record (sessions.state x.incarnation x.session) { blocked = true })
+after_block sessions x = with_state sessions x
+    (record (sessions.state x.incarnation x.session) { blocked = true })
 
 -- the sessions of all incarnations below this one are forgotten too
 abbrev pub after_forgetting : Sessions → ℕ → Sessions
@@ -37,7 +46,8 @@ pub record Contents : Type 0 where
 
 -- what it holds for a session, and else that the session is untouched
 abbrev pub state_in : List ((ℕ × ℕ) × State) → ℕ → ℕ → State
-state_in sessions incarnation session = unwrap_or (lookup (λ key. (incarnation == key.0) && (session == key.1)) sessions) untouched
+state_in sessions incarnation session = unwrap_or
+    (lookup (λ key. (incarnation == key.0) && (session == key.1)) sessions) untouched
 
 -- what it says
 abbrev pub sessions_in : Contents → Sessions

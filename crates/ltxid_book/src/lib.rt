@@ -56,7 +56,9 @@ impl Model for Book {
 
 // Lets go of the sessions of all incarnations below this one. Linear in the sessions.
 fn drop_below(sessions: &mut BTreeMap<(u64, u64), State>, below: u64)
-    ensures { (incarnation session : ℕ) → below ≤ incarnation → state_in sessions.new.entries incarnation session ≡ state_in sessions.old.entries incarnation session }
+    ensures { (incarnation session : ℕ) → below ≤ incarnation
+        → state_in sessions.new.entries incarnation session
+        ≡ state_in sessions.old.entries incarnation session }
 {
     sessions.retain(|key, _| key.0 >= below);
 }
@@ -80,7 +82,8 @@ impl Book {
         entries: &[Entry],
         blocked: &[Ltxid],
     ) -> Result<Book, NoMemory>
-        ensures { IfOk result (λ book. sessions_in book ≡ book_of horizon (map committed_of entries.now) blocked.now) }
+        ensures { IfOk result (λ book. sessions_in book
+            ≡ book_of horizon (map committed_of entries.now) blocked.now) }
     {
         let mut book = Book {
             horizon,
@@ -136,7 +139,8 @@ impl Book {
     pub fn commit(&mut self, x: &Ltxid, completed: bool) -> Result<(), NoMemory>
         requires parts { IsLtxid x.now }
         requires may { IsTrue (may_commit_def (sessions_in self.old) x.now) }
-        ensures ok { OnOk result (sessions_in self.new ≡ after_commit (sessions_in self.old) x.now completed) }
+        ensures ok { OnOk result (sessions_in self.new
+            ≡ after_commit (sessions_in self.old) x.now completed) }
         ensures err { OnErr result (self.new ≡ self.old) }
     {
         let state = State {
@@ -174,8 +178,10 @@ impl Book {
 
     // Counts a commit of the identifier's session, whatever its number.
     fn count(&mut self, x: &Ltxid, completed: bool) -> Result<(), NoMemory>
-        requires { ((sessions_in self.old).state x.now.incarnation x.now.session).next + 1 < 2 ^ 64 }
-        ensures { OnOk result (sessions_in self.new ≡ counted (sessions_in self.old) (record { ltxid = x.now; completed = completed })) }
+        requires { ((sessions_in self.old).state x.now.incarnation x.now.session).next + 1
+            < 2 ^ 64 }
+        ensures { OnOk result (sessions_in self.new
+            ≡ counted (sessions_in self.old) (record { ltxid = x.now; completed = completed })) }
     {
         if x.incarnation < self.horizon {
             return Ok(());

@@ -25,7 +25,8 @@ pub record IsEpoch (epoch : Epoch) : Type 0 where
 abbrev pub GoOn : List SeqState → List SeqState → Type 0
 GoOn [] [] = Unit {0}
 GoOn (before ∷ befores) (after ∷ afters) =
-    (after.name ≡ before.name) × IsTrue (int_le (before.upto +ℤ pos 1) after.next) × GoOn befores afters
+    (after.name ≡ before.name) × IsTrue (int_le (before.upto +ℤ pos 1) after.next)
+    × GoOn befores afters
 GoOn _ _ = ⊥
 
 -- A later opening has a later incarnation, and goes on behind the reservations of the one before. A

@@ -47,7 +47,8 @@ anew None (Some told) = value_in told.answer
 
 -- what was drawn anew in one call
 abbrev pub drawn_anew : Opening → Did → List Draw
-drawn_anew opening (Drew kept asked now) = anew (first_kept asked kept) (draw_of opening kept asked now)
+drawn_anew opening (Drew kept asked now) =
+    anew (first_kept asked kept) (draw_of opening kept asked now)
 drawn_anew opening (Reserved name upto) = []
 
 -- what was drawn anew over a list of calls, in order
@@ -80,4 +81,5 @@ counted first (suc more) = first ∷ counted (first +ℤ pos 1) more
 -- so many new identifiers of an incarnation, one after the other, behind those that were drawn
 abbrev pub identified : ℕ → ℕ → ℕ → List (List ℕ)
 identified incarnation before zero = []
-identified incarnation before (suc more) = identifier incarnation (before + 1) ∷ identified incarnation (before + 1) more
+identified incarnation before (suc more) =
+    identifier incarnation (before + 1) ∷ identified incarnation (before + 1) more

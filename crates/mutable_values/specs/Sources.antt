@@ -48,11 +48,13 @@ pub record HasRoom (opening : Opening) : Type 0 where
 -- the sequence of this name, if it is there
 abbrev pub sequence_of : List SeqState → List ℕ → Option SeqState
 sequence_of [] name = None
-sequence_of (sequence ∷ sequences) name = if bytes_eq sequence.name name then Some sequence else sequence_of sequences name
+sequence_of (sequence ∷ sequences) name =
+    if bytes_eq sequence.name name then Some sequence else sequence_of sequences name
 
 -- the sequences, that of this name changed
 abbrev pub changed : (SeqState → SeqState) → List ℕ → List SeqState → List SeqState
-changed change name sequences = map (λ sequence. if bytes_eq sequence.name name then change sequence else sequence) sequences
+changed change name sequences = map (λ sequence. if bytes_eq sequence.name name then
+    change sequence else sequence) sequences
 
 -- the first of the kept draws that is of the kind and name
 abbrev pub first_kept : DrawKind → List Draw → Option Draw
@@ -62,7 +64,8 @@ first_kept asked (one ∷ rest) = if is_of_kind asked one then Some one else fir
 -- the kept draws without that one
 abbrev pub without_first : DrawKind → List Draw → List Draw
 without_first asked [] = []
-without_first asked (one ∷ rest) = if is_of_kind asked one then rest else one ∷ without_first asked rest
+without_first asked (one ∷ rest) = if is_of_kind asked one then rest else one
+    ∷ without_first asked rest
 
 -- What a draw tells, and what is left of the opening and of the kept draws.
 pub record DrawnFrom : Type 0 where
@@ -82,24 +85,46 @@ next_value sequence = record sequence { next = sequence.next +ℤ pos 1 }
 abbrev pub new_value : Opening → List Draw → SeqState → DrawnFrom
 new_value opening kept sequence =
     if int_le sequence.next sequence.upto
-    then record { answer = drawn.Value (draw.Seq sequence.name sequence.next); opening = record opening { sequences = changed next_value sequence.name opening.sequences }; kept = kept }
-    else record { answer = drawn.Reserve sequence.name (sequence.upto +ℤ reservation_size); opening = opening; kept = kept }
+    then record {
+      answer = drawn.Value (draw.Seq sequence.name sequence.next);
+      opening = record opening { sequences = changed next_value sequence.name opening.sequences };
+      kept = kept;
+    }
+    else record {
+      answer = drawn.Reserve sequence.name (sequence.upto +ℤ reservation_size);
+      opening = opening;
+      kept = kept;
+    }
 
 -- A new draw: the next value of the sequence, if it is there; the tick; the identifier after the
 -- last.
 abbrev pub new_draw : Opening → List Draw → DrawKind → ℕ → Option DrawnFrom
-new_draw opening kept (kind.Seq name) now = option_map (new_value opening kept) (sequence_of opening.sequences name)
-new_draw opening kept kind.Clock now = Some (record { answer = drawn.Value (draw.Clock now); opening = opening; kept = kept })
-new_draw opening kept kind.Id now = Some (record { answer = drawn.Value (draw.Id (identifier opening.incarnation (opening.identifiers + 1))); opening = record opening { identifiers = opening.identifiers + 1 }; kept = kept })
+new_draw opening kept (kind.Seq name) now =
+    option_map (new_value opening kept) (sequence_of opening.sequences name)
+new_draw opening kept kind.Clock now = Some (record {
+  answer = drawn.Value (draw.Clock now);
+  opening = opening;
+  kept = kept;
+})
+new_draw opening kept kind.Id now = Some (record {
+  answer = drawn.Value (draw.Id (identifier opening.incarnation (opening.identifiers + 1)));
+  opening = record opening { identifiers = opening.identifiers + 1 };
+  kept = kept;
+})
 
 abbrev pub draw_from : Option Draw → Opening → List Draw → DrawKind → ℕ → Option DrawnFrom
-draw_from (Some one) opening kept asked now = Some (record { answer = drawn.Value one; opening = opening; kept = without_first asked kept })
+draw_from (Some one) opening kept asked now = Some (record {
+  answer = drawn.Value one;
+  opening = opening;
+  kept = without_first asked kept;
+})
 draw_from None opening kept asked now = new_draw opening kept asked now
 
 -- A draw: none where a sequence is asked for that is not there, else the first kept one, else a new
 -- one.
 unfoldable pub draw_of : Opening → List Draw → DrawKind → ℕ → Option DrawnFrom
-draw_of opening kept asked now = if is_there (names_of opening.sequences) asked then draw_from (first_kept asked kept) opening kept asked now else None
+draw_of opening kept asked now = if is_there (names_of opening.sequences) asked then
+    draw_from (first_kept asked kept) opening kept asked now else None
 
 -- it may be reserved: the sequence is there, and this is where its next reservation ends
 abbrev pub ends_next : Option SeqState → ℤ → Bool
@@ -111,4 +136,7 @@ may_reserve opening name upto = ends_next (sequence_of opening.sequences name) u
 
 -- the sequence goes up to the end of the reservation
 abbrev pub reserved_to : Opening → List ℕ → ℤ → Opening
-reserved_to opening name upto = record opening { sequences = changed (λ sequence. record sequence { upto = upto }) name opening.sequences }
+reserved_to opening name upto = record opening {
+  sequences =
+      changed (λ sequence. record sequence { upto = upto }) name opening.sequences;
+}

@@ -105,7 +105,12 @@ impl Model for Source {
 
     ghost Value = { Opening };
 
-    ghost view = { λ s. record { incarnation = s.incarnation; identifiers = s.identifiers; sequences = s.sequences.items } };
+    ghost view = { λ s. record {
+      incarnation = s.incarnation;
+      identifiers =
+          s.identifiers;
+      sequences = s.sequences.items;
+    } };
 
     ghost invariant = { λ s. IsTrue (are_sequences s.sequences.items) };
 }
@@ -114,7 +119,12 @@ impl Source {
     /// The source of an opening in which nothing was drawn yet. It takes no memory.
     pub fn new(incarnation: u64, sequences: Vec<SeqState>) -> Source
         requires { IsTrue (are_sequences sequences.items) }
-        ensures { result ≡ record { incarnation = incarnation; identifiers = 0; sequences = sequences.items } }
+        ensures { result ≡ record {
+          incarnation = incarnation;
+          identifiers = 0;
+          sequences =
+              sequences.items;
+        } }
     {
         Source {
             incarnation,
@@ -202,8 +212,10 @@ impl Source {
         now: u64,
     ) -> Result<Drawn, DrawFault>
         requires { HasRoom self.old }
-        ensures drawn { IfOk result (λ answer. draw_of self.old kept.old kind.now now ≡ Some (record { answer = answer; opening = self.new; kept = kept.new })) }
-        ensures none { IsErrOf result DrawFault.NoSequence ↔ (draw_of self.old kept.old kind.now now ≡ None) }
+        ensures drawn { IfOk result (λ answer. draw_of self.old kept.old kind.now now
+            ≡ Some (record { answer = answer; opening = self.new; kept = kept.new })) }
+        ensures none { IsErrOf result DrawFault.NoSequence
+            ↔ (draw_of self.old kept.old kind.now now ≡ None) }
         ensures err { OnErr result ((self.new ≡ self.old) × (kept.new ≡ kept.old)) }
     {
         if !self.is_there(kind) {
@@ -232,7 +244,8 @@ impl Source {
 
     /// The place of the sequence of this name.
     fn place(&self, name: &Name) -> Option<usize>
-        ensures { result ≡ position (λ sequence. bytes_eq sequence.name name.now) self.now.sequences }
+        ensures { result ≡ position (λ sequence. bytes_eq sequence.name name.now)
+            self.now.sequences }
     {
         self.sequences
             .iter()
@@ -242,8 +255,11 @@ impl Source {
     /// A new value of the sequence, where it lies in the reservation. Past it another is asked for.
     fn next_value(&mut self, name: &Name) -> Result<Drawn, DrawFault>
         requires { HasRoom self.old }
-        ensures drawn { IfOk result (λ answer. (kept : List One) → new_draw self.old kept (kind.Seq name.now) 0 ≡ Some (record { answer = answer; opening = self.new; kept = kept })) }
-        ensures none { IsErrOf result DrawFault.NoSequence ↔ (sequence_of self.old.sequences name.now ≡ None) }
+        ensures drawn { IfOk result (λ answer. (kept : List One)
+            → new_draw self.old kept (kind.Seq name.now) 0
+            ≡ Some (record { answer = answer; opening = self.new; kept = kept })) }
+        ensures none { IsErrOf result DrawFault.NoSequence
+            ↔ (sequence_of self.old.sequences name.now ≡ None) }
         ensures err { OnErr result (self.new ≡ self.old) }
     {
         let Some(at) = self.place(name) else {
@@ -262,7 +278,8 @@ impl Source {
     /// A new identifier value: the one after the last.
     fn next_identifier(&mut self) -> Draw
         requires { self.old.identifiers < 2 ^ 60 }
-        ensures given { result ≡ draw.Id (identifier_def self.old.incarnation (self.old.identifiers + 1)) }
+        ensures given { result ≡ draw.Id
+            (identifier_def self.old.incarnation (self.old.identifiers + 1)) }
         ensures counted { self.new ≡ record self.old { identifiers = self.old.identifiers + 1 } }
     {
         self.identifiers += 1;

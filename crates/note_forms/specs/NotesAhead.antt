@@ -23,12 +23,15 @@ AreLeft Such depth ts rest = (ds : Items) × (items_ahead depth ts ≡ Some (ds,
 
 -- behind the word of a note: the whole is read as this
 abbrev pub Ends : (Data → Result Note Fault) → ℕ → List Token → Note → List Token → Type 0
-Ends read depth ts one rest = AreLeft (λ ds. (word : Data) → read (array (item word ds)) ≡ Ok one) depth ts rest
+Ends read depth ts one rest = AreLeft (λ ds. (word : Data)
+    → read (array (item word ds)) ≡ Ok one) depth ts rest
 
 -- behind the first three items of a note: all of them are read as this
-abbrev pub EndsBehind : {A : Type 0} → (Items → Result A Fault) → ℕ → List Token → A → List Token → Type 0
+abbrev pub EndsBehind : {A : Type 0} → (Items → Result A Fault) → ℕ → List Token → A → List Token
+    → Type 0
 EndsBehind read depth ts x rest =
-    AreLeft (λ ds. (note first word : Data) → read (item note (item first (item word ds))) ≡ Ok x) depth ts rest
+    AreLeft (λ ds. (note first word : Data) → read (item note (item first (item word ds))) ≡ Ok x)
+    depth ts rest
 
 -- what a client's step did, by its word, in a note of these items
 abbrev pub did_in : GoWord → Items → Result GoNote Fault
@@ -46,5 +49,6 @@ told_in w ds = if_count (3 + asked_behind w) (items_len ds) >>= λ _. asked_by w
 -- behind them
 abbrev pub AreSent : ℕ → ℕ → ℕ → List Token → List Token → Type 0
 AreSent sent k depth ts rest =
-    (d : Data) × (e : Data) × (items_ahead depth ts ≡ Some (item d (item e no_items), rest)) × (number_in d ≡ Ok k)
+    (d : Data) × (e : Data) × (items_ahead depth ts ≡ Some (item d (item e no_items), rest))
+    × (number_in d ≡ Ok k)
     × (x : ℕ) × (whole_of sent sent e ≡ Ok x)

@@ -22,7 +22,8 @@ abbrev pub ends_rolled_back : List Answer → Bool
 ends_rolled_back answers = ends_with is_rolled_back answers
 
 abbrev pub fit_call : Bool → Call → List Answer → Bool
-fit_call marked called answers = same_bool (ends_rolled_back answers) (is_rollback called) && implies (ends_committed answers) (not marked && has_commit called)
+fit_call marked called answers = same_bool (ends_rolled_back answers) (is_rollback called)
+    && implies (ends_committed answers) (not marked && has_commit called)
 
 abbrev pub ends_fittingly : Item → Bool
 ends_fittingly (item.Call marked called answers draws) = fit_call marked called answers

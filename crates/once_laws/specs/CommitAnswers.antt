@@ -23,7 +23,8 @@ use Rattle.world_model.specs.Traced.{Traced}
 
 -- by its mark, what it is, and its answers
 abbrev pub fit_commit : Bool → Call → List Answer → Bool
-fit_commit marked called answers = implies (ends_with is_no_commit answers) marked && implies (is_lone_commit called) (length answers == 1)
+fit_commit marked called answers = implies (ends_with is_no_commit answers) marked
+    && implies (is_lone_commit called) (length answers == 1)
 
 abbrev pub commits_fittingly : Item → Bool
 commits_fittingly (item.Call marked called answers draws) = fit_commit marked called answers
@@ -40,7 +41,8 @@ commit_fittingly t = list_all all_commit_fittingly t.machine.links
 
 -- a piece whose call is a commit with no statement
 abbrev pub commits_alone : Piece → Bool
-commits_alone piece = implies (is_lone_commit piece.call) (same_answers piece.answers (answer.Committed ∷ []) && (length piece.draws == 0))
+commits_alone piece = implies (is_lone_commit piece.call)
+    (same_answers piece.answers (answer.Committed ∷ []) && (length piece.draws == 0))
 
 -- the last piece of an entry is that of the call that stored it
 abbrev pub stores_alone : Entry → Bool

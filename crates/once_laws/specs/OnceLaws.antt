@@ -20,16 +20,20 @@ use Rattle.run_clauses.specs.meaning.Stored.{kept_by, outcomes_stored}
 abbrev pub ReportsAreOnce : Type 0
 ReportsAreOnce =
     (document : Document) (report : Report) (seen : Seen) (t : Traced) (server : Server)
-    → IsTrue (all_requests_right document) → IsReported document report seen t server → IsTrue (once document report)
+    → IsTrue (all_requests_right document) → IsReported document report seen t server
+    → IsTrue (once document report)
 
 -- The lists of `tried` that a run ends with are those of the rule of run_clauses, by the sendings
 -- that the steps of each request tell.
 abbrev pub RunsTellTried : Type 0
-RunsTellTried = (document : Document) (notes : List Note) (items : List Served) (seen : Seen) (t : Traced) → IsTrue (all_requests_right document) → IsRun document notes items seen t → IsTrue (tell_tried t)
+RunsTellTried = (document : Document) (notes : List Note) (items : List Served) (seen : Seen)
+    (t : Traced) → IsTrue (all_requests_right document) → IsRun document notes items seen t
+    → IsTrue (tell_tried t)
 
 -- Each outcome that a client was told is the stored one, where the requests of the document are
 -- right.
 abbrev pub OutcomesAreStored : Type 0
 OutcomesAreStored =
     (document : Document) (report : Report) (seen : Seen) (t : Traced) (server : Server)
-    → IsTrue (all_requests_right document) → IsReported document report seen t server → IsTrue (outcomes_stored (kept_by document report) report)
+    → IsTrue (all_requests_right document) → IsReported document report seen t server
+    → IsTrue (outcomes_stored (kept_by document report) report)

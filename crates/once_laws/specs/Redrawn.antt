@@ -25,28 +25,35 @@ use Rattle.world_model.specs.Words.{held_in}
 -- were shown, in order.
 abbrev pub redraws : (Draw → Bool) → Course → Sent → Item → Bool
 redraws granted course sent (item.Call true call answers draws) =
-    option_map_or (λ shown. implies (same_answers answers shown.answers) (same_draws (filter granted draws) (filter granted shown.draws))) (slice_get course.report.calls sent.call) true
+    option_map_or (λ shown. implies (same_answers answers shown.answers)
+    (same_draws (filter granted draws) (filter granted shown.draws)))
+    (slice_get course.report.calls sent.call) true
 redraws granted course sent one = true
 
 -- of a request, on a connection
 abbrev pub one_redraws : (Draw → Bool) → Course → Handled → Bool
-one_redraws granted course one = implies (owned_by course.owner one.sent) (redraws granted course one.sent one.served.item)
+one_redraws granted course one = implies (owned_by course.owner one.sent)
+    (redraws granted course one.sent one.served.item)
 
 abbrev pub redraws_on : (Draw → Bool) → Course → Link → Bool
 redraws_on granted course link = list_all (one_redraws granted course) link.served
 
 -- on each connection that it held
 abbrev pub repeats_redraw : (Draw → Bool) → Traced → Bool
-repeats_redraw granted t = list_all (λ course. list_all (test_at t (redraws_on granted course)) (held_in course.steps)) (courses_of t)
+repeats_redraw granted t = list_all (λ course. list_all (test_at t (redraws_on granted course))
+    (held_in course.steps)) (courses_of t)
 
 -- Wherever a run has come to, each repeated call drew so.
 abbrev pub RepeatsRedraw : Type 0
 RepeatsRedraw =
-    (document : Document) (events : List Event) (notes : List Note) (items : List Served) (seen : Seen) (t : Traced)
-    → IsTrue (all_requests_right document) → Reached document events notes items seen t → IsTrue (repeats_redraw (granted_by document) t)
+    (document : Document) (events : List Event) (notes : List Note) (items : List Served)
+    (seen : Seen) (t : Traced)
+    → IsTrue (all_requests_right document) → Reached document events notes items seen t
+    → IsTrue (repeats_redraw (granted_by document) t)
 
 -- and at the end of a whole run
 abbrev pub WholeRepeatsRedraw : Type 0
 WholeRepeatsRedraw =
     (document : Document) (notes : List Note) (items : List Served) (seen : Seen) (t : Traced)
-    → IsTrue (all_requests_right document) → IsRun document notes items seen t → IsTrue (repeats_redraw (granted_by document) t)
+    → IsTrue (all_requests_right document) → IsRun document notes items seen t
+    → IsTrue (repeats_redraw (granted_by document) t)

@@ -21,16 +21,19 @@ use Rattle.world_model.specs.Traced.{Traced, Course, courses_of}
 
 -- a call was shown with these answers and draws, and with the identifier behind it
 abbrev pub is_as_told : List Answer → List Draw → Ltxid → ShownCall → Bool
-is_as_told answers draws x shown = same_answers answers shown.answers && (same_draws draws shown.draws && same_ltxid x shown.ltxid)
+is_as_told answers draws x shown = same_answers answers shown.answers
+    && (same_draws draws shown.draws && same_ltxid x shown.ltxid)
 
 -- the reply to the call of this index was shown, where the call had no mark
 abbrev pub shows_reply : List ShownCall → ℕ → Up → Down → Bool
-shows_reply shown index (up.Call false kept call) (down.Reply answers draws x) = option_map_or (is_as_told answers draws x) (slice_get shown index) false
+shows_reply shown index (up.Call false kept call) (down.Reply answers draws x) =
+    option_map_or (is_as_told answers draws x) (slice_get shown index) false
 shows_reply shown index frame reply = true
 
 -- where the request sent it
 abbrev pub is_shown_reply : Course → Reply → Bool
-is_shown_reply course reply = implies (owned_by course.owner reply.to) (shows_reply course.report.calls reply.to.call reply.to.frame reply.frame)
+is_shown_reply course reply = implies (owned_by course.owner reply.to)
+    (shows_reply course.report.calls reply.to.call reply.to.frame reply.frame)
 
 -- all that was taken on a connection
 abbrev pub shows_taken : Course → Link → Bool

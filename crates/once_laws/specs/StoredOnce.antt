@@ -19,7 +19,8 @@ use Rattle.world_model.specs.Traced.{Traced}
 -- was stopped by its entry
 abbrev pub goes : Bool → ItemTold → Bool → Bool
 goes stood (item.Begin settings) later = false
-goes stood (item.Call marked called answers draws) later = if ends_committed answers then true else (if ends answers then false else later)
+goes stood (item.Call marked called answers draws) later =
+    if ends_committed answers then true else (if ends answers then false else later)
 goes stood (item.CrashedCall marked called) later = stood
 goes stood _ later = later
 
@@ -35,7 +36,9 @@ is_call _ = false
 -- the calls of transactions that were stored
 abbrev pub stored_of : Bool → List Handled → List Handled
 stored_of stood [] = []
-stored_of stood (one ∷ others) = if is_call one.served.item && is_stored_next stood (one ∷ others) then one ∷ stored_of stood others else stored_of stood others
+stored_of stood (one ∷ others) = if is_call one.served.item
+    && is_stored_next stood (one ∷ others) then one ∷ stored_of stood others else stored_of
+    stood others
 
 -- what a call was given; one that was stopped these
 abbrev pub given_in : List Draw → ItemTold → List Draw
@@ -59,10 +62,12 @@ abbrev pub stored_call : List Draw → Handled → StoredCall
 stored_call stopped one = record { one = one; draws = given_to stopped one }
 
 abbrev pub are_apart : StoredCall → StoredCall → Bool
-are_apart a b = not (same_owners a.one.sent.owner b.one.sent.owner && (a.one.sent.call == b.one.sent.call))
+are_apart a b = not (same_owners a.one.sent.owner b.one.sent.owner
+    && (a.one.sent.call == b.one.sent.call))
 
 abbrev pub stored_on : Traced → Link → List StoredCall
-stored_on t link = map (stored_call (stopped_draws t link.held)) (stored_of (stood_in t link.held) link.served)
+stored_on t link = map (stored_call (stopped_draws t link.held))
+    (stored_of (stood_in t link.held) link.served)
 
 -- the calls of connections that are of transactions that were stored
 abbrev pub stored_calls : Traced → List StoredCall

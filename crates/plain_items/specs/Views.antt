@@ -11,7 +11,8 @@ use Rattle.shown_clauses.specs.meaning.Things.{outcome_of}
 abbrev pub thing_as : ThingAt → Thing
 thing_as thing.Connected = Connected
 thing_as (thing.Began settings) = Began (option_map_or (λ one. one.now) settings [])
-thing_as (thing.Called replay kept call answers draws) = Called replay kept.now call.now answers.now draws.now
+thing_as (thing.Called replay kept call answers draws) =
+    Called replay kept.now call.now answers.now draws.now
 thing_as (thing.MetBlock replay call) = MetBlock replay call.now
 thing_as (thing.ToldOutcome x told) = TellsOutcome x (outcome_of told)
 thing_as thing.EndedRequest = EndedRequest

@@ -5,8 +5,10 @@ use Rattle.pool_core.specs.History.{Did, Took, Opened, GaveBack, Lost, Gone, Lef
 
 -- the pool gives this answer and stands so afterwards
 abbrev pub Step : Slots → Did → Slots → Type 0
-Step slots (Took client answer) next = (answer ≡ take_answer slots client) × (next ≡ after_take slots client)
-Step slots (Opened connection) next = (slots.opened < connection) × (next ≡ after_opened slots connection)
+Step slots (Took client answer) next = (answer ≡ take_answer slots client)
+    × (next ≡ after_take slots client)
+Step slots (Opened connection) next = (slots.opened < connection)
+    × (next ≡ after_opened slots connection)
 Step slots (GaveBack connection answer) next =
     (0 < slots.lent) × (connection ≤ slots.opened) × (is_among connection slots.idle ≡ false)
     × (answer ≡ give_back_answer slots connection) × (next ≡ after_give_back slots connection)

@@ -31,7 +31,15 @@ impl Model for Pool {
 
     ghost Value = { Slots };
 
-    ghost view = { λ p. record { max = p.max; lent = p.lent; queue = p.queue.items; idle = p.idle.items; opened = p.opened; drained = p.drained } };
+    ghost view = { λ p. record {
+      max = p.max;
+      lent = p.lent;
+      queue = p.queue.items;
+      idle =
+          p.idle.items;
+      opened = p.opened;
+      drained = p.drained;
+    } };
 
     ghost invariant = { λ p. p.lent + length p.idle.items ≤ p.max };
 }
@@ -78,7 +86,8 @@ impl Pool {
     pub fn take(&mut self, client: u64) -> Result<Take, NoMemory>
         ensures answer { IfOk result (λ take. take ≡ take_answer self.old client) }
         ensures after { OnOk result (self.new ≡ after_take self.old client) }
-        ensures memory { OnErr result (IsTrue (has_to_wait self.old client) × (is_among client self.old.queue ≡ false)) }
+        ensures memory { OnErr result (IsTrue (has_to_wait self.old client)
+            × (is_among client self.old.queue ≡ false)) }
         ensures err { OnErr result (self.new ≡ self.old) }
     {
         let ahead = ahead_of(&self.queue, client);

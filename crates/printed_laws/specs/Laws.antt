@@ -13,22 +13,28 @@ use Rattle.shown_clauses.specs.meaning.Legal.{legal_of}
 use Rattle.shown_clauses.specs.meaning.Whole.{whole}
 
 abbrev pub SerialSeesNoWrites : Type 0
-SerialSeesNoWrites = (document : Document) (r : Report) → serial document (shown_report r) ≡ serial document r
+SerialSeesNoWrites = (document : Document) (r : Report)
+    → serial document (shown_report r) ≡ serial document r
 
 abbrev pub FreshSeesNoWrites : Type 0
 FreshSeesNoWrites = (r : Report) → fresh (shown_report r) ≡ fresh r
 
 abbrev pub LegalSeesNoWrites : Type 0
-LegalSeesNoWrites = (document : Document) (r : Report) → legal_of document (shown_report r) ≡ legal_of document r
+LegalSeesNoWrites = (document : Document) (r : Report)
+    → legal_of document (shown_report r) ≡ legal_of document r
 
 abbrev pub OnceSeesNoWrites : Type 0
-OnceSeesNoWrites = (document : Document) (r : Report) → once document (shown_report r) ≡ once document r
+OnceSeesNoWrites = (document : Document) (r : Report)
+    → once document (shown_report r) ≡ once document r
 
 abbrev pub SameSeesNoWrites : Type 0
-SameSeesNoWrites = (document : Document) (r : Report) → same document (shown_report r) ≡ same document r
+SameSeesNoWrites = (document : Document) (r : Report)
+    → same document (shown_report r) ≡ same document r
 
 abbrev pub StoredSeesNoWrites : Type 0
-StoredSeesNoWrites = (document : Document) (r : Report) → stored document (shown_report r) ≡ stored document r
+StoredSeesNoWrites = (document : Document) (r : Report)
+    → stored document (shown_report r) ≡ stored document r
 
 abbrev pub WholeSeesNoWrites : Type 0
-WholeSeesNoWrites = (document : Document) (r : Report) → whole document (shown_report r) ≡ whole document r
+WholeSeesNoWrites = (document : Document) (r : Report)
+    → whole document (shown_report r) ≡ whole document r

@@ -18,5 +18,7 @@ line_of status.NoMemory = ended (codes "continuity: no memory")
 line_of status.Words = ended (codes "continuity: words")
 line_of status.Read = ended (codes "continuity: read")
 line_of status.Write = ended (codes "continuity: write")
-line_of (status.Document code path) = ended (codes "continuity: document: " ++ decimal (number_of code) ++ codes " at " ++ path)
-line_of (status.No one path) = ended (codes "continuity: check: " ++ word_of one ++ codes " at " ++ path)
+line_of (status.Document code path) = ended (codes "continuity: document: "
+    ++ decimal (number_of code) ++ codes " at " ++ path)
+line_of (status.No one path) = ended (codes "continuity: check: " ++ word_of one ++ codes " at "
+    ++ path)

@@ -20,11 +20,15 @@ fits_operand _ = true
 
 -- names are names, and an insert has 1 to 8 operands
 abbrev pub fits_statement : Statement → Bool
-fits_statement (statement.Insert table values) = is_name table && ((nat_le 1 (length values) && nat_le (length values) 8) && list_all fits_operand values)
-fits_statement (statement.Update table key column by) = is_name table && (fits_operand key && (is_name column && fits_operand (changing by)))
+fits_statement (statement.Insert table values) =
+    is_name table && ((nat_le 1 (length values) && nat_le (length values) 8)
+    && list_all fits_operand values)
+fits_statement (statement.Update table key column by) =
+    is_name table && (fits_operand key && (is_name column && fits_operand (changing by)))
 fits_statement (statement.Delete table key) = is_name table && fits_operand key
 fits_statement (statement.Get table key) = is_name table && fits_operand key
-fits_statement (statement.Select table column compared o) = is_name table && (is_name column && fits_operand o)
+fits_statement (statement.Select table column compared o) =
+    is_name table && (is_name column && fits_operand o)
 fits_statement (statement.Count table) = is_name table
 fits_statement (statement.Sum table column) = is_name table && is_name column
 fits_statement (statement.Show o) = fits_operand o

@@ -12,13 +12,16 @@ use Rattle.reading_laws.specs.Reports.{IsOfForm}
 -- read of what is written of it, but for the writes of its entries.
 abbrev pub ReadsWhatIsWritten : Type 0
 ReadsWhatIsWritten =
-    (document : Document) (r : Report) → IsOfForm r → is_some r.image ≡ document.print_image → report_of document (report_value r) ≡ Ok (shown_report r)
+    (document : Document) (r : Report) → IsOfForm r → is_some r.image ≡ document.print_image
+    → report_of document (report_value r) ≡ Ok (shown_report r)
 
 -- Whatever is read of what is written of a report is that report, but for the writes of its
 -- entries.
 abbrev pub ReadsNothingElse : Type 0
-ReadsNothingElse = (document : Document) (r other : Report) → report_of document (report_value r) ≡ Ok other → other ≡ shown_report r
+ReadsNothingElse = (document : Document) (r other : Report)
+    → report_of document (report_value r) ≡ Ok other → other ≡ shown_report r
 
 -- each report that was read has the form
 abbrev pub ReadsOnlyTheForm : Type 0
-ReadsOnlyTheForm = (document : Document) (d : Data) (r : Report) → report_of document d ≡ Ok r → IsOfForm r
+ReadsOnlyTheForm = (document : Document) (d : Data) (r : Report) → report_of document d ≡ Ok r
+    → IsOfForm r

@@ -21,7 +21,8 @@ abbrev pub fits_piece : Piece → Bool
 fits_piece piece = fits_call piece.call && fits_replies piece.answers piece.draws
 
 abbrev pub fits_entry : Entry → Bool
-fits_entry entry = fits_identifier entry.ltxid && (fits_settings entry.settings && list_all fits_piece entry.pieces)
+fits_entry entry = fits_identifier entry.ltxid
+    && (fits_settings entry.settings && list_all fits_piece entry.pieces)
 
 -- ---- served items
 

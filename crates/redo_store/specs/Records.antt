@@ -15,7 +15,8 @@ payload_in made = drop 8 made
 -- the bytes of open records with these payloads
 abbrev pub spelling_of : List (List ℕ) → List ℕ
 spelling_of [] = []
-spelling_of (payload ∷ payloads) = 1 ∷ length_bytes (length payload) ++ payload ++ spelling_of payloads
+spelling_of (payload ∷ payloads) = 1 ∷ length_bytes (length payload) ++ payload
+    ++ spelling_of payloads
 
 -- the records with one more, last
 abbrev pub with_last : List ℕ → Result (List (List ℕ)) ℕ → Result (List (List ℕ)) ℕ

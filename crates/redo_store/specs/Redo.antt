@@ -33,5 +33,6 @@ pub record CanAppend (redo : Redo) (disk : DiskState) : Type 0 where
 abbrev pub StoreGoesOn : Result (Unit {0}) RedoFault → Redo → Redo → DiskState → Type 0
 StoreGoesOn (Ok done) old new disk = CanAppend new disk
 StoreGoesOn (Err NoMemory) old new disk = CanAppend new disk
-StoreGoesOn (Err Stopped) old new disk = IsFalse (is_live new) × (count_of new ≡ count_of old) × (tail_of new ≡ tail_of old)
+StoreGoesOn (Err Stopped) old new disk = IsFalse (is_live new) × (count_of new ≡ count_of old)
+    × (tail_of new ≡ tail_of old)
 StoreGoesOn (Err (Damaged place)) old new disk = ⊥

@@ -15,4 +15,5 @@ pub record IsStore (tail : ℕ) (image : List ℕ) : Type 0 where
 
 -- the image has the records of the old one, or these with the payload last
 abbrev pub IsOldOrNew : List ℕ → List ℕ → List ℕ → Type 0
-IsOldOrNew old payload image = (records_of image ≡ records_of old) ⊎ (records_of image ≡ with_last payload (records_of old))
+IsOldOrNew old payload image = (records_of image ≡ records_of old) ⊎
+    (records_of image ≡ with_last payload (records_of old))

@@ -26,7 +26,8 @@ pub record StandsBehind (place : ℕ) (done : List (List ℕ)) (image : List ℕ
 
 -- in the image the records of the old one stand first, and end at the place where they did
 abbrev pub KeepsFront : (place : ℕ) → (old image : List ℕ) → Type 0
-KeepsFront place old image = (done : List (List ℕ)) → records_of old ≡ Ok done → StandsBehind place done image
+KeepsFront place old image = (done : List (List ℕ)) → records_of old ≡ Ok done
+    → StandsBehind place done image
 
 -- the walk stands at the gate behind these records of the image, which it has gone over and counted
 pub record HasRead (walk : Walk) (done : List (List ℕ)) (image : List ℕ) : Type 0 where

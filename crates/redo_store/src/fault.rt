@@ -25,7 +25,8 @@ pub enum RedoFault {
 impl From<DiskFault> for RedoFault {
     ghost use Rattle.redo_store.specs.declared.fault.RedoFault.{RedoFault};
 
-    ghost from_gives = { λ fault e. (fault ≡ DiskFault.Failed → e ≡ RedoFault.Stopped) × (fault ≡ DiskFault.NoMemory → e ≡ RedoFault.NoMemory) };
+    ghost from_gives = { λ fault e. (fault ≡ DiskFault.Failed → e ≡ RedoFault.Stopped)
+        × (fault ≡ DiskFault.NoMemory → e ≡ RedoFault.NoMemory) };
 
     fn from(fault: DiskFault) -> Self {
         match fault {

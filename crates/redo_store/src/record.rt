@@ -44,7 +44,8 @@ pub fn made_of(alloc: Global, payload: &[u8]) -> Result<Vec<u8>, AllocError>
 #[tactic(auto, unfolding(crate::specs::Records::length_bytes))]
 pub fn body_of(mut made: Vec<u8>) -> Result<Vec<u8>, AllocError>
     requires room { 8 ≤ length made.items }
-    ensures body { IfOk result (λ body. body.items ≡ length_bytes (length (payload_in made.items)) ++ payload_in made.items ++ 0 ∷ []) }
+    ensures body { IfOk result (λ body. body.items ≡ length_bytes (length (payload_in made.items))
+        ++ payload_in made.items ++ 0 ∷ []) }
     ensures short { OnOk result (length (payload_in made.items) < 2 ^ 64) }
 {
     let spelling = (made.len() as u64 - 8).to_be_bytes();
@@ -65,9 +66,11 @@ fn length_in(spelling: &[u8; 8]) -> u64
 // Reads what the bytes begin with.
 pub fn check_magic<D: Disk>(disk: &mut D) -> Result<(), RedoFault>
     ensures magic { OnOk result (take 8 (D.state disk.old).now.seen ≡ magic) }
-    ensures damaged { (place : ℕ) → IsErrOf result (RedoFault.Damaged place) → (place ≡ 0) × (take 8 (D.state disk.old).now.seen ≡ magic → ⊥) }
+    ensures damaged { (place : ℕ) → IsErrOf result (RedoFault.Damaged place)
+        → (place ≡ 0) × (take 8 (D.state disk.old).now.seen ≡ magic → ⊥) }
     ensures no_memory { IsErrOf result RedoFault.NoMemory → ⊥ }
-    ensures only_reads { OnlyReads (IsErrOf result RedoFault.Stopped) (D.state disk.old) (D.state disk.new) }
+    ensures only_reads { OnlyReads (IsErrOf result RedoFault.Stopped) (D.state disk.old)
+        (D.state disk.new) }
 {
     let mut front = [0; 8];
     if disk.size() < 8 {
@@ -94,8 +97,10 @@ pub fn payload_at<D: Disk>(
         (HasClosedGate place (D.state disk.old).now.seen)
         (λ payload. HasRecord place payload.items (D.state disk.old).now.seen)) }
     ensures damaged { (at : ℕ) → IsErrOf result (RedoFault.Damaged at)
-        → (at ≡ place) × (records_from place 0 (drop place (D.state disk.old).now.seen) ≡ Err place) × (whole_from 0 (drop place (D.state disk.old).now.seen) ≡ []) }
-    ensures only_reads { OnlyReads (IsErrOf result RedoFault.Stopped) (D.state disk.old) (D.state disk.new) }
+        → (at ≡ place) × (records_from place 0 (drop place (D.state disk.old).now.seen) ≡ Err place)
+        × (whole_from 0 (drop place (D.state disk.old).now.seen) ≡ []) }
+    ensures only_reads { OnlyReads (IsErrOf result RedoFault.Stopped) (D.state disk.old)
+        (D.state disk.new) }
 {
     let rest = disk.size().saturating_sub(place);
     if rest == 0 {
@@ -131,7 +136,8 @@ fn read_short<D: Disk>(
     ensures bytes { IfOk result (λ bytes.
         bytes.items ≡ take count (drop place (D.state disk.old).now.seen)) }
     ensures whole { (at : ℕ) → IsErrOf result (RedoFault.Damaged at) → ⊥ }
-    ensures only_reads { OnlyReads (IsErrOf result RedoFault.Stopped) (D.state disk.old) (D.state disk.new) }
+    ensures only_reads { OnlyReads (IsErrOf result RedoFault.Stopped) (D.state disk.old)
+        (D.state disk.new) }
 {
     let mut piece = [0; SHORT];
     let part = &mut piece[..count];
@@ -153,7 +159,8 @@ fn read_pieces<D: Disk>(
     ensures bytes { IfOk result (λ bytes.
         bytes.items ≡ take count (drop place (D.state disk.old).now.seen)) }
     ensures whole { (at : ℕ) → IsErrOf result (RedoFault.Damaged at) → ⊥ }
-    ensures only_reads { OnlyReads (IsErrOf result RedoFault.Stopped) (D.state disk.old) (D.state disk.new) }
+    ensures only_reads { OnlyReads (IsErrOf result RedoFault.Stopped) (D.state disk.old)
+        (D.state disk.new) }
 {
     if 0 < count && count <= SHORT {
         return read_short(alloc, disk, place, count);

@@ -62,7 +62,8 @@ impl Redo {
         ensures settled { OnOk result (IsSettled (D.state disk.new)) }
         ensures refused { IsErrOf result RedoFault.NoMemory → D.state disk.new ≡ D.state disk.old }
         ensures stop { Lowers 2 result (D.state disk.old).stop (D.state disk.new).stop }
-        ensures cause { Caused (IsErrOf result RedoFault.Stopped) (D.state disk.old) (D.state disk.new) }
+        ensures cause { Caused (IsErrOf result RedoFault.Stopped) (D.state disk.old)
+            (D.state disk.new) }
         ensures whole { (place : ℕ) → IsErrOf result (RedoFault.Damaged place) → ⊥ }
     {
         write_durably(disk, 0, b"TGSTORE1\0")?;
@@ -74,13 +75,17 @@ impl Redo {
     /// It reads each record once, in calls of at most 4,096 bytes, and keeps nothing of the disk
     /// but the payloads: time and memory grow with the size of the records alone.
     pub fn open<D: Disk>(alloc: Global, disk: &mut D) -> Result<(Redo, Vec<Vec<u8>>), RedoFault>
-        ensures records { IfOk result (λ opened. records_of (D.state disk.old).now.seen ≡ Ok (map (λ payload. payload.items) opened.1.items)) }
+        ensures records { IfOk result (λ opened. records_of (D.state disk.old).now.seen
+            ≡ Ok (map (λ payload. payload.items) opened.1.items)) }
 
         // The place is that of the first gate with no whole record behind it, by the grammar of the
         // bytes.
-        ensures damaged { (place : ℕ) → IsErrOf result (RedoFault.Damaged place) → records_of (D.state disk.old).now.seen ≡ Err place }
-        ensures ready { IsSettled (D.state disk.old) → IfOk result (λ opened. CanAppend opened.0 (D.state disk.new)) }
-        ensures only_reads { OnlyReads (IsErrOf result RedoFault.Stopped) (D.state disk.old) (D.state disk.new) }
+        ensures damaged { (place : ℕ) → IsErrOf result (RedoFault.Damaged place)
+            → records_of (D.state disk.old).now.seen ≡ Err place }
+        ensures ready { IsSettled (D.state disk.old)
+            → IfOk result (λ opened. CanAppend opened.0 (D.state disk.new)) }
+        ensures only_reads { OnlyReads (IsErrOf result RedoFault.Stopped) (D.state disk.old)
+            (D.state disk.new) }
     {
         let mut walk = Walk::begin(alloc, disk)?;
         let records = walk.rest(disk)?;
@@ -118,8 +123,10 @@ impl Redo {
         ensures damaged { (at : ℕ) → IsErrOf result (RedoFault.Damaged at) → at ≡ gate }
         ensures damage { (at : ℕ) → IsErrOf result (RedoFault.Damaged at)
             → (done : List (List ℕ)) → StandsBehind gate done (D.state disk.old).now.seen
-            → (records_of (D.state disk.old).now.seen ≡ Err at) × (whole_records (D.state disk.old).now.seen ≡ done) }
-        ensures only_reads { OnlyReads (IsErrOf result RedoFault.Stopped) (D.state disk.old) (D.state disk.new) }
+            → (records_of (D.state disk.old).now.seen ≡ Err at)
+            × (whole_records (D.state disk.old).now.seen ≡ done) }
+        ensures only_reads { OnlyReads (IsErrOf result RedoFault.Stopped) (D.state disk.old)
+            (D.state disk.new) }
     {
         let Some(payload) = payload_at(alloc, disk, gate)? else {
             return Ok(None);
@@ -150,16 +157,20 @@ impl Redo {
         requires { CanAppend self.old (D.state disk.old) }
 
         // At Ok the record is there, last. For want of memory the records are as before.
-        ensures added { OnOk result (records_of (D.state disk.new).now.seen ≡ with_last payload.now (records_of (D.state disk.old).now.seen)) }
-        ensures refused { IsErrOf result RedoFault.NoMemory → records_of (D.state disk.new).now.seen ≡ records_of (D.state disk.old).now.seen }
+        ensures added { OnOk result (records_of (D.state disk.new).now.seen
+            ≡ with_last payload.now (records_of (D.state disk.old).now.seen)) }
+        ensures refused { IsErrOf result RedoFault.NoMemory
+            → records_of (D.state disk.new).now.seen ≡ records_of (D.state disk.old).now.seen }
 
         // A crash at any moment of the call leaves the old list of records, or this list with the
         // payload last. That the same is so of the time since it began, and of what a read gives
         // when it has ended, is `disk_model::laws::leaves`.
-        ensures any_moment { Meanwhile (D.state disk.old) (D.state disk.new) (IsOldOrNew (D.state disk.old).now.seen payload.now) }
+        ensures any_moment { Meanwhile (D.state disk.old) (D.state disk.new)
+            (IsOldOrNew (D.state disk.old).now.seen payload.now) }
 
         // And it leaves the old records where they stood.
-        ensures front { Meanwhile (D.state disk.old) (D.state disk.new) (KeepsFront (tail_of self.old) (D.state disk.old).now.seen) }
+        ensures front { Meanwhile (D.state disk.old) (D.state disk.new)
+            (KeepsFront (tail_of self.old) (D.state disk.old).now.seen) }
 
         // After Ok and NoMemory it goes on with its disk, where nothing is pending; after Stopped
         // it is to be opened again.
@@ -168,7 +179,8 @@ impl Redo {
         // It succeeds only with no stop or one of at least four; with either a quiet disk has no
         // fault.
         ensures stop { Lowers 4 result (D.state disk.old).stop (D.state disk.new).stop }
-        ensures cause { Caused (IsErrOf result RedoFault.Stopped) (D.state disk.old) (D.state disk.new) }
+        ensures cause { Caused (IsErrOf result RedoFault.Stopped) (D.state disk.old)
+            (D.state disk.new) }
     {
         let made = made_of(self.alloc, payload)?;
         self.append_made(disk, made)
@@ -184,16 +196,20 @@ impl Redo {
         requires ready { CanAppend self.old (D.state disk.old) }
 
         // At Ok the record is there, last. For want of memory the records are as before.
-        ensures added { OnOk result (records_of (D.state disk.new).now.seen ≡ with_last (payload_in made.items) (records_of (D.state disk.old).now.seen)) }
-        ensures refused { IsErrOf result RedoFault.NoMemory → records_of (D.state disk.new).now.seen ≡ records_of (D.state disk.old).now.seen }
+        ensures added { OnOk result (records_of (D.state disk.new).now.seen
+            ≡ with_last (payload_in made.items) (records_of (D.state disk.old).now.seen)) }
+        ensures refused { IsErrOf result RedoFault.NoMemory
+            → records_of (D.state disk.new).now.seen ≡ records_of (D.state disk.old).now.seen }
 
         // A crash at any moment of the call leaves the old list of records, or this list with the
         // payload last. That the same is so of the time since it began, and of what a read gives
         // when it has ended, is `disk_model::laws::leaves`.
-        ensures any_moment { Meanwhile (D.state disk.old) (D.state disk.new) (IsOldOrNew (D.state disk.old).now.seen (payload_in made.items)) }
+        ensures any_moment { Meanwhile (D.state disk.old) (D.state disk.new)
+            (IsOldOrNew (D.state disk.old).now.seen (payload_in made.items)) }
 
         // And it leaves the old records where they stood.
-        ensures front { Meanwhile (D.state disk.old) (D.state disk.new) (KeepsFront (tail_of self.old) (D.state disk.old).now.seen) }
+        ensures front { Meanwhile (D.state disk.old) (D.state disk.new)
+            (KeepsFront (tail_of self.old) (D.state disk.old).now.seen) }
 
         // After Ok and NoMemory it goes on with its disk, where nothing is pending; after Stopped
         // it is to be opened again.
@@ -202,7 +218,8 @@ impl Redo {
         // It succeeds only with no stop or one of at least four; with either a quiet disk has no
         // fault.
         ensures stop { Lowers 4 result (D.state disk.old).stop (D.state disk.new).stop }
-        ensures cause { Caused (IsErrOf result RedoFault.Stopped) (D.state disk.old) (D.state disk.new) }
+        ensures cause { Caused (IsErrOf result RedoFault.Stopped) (D.state disk.old)
+            (D.state disk.new) }
     {
         let body = body_of(made)?;
         if let Err(fault) = write_durably(disk, self.tail + 1, &body) {
@@ -218,8 +235,10 @@ impl Redo {
 
     // What the store answers where the disk refused it. After a failure it may not be added to.
     fn refusal(&mut self, fault: DiskFault) -> RedoFault
-        ensures stopped { fault ≡ DiskFault.Failed → (result ≡ RedoFault.Stopped) × (self.new.live ≡ false) }
-        ensures no_memory { fault ≡ DiskFault.NoMemory → (result ≡ RedoFault.NoMemory) × (self.new.live ≡ self.old.live) }
+        ensures stopped { fault ≡ DiskFault.Failed → (result ≡ RedoFault.Stopped)
+            × (self.new.live ≡ false) }
+        ensures no_memory { fault ≡ DiskFault.NoMemory → (result ≡ RedoFault.NoMemory)
+            × (self.new.live ≡ self.old.live) }
         ensures tail { self.new.tail ≡ self.old.tail }
         ensures count { self.new.count ≡ self.old.count }
     {
@@ -234,10 +253,12 @@ impl Redo {
 fn write_durably<D: Disk>(disk: &mut D, at: u64, bytes: &[u8]) -> Result<(), DiskFault>
     requires at { at ≤ length (D.state disk.old).now.seen }
     requires settled { IsSettled (D.state disk.old) }
-    ensures written { OnOk result ((D.state disk.new).now.seen ≡ with_bytes at bytes.now (D.state disk.old).now.seen) }
+    ensures written { OnOk result ((D.state disk.new).now.seen
+        ≡ with_bytes at bytes.now (D.state disk.old).now.seen) }
     ensures durable { OnOk result (IsSettled (D.state disk.new)) }
     ensures refused { IsErrOf result DiskFault.NoMemory → D.state disk.new ≡ D.state disk.old }
-    ensures meanwhile { Meanwhile (D.state disk.old) (D.state disk.new) (Torn at (length bytes.now) (D.state disk.old).now.seen) }
+    ensures meanwhile { Meanwhile (D.state disk.old) (D.state disk.new)
+        (Torn at (length bytes.now) (D.state disk.old).now.seen) }
     ensures stop { Lowers 2 result (D.state disk.old).stop (D.state disk.new).stop }
     ensures cause { Caused (IsErrOf result DiskFault.Failed) (D.state disk.old) (D.state disk.new) }
 {

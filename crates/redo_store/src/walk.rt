@@ -30,10 +30,13 @@ impl Walk {
 
         // The place is 0 where the first eight bytes are not those of a store, and only there.
         ensures damaged { (at : ℕ) → IsErrOf result (RedoFault.Damaged at)
-            → (at ≡ 0) × (records_of (D.state disk.old).now.seen ≡ Err 0) × (whole_records (D.state disk.old).now.seen ≡ []) }
-        ensures whole { take 8 (D.state disk.old).now.seen ≡ magic → (at : ℕ) → IsErrOf result (RedoFault.Damaged at) → ⊥ }
+            → (at ≡ 0) × (records_of (D.state disk.old).now.seen ≡ Err 0)
+            × (whole_records (D.state disk.old).now.seen ≡ []) }
+        ensures whole { take 8 (D.state disk.old).now.seen ≡ magic → (at : ℕ)
+            → IsErrOf result (RedoFault.Damaged at) → ⊥ }
         ensures no_memory { IsErrOf result RedoFault.NoMemory → ⊥ }
-        ensures only_reads { OnlyReads (IsErrOf result RedoFault.Stopped) (D.state disk.old) (D.state disk.new) }
+        ensures only_reads { OnlyReads (IsErrOf result RedoFault.Stopped) (D.state disk.old)
+            (D.state disk.new) }
     {
         check_magic(disk)?;
         Ok(Walk {
@@ -71,23 +74,31 @@ impl Walk {
     /// alone. After any error the walk stands where it did.
     pub fn next<D: Disk>(&mut self, disk: &mut D) -> Result<Option<Vec<u8>>, RedoFault>
         ensures record { (done : List (List ℕ)) → HasRead self.old done (D.state disk.old).now.seen
-            → IfOk result (λ found. IfSome found (λ payload. HasRead self.new (done ++ payload.items ∷ []) (D.state disk.old).now.seen)) }
-        ensures place { IfOk result (λ found. IfSome found (λ payload. place_of self.new ≡ place_of self.old + 9 + length payload.items)) }
+            → IfOk result (λ found. IfSome found
+            (λ payload. HasRead self.new (done ++ payload.items ∷ [])
+            (D.state disk.old).now.seen)) }
+        ensures place { IfOk result (λ found. IfSome found (λ payload. place_of self.new
+            ≡ place_of self.old + 9 + length payload.items)) }
 
         ensures within { IfOk result (λ found. IfSome found (λ _.
             place_of self.new < length (D.state disk.old).now.seen)) }
 
         // At the closed gate all records were read.
         ensures end { (done : List (List ℕ)) → HasRead self.old done (D.state disk.old).now.seen
-            → IfOk result (λ found. IfNone found ((records_of (D.state disk.old).now.seen ≡ Ok done) × (whole_records (D.state disk.old).now.seen ≡ done))) }
+            → IfOk result (λ found. IfNone found ((records_of (D.state disk.old).now.seen ≡ Ok done)
+            × (whole_records (D.state disk.old).now.seen ≡ done))) }
         ensures ended { IfOk result (λ found. IfNone found (self.new ≡ self.old)) }
 
         // The place of a damage is that of the gate with no whole record behind it.
-        ensures damaged { (at : ℕ) → IsErrOf result (RedoFault.Damaged at) → at ≡ place_of self.old }
-        ensures damage { (at : ℕ) → IsErrOf result (RedoFault.Damaged at) → (done : List (List ℕ)) → HasRead self.old done (D.state disk.old).now.seen
-            → (records_of (D.state disk.old).now.seen ≡ Err at) × (whole_records (D.state disk.old).now.seen ≡ done) }
+        ensures damaged { (at : ℕ) → IsErrOf result (RedoFault.Damaged at)
+            → at ≡ place_of self.old }
+        ensures damage { (at : ℕ) → IsErrOf result (RedoFault.Damaged at) → (done : List (List ℕ))
+            → HasRead self.old done (D.state disk.old).now.seen
+            → (records_of (D.state disk.old).now.seen ≡ Err at)
+            × (whole_records (D.state disk.old).now.seen ≡ done) }
         ensures stays { OnErr result (self.new ≡ self.old) }
-        ensures only_reads { OnlyReads (IsErrOf result RedoFault.Stopped) (D.state disk.old) (D.state disk.new) }
+        ensures only_reads { OnlyReads (IsErrOf result RedoFault.Stopped) (D.state disk.old)
+            (D.state disk.new) }
     {
         let Some((payload, behind)) = Redo::record_at(self.alloc, disk, self.place)? else {
             return Ok(None);
@@ -115,8 +126,10 @@ impl Walk {
             → (done : List (List ℕ)) → HasRead self.old done (D.state disk.old).now.seen
             → records_of (D.state disk.old).now.seen ≡ Err at }
         ensures stands { (done : List (List ℕ)) → HasRead self.old done (D.state disk.old).now.seen
-            → OnErr result ((more : List (List ℕ)) × HasRead self.new (done ++ more) (D.state disk.old).now.seen) }
-        ensures only_reads { OnlyReads (IsErrOf result RedoFault.Stopped) (D.state disk.old) (D.state disk.new) }
+            → OnErr result ((more : List (List ℕ))
+            × HasRead self.new (done ++ more) (D.state disk.old).now.seen) }
+        ensures only_reads { OnlyReads (IsErrOf result RedoFault.Stopped) (D.state disk.old)
+            (D.state disk.new) }
     {
         let mut payloads = Vec::new(self.alloc);
         while let Some(payload) = self.next(disk)? {
@@ -130,7 +143,8 @@ impl Walk {
     pub fn finish(self) -> Redo
         ensures place { tail_of result ≡ place_of self }
         ensures count { count_of result ≡ self.count }
-        ensures ready { (disk : DiskState) (done : List (List ℕ)) → HasRead self done disk.now.seen → records_of disk.now.seen ≡ Ok done → IsSettled disk → CanAppend result disk }
+        ensures ready { (disk : DiskState) (done : List (List ℕ)) → HasRead self done disk.now.seen
+            → records_of disk.now.seen ≡ Ok done → IsSettled disk → CanAppend result disk }
     {
         Redo::behind(self.alloc, self.place, self.count)
     }

@@ -17,7 +17,8 @@ ready_of state = if is_done state then Ok (submitted state) else Err state
 -- a replay in which the calls were answered with these digests, one after the other
 abbrev pub verify_next : Option Recorded → Repeating → List ℕ → Option Repeating
 verify_next None state now = None
-verify_next (Some one) state now = if bytes_eq one.seen.digest now then Some (verified_more state) else None
+verify_next (Some one) state now = if bytes_eq one.seen.digest now then
+    Some (verified_more state) else None
 
 abbrev pub verify_if : Option Repeating → List (List ℕ) → Option Repeating
 verify_if so_far [] = so_far

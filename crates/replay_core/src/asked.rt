@@ -28,7 +28,13 @@ impl Model for Asked {
 
     ghost Value = { Asking };
 
-    ghost view = { λ s. record { track = s.track; ltxid = s.ltxid; fresh = s.fresh; event = s.event } };
+    ghost view = { λ s. record {
+      track = s.track;
+      ltxid = s.ltxid;
+      fresh = s.fresh;
+      event =
+          s.event;
+    } };
 }
 
 /// Whether it is too late for a replay. Where no call was submitted it never is.

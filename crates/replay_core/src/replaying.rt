@@ -29,9 +29,16 @@ impl Model for Replaying {
 
     ghost Value = { Repeating };
 
-    ghost view = { λ s. record { track = s.track; ltxid = s.ltxid; event = s.event; verified = s.verified } };
+    ghost view = { λ s. record {
+      track = s.track;
+      ltxid = s.ltxid;
+      event = s.event;
+      verified =
+          s.verified;
+    } };
 
-    ghost invariant = { λ s. IsRepeating (record { track = s.track; ltxid = s.ltxid; event = s.event; verified = s.verified }) };
+    ghost invariant = { λ s. IsRepeating
+        (record { track = s.track; ltxid = s.ltxid; event = s.event; verified = s.verified }) };
 }
 
 /// A request whose recorded calls were all answered as before.
@@ -54,7 +61,13 @@ impl Replaying {
     pub(crate) fn start(mut track: Track, ltxid: Ltxid, event: u64) -> Replaying
         requires another { track.replays + 1 < 2 ^ 64 }
         requires before { length track.recorder.calls ≤ track.call }
-        ensures { result ≡ record { track = record track { replays = track.replays + 1 }; ltxid = ltxid; event = event; verified = 0 } }
+        ensures { result ≡ record {
+          track = record track { replays = track.replays + 1 };
+          ltxid =
+              ltxid;
+          event = event;
+          verified = 0;
+        } }
     {
         track.replays += 1;
         Replaying {

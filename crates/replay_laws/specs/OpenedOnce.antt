@@ -19,7 +19,9 @@ last_opened last _ = last
 -- behind this one each, and up to the limit
 abbrev pub rise_within : ℕ → ℕ → List Step → Bool
 rise_within last limit [] = nat_le last limit
-rise_within last limit (step ∷ steps) = opens_above last step.done.input && rise_within (last_opened last step.done.input) limit steps
+rise_within last limit (step ∷ steps) = opens_above last step.done.input
+    && rise_within (last_opened last step.done.input) limit steps
 
 abbrev pub opened_once : Traced → Bool
-opened_once t = list_all (λ course. rise_within 0 (length t.machine.links) course.steps) (courses_of t)
+opened_once t = list_all (λ course. rise_within 0 (length t.machine.links) course.steps)
+    (courses_of t)

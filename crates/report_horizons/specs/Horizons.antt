@@ -24,11 +24,16 @@ last_event event (one ∷ all) = last_event one.event all
 -- then, and the last one the greatest of all.
 abbrev pub AreOrdered : ℕ → ℕ → List Opening → ℕ → Type 0
 AreOrdered event most [] greatest = most ≡ greatest
-AreOrdered event most (one ∷ all) greatest = (event ≤ one.event) × ((one.most ≡ max most one.horizon) × AreOrdered one.event one.most all greatest)
+AreOrdered event most (one ∷ all) greatest = (event ≤ one.event)
+    × ((one.most ≡ max most one.horizon) × AreOrdered one.event one.most all greatest)
 
 -- the last that ended comes first
 abbrev pub openings_as : OpeningsAt → Openings
-openings_as openings = record { tick = openings.tick; running = openings.running; ended = reverse (all_ended openings.ended.items) }
+openings_as openings = record {
+  tick = openings.tick;
+  running = openings.running;
+  ended = reverse (all_ended openings.ended.items);
+}
 
 -- the horizon that an ended incarnation asks for
 abbrev pub part_of : ℕ → ℕ → Ended → ℕ
@@ -52,7 +57,8 @@ Rises low (one ∷ all) high = (low ≤ one.tick) × Rises one.tick all high
 -- stand in the order in which they ended.
 pub record IsFront (retention tick : ℕ) (front : Front) (ended : List Ended) : Type 0 where
   pub within : front.passed ≤ length ended
-  pub asks : (later : ℕ) → tick ≤ later → most_by (part_of retention later) ended ≡ max front.most (most_by (part_of retention later) (drop front.passed ended))
+  pub asks : (later : ℕ) → tick ≤ later → most_by (part_of retention later) ended ≡ max front.most
+      (most_by (part_of retention later) (drop front.passed ended))
   pub rises : Rises 0 (drop front.passed ended) tick
 
 abbrev pub IsFrontAt : ℕ → Front → Openings → Type 0

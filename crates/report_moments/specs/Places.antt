@@ -10,8 +10,11 @@ use Rattle.report_moments.specs.Views.{moment_as}
 -- the note of this number, which is that of the next event, tells the moment; or the item of this
 -- number is the moment's
 abbrev pub StandsAt : Report → HappenedAt → At → Type 0
-StandsAt report moment (at.Note number) = (moment.event ≡ number + 1) × IsSomeAnd (slice_get report.notes number) (λ note. moment_of_note (number + 1) note ≡ moment ∷ [])
-StandsAt report moment (at.Served number) = IsSomeAnd (slice_get report.served number) (λ one. moment_of_item one ≡ moment)
+StandsAt report moment (at.Note number) = (moment.event ≡ number + 1)
+    × IsSomeAnd (slice_get report.notes number) (λ note. moment_of_note (number + 1) note ≡ moment
+    ∷ [])
+StandsAt report moment (at.Served number) =
+    IsSomeAnd (slice_get report.served number) (λ one. moment_of_item one ≡ moment)
 
 -- it stands at its place
 abbrev pub IsPlaced : Report → Moment → Type 0

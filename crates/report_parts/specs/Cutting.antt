@@ -22,5 +22,7 @@ sessions_in (one ∷ submissions) = length one.copy.sessions + sessions_in submi
 pub record IsReach (steps : List Step) (before upto len after : ℕ) : Type 0 where
   pub within : len ≤ length steps
   pub most : after ≤ before + len
-  pub front : map step_in (front_of (is_acquired_by upto) (counted_from before steps)) ≡ take len steps
-  pub rest : rest_of (is_acquired_by upto) (counted_from before steps) ≡ counted_from after (drop len steps)
+  pub front : map step_in (front_of (is_acquired_by upto) (counted_from before steps))
+      ≡ take len steps
+  pub rest : rest_of (is_acquired_by upto) (counted_from before steps) ≡ counted_from after
+      (drop len steps)

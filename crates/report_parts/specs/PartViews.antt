@@ -6,4 +6,7 @@ use Rattle.report_parts.specs.SubmissionViews.{submission_as}
 use Rattle.report_story.specs.Views.{step_as}
 
 abbrev pub part_as : PartAt → Part
-part_as part = record { submission = submission_as part.submission; steps = map step_as part.steps.items }
+part_as part = record {
+  submission = submission_as part.submission;
+  steps = map step_as part.steps.items;
+}

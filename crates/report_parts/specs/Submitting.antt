@@ -47,7 +47,8 @@ with_first_of put copy [] = record put { last = None; over = true }
 with_first_of put copy (request ∷ script) = with_copy_of put script request request.again copy
 
 abbrev pub with_report_of : Submitting → RequestReport → Option Last → Submitting
-with_report_of put copy (Some last) = with_copy_of put put.script last.request (last.allowed - 1) copy
+with_report_of put copy (Some last) = with_copy_of put put.script last.request (last.allowed - 1)
+    copy
 with_report_of put copy None = with_first_of put copy put.script
 
 abbrev pub with_report : Submitting → RequestReport → Submitting

@@ -190,7 +190,8 @@ fn step_at<'a>(steps: &[Step<'a>], place: usize) -> Option<Step<'a>>
 /// The first of a client's steps that is of none of these submissions, since it acquires a session
 /// of none. Linear.
 pub fn left_of<'a>(submissions: &[Submission<'_>], mine: &[Step<'a>]) -> Option<Step<'a>>
-    ensures { option_map step_as result ≡ left_of_def (map submission_as submissions.now) (map step_as mine.now) }
+    ensures { option_map step_as result ≡ left_of_def (map submission_as submissions.now)
+        (map step_as mine.now) }
 {
     let upto = sessions_up_to(submissions, mine.len());
     step_at(mine, reach(mine, 0, upto).len)

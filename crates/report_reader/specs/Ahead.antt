@@ -28,8 +28,10 @@ only names ms name = if is_among names name then ms name else None
 -- alert lines, blocked identifiers, the horizon, and the disk's bytes
 unfoldable pub others_in : Bool → Named → Result Others Fault
 others_in print ms =
-    member_in (codes "alerts") alerts_in ms >>= λ alerts. member_in (codes "blocked") identifiers_in ms >>= λ blocked.
-    optional (codes "forgotten") 0 (whole_of 1 (2 ^ 64 - 1)) ms >>= λ forgotten. image_in print ms >>= λ image.
+    member_in (codes "alerts") alerts_in ms >>= λ alerts. member_in (codes "blocked") identifiers_in
+    ms >>= λ blocked.
+    optional (codes "forgotten") 0 (whole_of 1 (2 ^ 64 - 1)) ms >>= λ forgotten. image_in
+    print ms >>= λ image.
     Ok (record { alerts = alerts; blocked = blocked; forgotten = forgotten; image = image })
 
 -- the notes that were read so far
@@ -55,4 +57,5 @@ pub record AreRead (print : Bool) (ahead : Ahead) (ms : Named) : Type 0 where
 -- one at this name
 abbrev pub Passes : Bool → ℕ → List ℕ → Ahead → List Token → Ahead → List Token → Type 0
 Passes print depth name old ts new rest =
-    (d : Data) × (value_ahead depth ts ≡ Some (d, rest)) × ((ms : Named) → AreRead print old ms → AreRead print new (putting name d ms))
+    (d : Data) × (value_ahead depth ts ≡ Some (d, rest))
+    × ((ms : Named) → AreRead print old ms → AreRead print new (putting name d ms))

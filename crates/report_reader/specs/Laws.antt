@@ -8,4 +8,5 @@ use Rattle.told_reports.specs.Keeping.{IsTold}
 
 -- each report that was read keeps to what reports do
 abbrev pub IsReadAsTold : Type 0
-IsReadAsTold = (document : Document) (d : Data) (report : Report) → report_of document d ≡ Ok report → IsTold report
+IsReadAsTold = (document : Document) (d : Data) (report : Report) → report_of document d ≡ Ok report
+    → IsTold report

@@ -8,4 +8,5 @@ use Rattle.report_story.specs.Passing.{Repeated}
 
 -- Those with which it was shown, by the submissions with their steps.
 abbrev pub brought : List Part → Option Repeated → List Draw
-brought parts repeated = option_map_or (λ (one : Repeated). kept_since parts one.place one.acquired) repeated []
+brought parts repeated = option_map_or (λ (one : Repeated). kept_since parts one.place one.acquired)
+    repeated []

@@ -16,7 +16,11 @@ kept_by parts front one = kept_if (is_marked_item one.item) parts front one
 
 -- of a moment that the front has reached
 abbrev pub kept_here : List Part → Front → ℕ → Happened → List (List Draw)
-kept_here parts front at (ServedItem session served) = kept_by parts front (record { event = at; session = session; item = served }) ∷ []
+kept_here parts front at (ServedItem session served) = kept_by parts front (record {
+  event = at;
+  session = session;
+  item = served;
+}) ∷ []
 kept_here parts front at (RanOutside ran) = []
 kept_here parts front at (Asked x told) = []
 
@@ -25,8 +29,10 @@ abbrev pub kept_from : List Part → Front → List HappenedAt → List (List Dr
 kept_from parts front [] = []
 kept_from parts front (moment ∷ more) =
     let here : Front = reach moment.event front in
-    kept_here parts here moment.event moment.happened ++ kept_from parts (after_moment here moment.event moment.happened) more
+    kept_here parts here moment.event moment.happened
+    ++ kept_from parts (after_moment here moment.event moment.happened) more
 
 -- for each served item of a report, in order, what it brings: nothing where it has no mark
 abbrev pub kept_of : Document → Report → List (List Draw)
-kept_of document report = kept_from (parts document report) (first_front document report) (moments report)
+kept_of document report = kept_from (parts document report) (first_front document report)
+    (moments report)

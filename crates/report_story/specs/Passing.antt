@@ -18,11 +18,15 @@ pub record Repeated : Type 0 where
   pub place : ℕ
 
 abbrev pub repeated_in : Turn → Option Repeated
-repeated_in turn = option_map (λ acquired. record { acquired = acquired; place = place_in turn }) turn.acquired
+repeated_in turn = option_map (λ acquired. record {
+  acquired = acquired;
+  place = place_in turn;
+}) turn.acquired
 
 -- what a session repeats that serves a call with the mark, by the connections before it
 abbrev pub repeated_at : Seen → SessionId → Option Repeated
-repeated_at seen session = option_and_then (λ link. option_and_then repeated_in link.turn) (link_of_session session seen.links)
+repeated_at seen session = option_and_then (λ link. option_and_then repeated_in link.turn)
+    (link_of_session session seen.links)
 
 abbrev pub repeated_if : Bool → Seen → SessionId → Option Repeated
 repeated_if true seen session = repeated_at seen session
@@ -41,14 +45,26 @@ pub record Passed : Type 0 where
   pub left : List Served
 
 abbrev pub begun_with : List Served → Passed
-begun_with items = record { event = 1; seen = nothing_seen; steps = []; repeated = []; left = items }
+begun_with items = record {
+  event = 1;
+  seen = nothing_seen;
+  steps = [];
+  repeated = [];
+  left = items;
+}
 
 -- its step, by the connections before the note
 abbrev pub with_go : ℕ → GoNote → Passed → Passed
-with_go client did passed = record passed { steps = passed.steps ++ steps_if (is_idle did) passed.seen.links passed.event client did }
+with_go client did passed = record passed {
+  steps =
+      passed.steps ++ steps_if (is_idle did) passed.seen.links passed.event client did;
+}
 
 abbrev pub with_step : Note → Passed → Passed
-with_step noted passed = record passed { steps = passed.steps ++ steps_by passed.seen.links passed.event noted }
+with_step noted passed = record passed {
+  steps =
+      passed.steps ++ steps_by passed.seen.links passed.event noted;
+}
 
 -- the item of this event
 abbrev pub with_one : Note → Passed → Served → List Served → Passed
@@ -65,7 +81,8 @@ with_one_if false noted passed one items = passed
 
 abbrev pub with_first : Note → Passed → List Served → Passed
 with_first noted passed [] = passed
-with_first noted passed (one ∷ items) = with_one_if (one.event == passed.event) noted passed one items
+with_first noted passed (one ∷ items) = with_one_if (one.event == passed.event) noted passed one
+    items
 
 abbrev pub with_item : Note → Passed → Passed
 with_item noted passed = with_first noted passed passed.left

@@ -38,7 +38,8 @@ older_at place (x ∷ xs) = if length xs == place then Some x else older_at plac
 -- with the one at a place changed
 abbrev pub changed_at : {A : Type 0} → (A → A) → ℕ → List A → List A
 changed_at change place [] = []
-changed_at change place (x ∷ xs) = if length xs == place then change x ∷ xs else x ∷ changed_at change place xs
+changed_at change place (x ∷ xs) = if length xs == place then change x ∷ xs else x
+    ∷ changed_at change place xs
 
 -- At most one meets the test.
 abbrev pub IsSingle : {A : Type 0} → (A → Bool) → List A → Type 0
@@ -61,6 +62,7 @@ noted_place (which.Session session) numbers sessions = value_of same_key session
 
 -- The maps have the place of the newest of each number and of each session. No two have one of
 -- these, where none was put twice.
-pub record IsIndexed (numbers : List (ℕ × ℕ)) (sessions : List ((ℕ × ℕ) × ℕ)) (twice : Bool) (all : List Identity) : Type 0 where
+pub record IsIndexed (numbers : List (ℕ × ℕ)) (sessions : List ((ℕ × ℕ) × ℕ)) (twice : Bool)
+    (all : List Identity) : Type 0 where
   pub places : (named : Which) → noted_place named numbers sessions ≡ place_of (is_one named) all
   pub single : twice ≡ false → (named : Which) → IsSingle (is_one named) all

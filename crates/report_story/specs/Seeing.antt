@@ -23,11 +23,15 @@ begun_on session seen =
     }
 
 abbrev pub called_on : SessionId → Bool → Call → Seen → Seen
-called_on session replay call seen = with_links seen (with_changed (has_session session) (call_served replay call) seen.links)
+called_on session replay call seen = with_links seen
+    (with_changed (has_session session) (call_served replay call) seen.links)
 
 -- an item, by its session
 abbrev pub turned : SessionId → Item → Seen → Seen
-turned session one seen = record { links = in_turn session one seen.links; over = over_by session one seen.links ++ seen.over }
+turned session one seen = record {
+  links = in_turn session one seen.links;
+  over = over_by session one seen.links ++ seen.over;
+}
 
 -- ---- the turn that another one follows
 
@@ -35,4 +39,5 @@ turned session one seen = record { links = in_turn session one seen.links; over 
 -- the same as before.
 pub record IsTurnOver (session : SessionId) (old : Seen) (new : Seen) : Type 0 where
   pub over : new.over ≡ over_on (link_of_session session old.links) ++ old.over
-  pub links : with_changed (has_session session) turn_begun new.links ≡ with_changed (has_session session) turn_begun old.links
+  pub links : with_changed (has_session session) turn_begun new.links ≡ with_changed
+      (has_session session) turn_begun old.links

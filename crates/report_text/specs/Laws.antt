@@ -17,8 +17,12 @@ shown_report report = record report { entries = map shown_entry report.entries }
 
 -- one JSON value is that of one report
 abbrev pub IsOfOneReport : Type 0
-IsOfOneReport = (a b : Report) → ReportOfBytes a → ReportOfBytes b → report_value a ≡ report_value b → shown_report a ≡ shown_report b
+IsOfOneReport = (a b : Report) → ReportOfBytes a → ReportOfBytes b → report_value a ≡ report_value b
+    → shown_report a ≡ shown_report b
 
 -- one text is that of one report
 abbrev pub IsTextOfOneReport : Type 0
-IsTextOfOneReport = (a b : Report) → ReportOfBytes a → ReportOfBytes b → HasShortNumbers (report_value a) → HasShortNumbers (report_value b) → compact_text (report_value a) ≡ compact_text (report_value b) → shown_report a ≡ shown_report b
+IsTextOfOneReport = (a b : Report) → ReportOfBytes a → ReportOfBytes b
+    → HasShortNumbers (report_value a) → HasShortNumbers (report_value b)
+    → compact_text (report_value a) ≡ compact_text (report_value b)
+    → shown_report a ≡ shown_report b

@@ -14,26 +14,33 @@ off_lawful = record {
 }
 
 -- after answers that are decided the recorder is purged, and after others not
-purges_ended : (ends : Bool) → (if ends then after.Purge else after.Record) ≡ after.Purge → ends ≡ true
+purges_ended : (ends : Bool) → (if ends then after.Purge else after.Record) ≡ after.Purge
+    → ends ≡ true
 purges_ended true is = refl
 purges_ended false is = absurd (let none : ⊥ = cc in none)
 
-purged_not_recorded : (ends : Bool) → ends ≡ true → (if ends then after.Purge else after.Record) ≡ after.Record → ⊥
+purged_not_recorded : (ends : Bool) → ends ≡ true
+    → (if ends then after.Purge else after.Record) ≡ after.Record → ⊥
 purged_not_recorded true e is = let none : ⊥ = cc in none
 purged_not_recorded false e is = let none : ⊥ = cc in none
 
 pub static_lawful : IsLawful static_rules
 static_lawful = record {
-  purges = λ answers purge. (purges_ended (ends_decided answers) purge, inl (λ name value index. refl));
+  purges = λ answers purge. (
+    purges_ended (ends_decided answers) purge,
+    inl (λ name value index. refl),
+  );
   stops = inr (λ line index. refl, λ answers ends. purged_not_recorded (ends_decided answers) ends);
   keeps = λ never answers ends. absurd (let none : ⊥ = cc in none);
 }
 
-dynamic_purge : (ends : Bool) → (if ends then after.Stop why.AfterCommit else after.Record) ≡ after.Purge → ⊥
+dynamic_purge : (ends : Bool) → (if ends then after.Stop why.AfterCommit else after.Record)
+    ≡ after.Purge → ⊥
 dynamic_purge true is = let none : ⊥ = cc in none
 dynamic_purge false is = let none : ⊥ = cc in none
 
-dynamic_record : (ends : Bool) → ends ≡ true → (if ends then after.Stop why.AfterCommit else after.Record) ≡ after.Record → ⊥
+dynamic_record : (ends : Bool) → ends ≡ true
+    → (if ends then after.Stop why.AfterCommit else after.Record) ≡ after.Record → ⊥
 dynamic_record true e is = let none : ⊥ = cc in none
 dynamic_record false e is = let none : ⊥ = cc in none
 

@@ -10,12 +10,14 @@ use Rattle.request_bounds.specs.meaning.Rules.{Rules}
 
 -- the rule stops at each set, or keeps the settings
 abbrev pub HoldsSettings : Rules → Type 0
-HoldsSettings rules = ((name : List ℕ) (value : Value) (index : ℕ) → IsSome (rules.submit (call.Set name value) index)) ⊎ IsTrue rules.keeps
+HoldsSettings rules = ((name : List ℕ) (value : Value) (index : ℕ)
+    → IsSome (rules.submit (call.Set name value) index)) ⊎ IsTrue rules.keeps
 
 -- a purge comes only where the answers end with Committed or Conflict, and then the settings are
 -- held
 abbrev pub PurgesDecided : Rules → Type 0
-PurgesDecided rules = (answers : List Answer) → rules.reply answers ≡ after.Purge → IsTrue (ends_decided answers) × HoldsSettings rules
+PurgesDecided rules = (answers : List Answer) → rules.reply answers ≡ after.Purge
+    → IsTrue (ends_decided answers) × HoldsSettings rules
 
 -- the rule stops at every first call
 abbrev pub StopsAtOnce : Rules → Type 0
@@ -29,7 +31,8 @@ StopsInTime rules =
 
 -- a rule that keeps the settings purges after Committed and Conflict
 abbrev pub KeepsByPurge : Rules → Type 0
-KeepsByPurge rules = IsTrue rules.keeps → (answers : List Answer) → IsTrue (ends_decided answers) → rules.reply answers ≡ after.Purge
+KeepsByPurge rules = IsTrue rules.keeps → (answers : List Answer) → IsTrue (ends_decided answers)
+    → rules.reply answers ≡ after.Purge
 
 pub record IsLawful (rules : Rules) : Type 0 where
   pub purges : PurgesDecided rules

@@ -39,7 +39,9 @@ impl Digesting {
     /// Takes in the next answer. The cost is linear in its bytes.
     pub fn add(&mut self, answer: &Answer) -> Result<(), NoMemory>
         requires { HasRoom self.old }
-        ensures ok { OnOk result ((count : ℕ) (answers : List AnAnswer) → HasTaken self.old count answers → HasTaken self.new count (answers ++ answer.now ∷ [])) }
+        ensures ok { OnOk result ((count : ℕ) (answers : List AnAnswer)
+            → HasTaken self.old count answers
+            → HasTaken self.new count (answers ++ answer.now ∷ [])) }
         ensures err { OnErr result (self.new ≡ self.old) }
     {
         let mut room = Vec::new(self.alloc);
@@ -64,7 +66,8 @@ impl Digesting {
     /// The digest of the list. It takes no memory.
     pub fn finish(self) -> [u8; 32]
         requires { IsFull self }
-        ensures { (count : ℕ) (answers : List AnAnswer) → HasTaken self count answers → result ≡ sha256 (spell_answers answers) }
+        ensures { (count : ℕ) (answers : List AnAnswer) → HasTaken self count answers
+            → result ≡ sha256 (spell_answers answers) }
     {
         let Digesting {
             alloc: _alloc,

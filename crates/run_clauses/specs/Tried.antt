@@ -25,7 +25,8 @@ pub record Sending : Type 0 where
 -- it may have committed: the call has a commit, and no reply was taken, or one whose answers end
 -- with Committed
 abbrev pub may_have_committed : Sending → Bool
-may_have_committed sending = has_commit sending.call && option_map_or ends_committed sending.taken true
+may_have_committed sending = has_commit sending.call
+    && option_map_or ends_committed sending.taken true
 
 -- the identifier put last, unless it is there
 abbrev pub with_new : List Ltxid → Ltxid → List Ltxid
@@ -34,7 +35,9 @@ with_new ids x = if holds ids x then ids else ids ++ x ∷ []
 -- the identifiers of the sendings of these calls that may have committed, in order of first
 -- sending, each once
 abbrev pub tried_among : (ℕ → Bool) → List Sending → List Ltxid
-tried_among is_of sendings = fold with_new [] (map (λ sending. sending.ltxid) (filter (λ sending. is_of sending.at && may_have_committed sending) sendings))
+tried_among is_of sendings = fold with_new []
+    (map (λ sending. sending.ltxid) (filter (λ sending. is_of sending.at
+    && may_have_committed sending) sendings))
 
 -- for each part, the first of whose calls is at this place; the last part has all calls from its
 -- first on
@@ -42,7 +45,8 @@ abbrev pub tried_from : ℕ → List (List ShownCall) → List Sending → List 
 tried_from first [] sendings = []
 tried_from first (part ∷ []) sendings = tried_among (λ at. nat_le first at) sendings ∷ []
 tried_from first (part ∷ next ∷ parts) sendings =
-    tried_among (λ at. nat_le first at && nat_lt at (first + length part)) sendings ∷ tried_from (first + length part) (next ∷ parts) sendings
+    tried_among (λ at. nat_le first at && nat_lt at (first + length part)) sendings
+    ∷ tried_from (first + length part) (next ∷ parts) sendings
 
 -- `tried` of a request that was shown these calls and made these sendings
 abbrev pub tried_of : List ShownCall → List Sending → List (List Ltxid)
@@ -50,4 +54,5 @@ tried_of calls sendings = tried_from 0 (txns calls) sendings
 
 -- the report's `tried` of a request is that
 abbrev pub is_tried : RequestReport → List Sending → Bool
-is_tried request sendings = pointwise (pointwise same_ltxid) request.tried (tried_of request.calls sendings)
+is_tried request sendings = pointwise (pointwise same_ltxid) request.tried
+    (tried_of request.calls sendings)

@@ -17,14 +17,16 @@ use Rattle.world_model.specs.Traced.{Traced}
 
 -- all calls of the scripts of these clients
 abbrev pub calls_of_scripts : List Client → List Call
-calls_of_scripts clients = flat_map (λ client. flat_map (λ request. request.calls) client.requests) clients
+calls_of_scripts clients = flat_map (λ client. flat_map (λ request. request.calls) client.requests)
+    clients
 
 -- a request is submitted again four times at most
 abbrev pub is_repeated_little : Request → Bool
 is_repeated_little request = nat_le request.again 4
 
 abbrev pub are_repeated_little : Document → Bool
-are_repeated_little document = list_all (λ client. list_all is_repeated_little client.requests) document.clients
+are_repeated_little document = list_all (λ client. list_all is_repeated_little client.requests)
+    document.clients
 
 -- The limits of a document, of what makes its finish long.
 pub record AreLimits (document : Document) : Type 0 where
@@ -41,5 +43,7 @@ pub record AreLimits (document : Document) : Type 0 where
 -- begins there.
 abbrev pub FinishIsShort : Type 0
 FinishIsShort =
-    (document : Document) (events : List Event) (notes : List Note) (items : List Served) (seen : Seen) (t : Traced)
-    → AreLimits document → Reached document events notes items seen t → length events ≤ 100000 → remaining t.setting t.machine AtServer ≤ 2 ^ 44
+    (document : Document) (events : List Event) (notes : List Note) (items : List Served)
+    (seen : Seen) (t : Traced)
+    → AreLimits document → Reached document events notes items seen t → length events ≤ 100000
+    → remaining t.setting t.machine AtServer ≤ 2 ^ 44

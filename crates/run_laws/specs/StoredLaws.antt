@@ -16,7 +16,8 @@ use Rattle.world_model.specs.Reached.{IsRun}
 
 -- It holds of each report of a whole run.
 abbrev pub HoldsOfReports : (Document → Report → Bool) → Type 0
-HoldsOfReports test = (document : Document) (report : Report) (seen : Seen) (t : Traced) (server : Server) → IsReported document report seen t server → IsTrue (test document report)
+HoldsOfReports test = (document : Document) (report : Report) (seen : Seen) (t : Traced)
+    (server : Server) → IsReported document report seen t server → IsTrue (test document report)
 
 -- Each answer is by the outcome table with the entries that were stored before it, and says
 -- forgotten exactly below the horizon of then.
@@ -33,17 +34,23 @@ BlocksStayApart = HoldsOfReports (λ document report. blocked_or_entry (kept_by 
 
 -- Each identifier that the run blocked was answered uncommitted, or a crashed item carries it.
 abbrev pub BlocksAreAnswered : Type 0
-BlocksAreAnswered = HoldsOfReports (λ document report. blocks_answered (answered_in (moments report)) report.blocked)
+BlocksAreAnswered = HoldsOfReports (λ document report.
+    blocks_answered (answered_in (moments report)) report.blocked)
 
 -- Each identifier that was answered uncommitted was blocked before, or is the next block then, and
 -- none is blocked twice.
 abbrev pub BlocksComeInOrder : Type 0
-BlocksComeInOrder = HoldsOfReports (λ document report. blocks_in_order (journal_before document).blocked (answered_in (moments report)) report.blocked)
+BlocksComeInOrder = HoldsOfReports (λ document report.
+    blocks_in_order (journal_before document).blocked (answered_in (moments report)) report.blocked)
 
 -- At the end of a run the store has the horizon that the openings of its report ask for.
 abbrev pub HorizonsAreStored : Type 0
-HorizonsAreStored = (document : Document) (report : Report) (seen : Seen) (t : Traced) → IsRun document report.notes report.served seen t → seen.state.store.horizon ≡ last_horizon document report
+HorizonsAreStored = (document : Document) (report : Report) (seen : Seen) (t : Traced)
+    → IsRun document report.notes report.served seen t
+    → seen.state.store.horizon ≡ last_horizon document report
 
 -- And it has the incarnation of the last opening that its report tells.
 abbrev pub IncarnationsAreStored : Type 0
-IncarnationsAreStored = (document : Document) (report : Report) (seen : Seen) (t : Traced) → IsRun document report.notes report.served seen t → seen.state.store.incarnation ≡ last_incarnation document report
+IncarnationsAreStored = (document : Document) (report : Report) (seen : Seen) (t : Traced)
+    → IsRun document report.notes report.served seen t
+    → seen.state.store.incarnation ≡ last_incarnation document report

@@ -16,4 +16,5 @@ use Rattle.world_model.specs.Reported.{IsReported}
 abbrev pub RunsAreSame : Type 0
 RunsAreSame =
     (document : Document) (report : Report) (seen : Seen) (t : Traced) (server : Server)
-    → IsTrue (all_requests_right document) → IsReported document report seen t server → IsTrue (no_clash document report) → IsTrue (same document report)
+    → IsTrue (all_requests_right document) → IsReported document report seen t server
+    → IsTrue (no_clash document report) → IsTrue (same document report)

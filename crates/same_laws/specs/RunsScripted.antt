@@ -12,4 +12,5 @@ use Rattle.script_clauses.specs.meaning.Scripted.{scripted}
 abbrev pub RunsAreScripted : Type 0
 RunsAreScripted =
     (document : Document) (report : Report) (seen : Seen) (t : Traced) (server : Server)
-    → IsTrue (all_requests_right document) → IsReported document report seen t server → IsTrue (scripted document report)
+    → IsTrue (all_requests_right document) → IsReported document report seen t server
+    → IsTrue (scripted document report)

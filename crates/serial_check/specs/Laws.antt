@@ -8,7 +8,8 @@ use Rattle.serial_check.specs.meaning.Places.{serial_place, fresh_place}
 
 -- `Serial` fails nowhere exactly where it holds
 abbrev pub SerialIsPlaced : Type 0
-SerialIsPlaced = (document : Document) (report : Report) → is_none (serial_place document report) ≡ serial document report
+SerialIsPlaced = (document : Document) (report : Report)
+    → is_none (serial_place document report) ≡ serial document report
 
 -- and so does `Fresh`
 abbrev pub FreshIsPlaced : Type 0

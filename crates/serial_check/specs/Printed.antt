@@ -13,4 +13,7 @@ print_given one = record { name = one.table; rows = one.rows.items }
 
 -- a declared table with its rows in order of key
 abbrev pub print_in : List PlainRow → Schema → ReportTable
-print_in rows schema = record { name = schema.name; rows = map (λ one. one.row) (rows_at rows (place.Table schema.name)) }
+print_in rows schema = record {
+  name = schema.name;
+  rows = map (λ one. one.row) (rows_at rows (place.Table schema.name));
+}

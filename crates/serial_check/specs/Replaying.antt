@@ -19,7 +19,8 @@ use Rattle.serial_check.specs.meaning.Places.{Course, Goes, Fails, if_ends}
 -- over them, and the settings are these.
 abbrev pub HasReplayed : List PlainRow → List Write → NamedValues → Option Meant → Bool → Type 0
 HasReplayed committed writes settings None replays = replays ≡ false
-HasReplayed committed writes settings (Some meant) replays = (replays ≡ true) × ((meant.tables ≡ with_writes committed writes) × (meant.settings ≡ settings))
+HasReplayed committed writes settings (Some meant) replays = (replays ≡ true)
+    × ((meant.tables ≡ with_writes committed writes) × (meant.settings ≡ settings))
 
 -- whether a piece commits exactly where it is the last one
 abbrev pub ends_rightly : Bool → Bool → Bool
@@ -27,13 +28,17 @@ ends_rightly commits true = commits
 ends_rightly commits false = not commits
 
 -- what the next piece of a transaction left, if it may stand there
-abbrev pub next_piece : Shape → List PlainRow → NamedValues → Piece → (is_last : Bool) → Option Meant
-next_piece shape before settings piece is_last = if_ends (ends_rightly (ends_committed piece.answers) is_last) (replayed shape before settings piece)
+abbrev pub next_piece : Shape → List PlainRow → NamedValues → Piece → (is_last : Bool)
+    → Option Meant
+next_piece shape before settings piece is_last =
+    if_ends (ends_rightly (ends_committed piece.answers) is_last)
+    (replayed shape before settings piece)
 
 -- the pieces of an entry lead to the tables with these writes, which fit what is declared, or fail
 -- at this place
 abbrev pub HasCourse : Stored → Course → Ended → Type 0
-HasCourse committed (Goes tables) (ended.Whole writes) = (tables ≡ with_writes committed.rows writes) × IsTrue (writes_fit committed.schemas writes)
+HasCourse committed (Goes tables) (ended.Whole writes) =
+    (tables ≡ with_writes committed.rows writes) × IsTrue (writes_fit committed.schemas writes)
 HasCourse committed (Goes tables) (ended.Failed place) = ⊥
 HasCourse committed (Fails place) (ended.Whole writes) = ⊥
 HasCourse committed (Fails place) (ended.Failed found) = found ≡ place

@@ -68,7 +68,8 @@ pub(crate) fn printed_otherwise(
 
 /// Whether a report prints each of the tables as it stands, and no other. Linear in the rows.
 pub fn are_printed(alloc: Global, printed: &[ReportTable], tables: Tables) -> Result<bool, NoMemory>
-    ensures { IfOk result (λ are. are ≡ pointwise same_report_table printed.now (map (print_in tables.rows) tables.schemas)) }
+    ensures { IfOk result (λ are. are ≡ pointwise same_report_table printed.now
+        (map (print_in tables.rows) tables.schemas)) }
 {
     let place = printed_otherwise(alloc, printed, tables)?;
     Ok(place.is_none())

@@ -52,13 +52,21 @@ reopened sequence = record sequence { next = sequence.upto +ℤ pos 1 }
 
 -- the source of a new opening
 abbrev pub opening_after : Opening → ℕ → Opening
-opening_after opening incarnation = record { incarnation = incarnation; identifiers = 0; sequences = map reopened opening.sequences }
+opening_after opening incarnation = record {
+  incarnation = incarnation;
+  identifiers = 0;
+  sequences = map reopened opening.sequences;
+}
 
 -- a service as it is made has gained nothing
 abbrev pub core_of : Base → Core
 core_of base = record {
   base = base;
-  opening = record { incarnation = base.incarnation; identifiers = 0; sequences = map sequence_at base.sequences };
+  opening = record {
+    incarnation = base.incarnation;
+    identifiers = 0;
+    sequences = map sequence_at base.sequences;
+  };
   entries = [];
   blocked = [];
   alerts = [];

@@ -39,11 +39,13 @@ use Rattle.server_model.specs.Seen.{Seen, IsHistory}
 -- which is not blocked
 pub data Grows (core : Core) (sess : Sess) (after : Core) : Type 0 where
   Same : after.entries ≡ core.entries → Grows core sess after
-  One : (entry : Entry) → after.entries ≡ core.entries ++ entry ∷ [] → entry.ltxid ≡ sess.ltxid → IsTrue (not (is_blocked (all_blocked core) sess.ltxid)) → Grows core sess after
+  One : (entry : Entry) → after.entries ≡ core.entries ++ entry ∷ [] → entry.ltxid ≡ sess.ltxid
+      → IsTrue (not (is_blocked (all_blocked core) sess.ltxid)) → Grows core sess after
 
 -- A frame stores no entry, or one of its session, under its identifier, which is not blocked.
 abbrev pub ServeGrows : Type 0
-ServeGrows = (core : Core) (sess : Sess) (now : ℕ) (frame : Up) (after : Core) (t : Sess) (told : Telling) → Serve core sess now frame after t told → Grows core sess after
+ServeGrows = (core : Core) (sess : Sess) (now : ℕ) (frame : Up) (after : Core) (t : Sess)
+    (told : Telling) → Serve core sess now frame after t told → Grows core sess after
 
 -- A frame leaves the base, its session's place, and what is forgotten.
 pub record StaysIn (core : Core) (sess : Sess) (after : Core) (t : Sess) : Type 0 where
@@ -53,7 +55,8 @@ pub record StaysIn (core : Core) (sess : Sess) (after : Core) (t : Sess) : Type 
   pub horizon : after.horizon ≡ core.horizon
 
 abbrev pub ServeStays : Type 0
-ServeStays = (core : Core) (sess : Sess) (now : ℕ) (frame : Up) (after : Core) (t : Sess) (told : Telling) → Serve core sess now frame after t told → StaysIn core sess after t
+ServeStays = (core : Core) (sess : Sess) (now : ℕ) (frame : Up) (after : Core) (t : Sess)
+    (told : Telling) → Serve core sess now frame after t told → StaysIn core sess after t
 
 -- ---- runs
 
@@ -64,41 +67,51 @@ Stands core = BlocksStand (map committed_of (all_entries core)) (all_blocked cor
 
 -- Blocked identifiers stay their sessions' next ones.
 abbrev pub RunsStand : Type 0
-RunsStand = (base : Base) (history : List Happened) (server : Server) → IsSound base → Runs base history server → Stands server.core
+RunsStand = (base : Base) (history : List Happened) (server : Server) → IsSound base
+    → Runs base history server → Stands server.core
 
 -- No identifier is both blocked and an entry's.
 abbrev pub NeverAfterBlock : Type 0
-NeverAfterBlock = (base : Base) (history : List Happened) (server : Server) → IsSound base → Runs base history server
+NeverAfterBlock = (base : Base) (history : List Happened) (server : Server) → IsSound base
+    → Runs base history server
     → All (λ entry. is_blocked (all_blocked server.core) entry.ltxid ≡ false) server.core.entries
 
 -- The entries of a session are numbered from 0, in order: each has its session's next identifier
 -- behind those before it.
 abbrev pub AreNumbered : List Entry → List Entry → Type 0
 AreNumbered before [] = Unit {0}
-AreNumbered before (entry ∷ entries) = (entry.ltxid ≡ next_ltxid (map committed_of before) entry.ltxid.incarnation entry.ltxid.session) × AreNumbered (before ++ entry ∷ []) entries
+AreNumbered before (entry ∷ entries) = (entry.ltxid
+    ≡ next_ltxid (map committed_of before) entry.ltxid.incarnation entry.ltxid.session)
+    × AreNumbered (before ++ entry ∷ []) entries
 
 abbrev pub EntryNumbers : Type 0
-EntryNumbers = (base : Base) (history : List Happened) (server : Server) → IsSound base → Runs base history server → AreNumbered base.entries server.core.entries
+EntryNumbers = (base : Base) (history : List Happened) (server : Server) → IsSound base
+    → Runs base history server → AreNumbered base.entries server.core.entries
 
 -- The horizon never falls, and no incarnation that is still to come is forgotten: where the server
 -- runs, not its own either.
 pub record Forgets (base : Base) (server : Server) : Type 0 where
   pub rises : base.horizon ≤ server.core.horizon
   pub within : server.core.horizon ≤ server.core.opening.incarnation + 1
-  pub living : IsTrue (is_running server.power) → server.core.horizon ≤ server.core.opening.incarnation
+  pub living : IsTrue (is_running server.power)
+      → server.core.horizon ≤ server.core.opening.incarnation
 
 abbrev pub RunsForget : Type 0
-RunsForget = (base : Base) (history : List Happened) (server : Server) → IsSound base → Runs base history server → Forgets base server
+RunsForget = (base : Base) (history : List Happened) (server : Server) → IsSound base
+    → Runs base history server → Forgets base server
 
 -- The entries that the store gained are a serial run from its tables at the start, and what they
 -- wrote leaves the same tables.
 abbrev pub RunsSerial : Type 0
-RunsSerial = (base : Base) (history : List Happened) (server : Server) → IsSound base → Runs base history server → Serial base.shape base.tables server.core.entries (committed server.core)
+RunsSerial = (base : Base) (history : List Happened) (server : Server) → IsSound base
+    → Runs base history server → Serial base.shape base.tables server.core.entries
+    (committed server.core)
 
 -- no frame of the incarnation, or of an earlier one
 abbrev pub is_behind : ℕ → List Happened → Bool
 is_behind incarnation [] = true
-is_behind incarnation (Served session now frame told ∷ more) = nat_lt incarnation session.incarnation && is_behind incarnation more
+is_behind incarnation (Served session now frame told ∷ more) =
+    nat_lt incarnation session.incarnation && is_behind incarnation more
 is_behind incarnation (Asked x told ∷ more) = is_behind incarnation more
 
 -- No frame of an opening stands behind one that was stopped. A run from outside that was stopped
@@ -106,72 +119,96 @@ is_behind incarnation (Asked x told ∷ more) = is_behind incarnation more
 -- store makes none.
 abbrev pub stops_last : List Happened → Bool
 stops_last [] = true
-stops_last (Served session now frame Stopped ∷ more) = stops_last more && is_behind session.incarnation more
+stops_last (Served session now frame Stopped ∷ more) =
+    stops_last more && is_behind session.incarnation more
 stops_last (Served session now frame told ∷ more) = stops_last more
 stops_last (Asked x told ∷ more) = stops_last more
 
 -- What was served is legal.
 abbrev pub RunsLegal : Type 0
-RunsLegal = (base : Base) (history : List Happened) (server : Server) → IsSound base → Runs base history server → stops_last history ≡ true
+RunsLegal = (base : Base) (history : List Happened) (server : Server) → IsSound base
+    → Runs base history server → stops_last history ≡ true
     → legal base (items_of history) server.core.entries server.core.alerts ≡ true
 
 -- Of that, the part on alerts, which needs no premise: the alerts are the answered lines in order,
 -- and of the stopped ones some.
 abbrev pub RunsAlerts : Type 0
-RunsAlerts = (base : Base) (history : List Happened) (server : Server) → Runs base history server → lines_stand (lines_of (items_of history)) server.core.alerts ≡ true
+RunsAlerts = (base : Base) (history : List Happened) (server : Server) → Runs base history server
+    → lines_stand (lines_of (items_of history)) server.core.alerts ≡ true
 
 -- No opening counts identifiers past what they can spell: a source gives none where it has no room.
 abbrev pub RunsHaveRoom : Type 0
-RunsHaveRoom = (base : Base) (history : List Happened) (server : Server) → IsSound base → Runs base history server → stops_last history ≡ true → has_room base (items_of history) server.core.entries ≡ true
+RunsHaveRoom = (base : Base) (history : List Happened) (server : Server) → IsSound base
+    → Runs base history server → stops_last history ≡ true
+    → has_room base (items_of history) server.core.entries ≡ true
 
 -- So what was drawn anew is drawn once.
 abbrev pub RunsFreshNew : Type 0
-RunsFreshNew = (base : Base) (history : List Happened) (server : Server) → IsSound base → Runs base history server → stops_last history ≡ true → fresh_new base (items_of history) server.core.entries ≡ true
+RunsFreshNew = (base : Base) (history : List Happened) (server : Server) → IsSound base
+    → Runs base history server → stops_last history ≡ true
+    → fresh_new base (items_of history) server.core.entries ≡ true
 
 -- And it lies in what the source has set aside of its sequence, of which there is no less than at
 -- the start.
 abbrev pub RunsSetAside : Type 0
-RunsSetAside = (base : Base) (history : List Happened) (server : Server) → IsSound base → Runs base history server → stops_last history ≡ true
-    → SetAside base.sequences (ends_of server.core.opening) (drawn_anew base (walk_of base server.core.entries) (items_of history))
+RunsSetAside = (base : Base) (history : List Happened) (server : Server) → IsSound base
+    → Runs base history server → stops_last history ≡ true
+    → SetAside base.sequences (ends_of server.core.opening)
+    (drawn_anew base (walk_of base server.core.entries) (items_of history))
 
 -- Each frame is told as it has to be.
 abbrev pub RunsTold : Type 0
-RunsTold = (base : Base) (history : List Happened) (server : Server) → IsSound base → Runs base history server → stops_last history ≡ true → told_right base history server.core.entries ≡ true
+RunsTold = (base : Base) (history : List Happened) (server : Server) → IsSound base
+    → Runs base history server → stops_last history ≡ true
+    → told_right base history server.core.entries ≡ true
 
 -- An answer Committed has stored an entry of its session, and an entry of a session comes from one
 -- call of it: answered, or stopped.
 abbrev pub CommitsAs : Entry → Happened → Type 0
-CommitsAs entry (Served session now (up.Call replay kept called) (Says (down.Reply answers draws x))) =
-    (session ≡ session_of entry.ltxid) × (replay ≡ false) × (ends_committed answers ≡ true) × (x ≡ record entry.ltxid { number = entry.ltxid.number + 1 })
-CommitsAs entry (Served session now (up.Call replay kept called) Stopped) = (session ≡ session_of entry.ltxid) × (replay ≡ false)
+CommitsAs entry (Served session now (up.Call replay kept called)
+    (Says (down.Reply answers draws x))) =
+    (session ≡ session_of entry.ltxid) × (replay ≡ false) × (ends_committed answers ≡ true)
+    × (x ≡ record entry.ltxid { number = entry.ltxid.number + 1 })
+CommitsAs entry (Served session now (up.Call replay kept called) Stopped) =
+    (session ≡ session_of entry.ltxid) × (replay ≡ false)
 CommitsAs entry _ = ⊥
 
 abbrev pub EntryFromItem : Type 0
-EntryFromItem = (base : Base) (history : List Happened) (server : Server) → Runs base history server → (entry : Entry) → Contains server.core.entries entry
+EntryFromItem = (base : Base) (history : List Happened) (server : Server) → Runs base history server
+    → (entry : Entry) → Contains server.core.entries entry
     → (happened : Happened) × (Contains history happened × CommitsAs entry happened)
 
 -- An answer Committed is stored, in this run and in every later one.
 abbrev pub AnswersStand : Type 0
 AnswersStand = (base : Base) (history : List Happened) (server : Server) → Runs base history server
-    → (session : SessionId) (now : ℕ) (kept : List Draw) (called : Call) (answers : List Answer) (draws : List Draw) (x : Ltxid)
-    → Contains history (Served session now (up.Call false kept called) (Says (down.Reply answers draws x))) → ends_committed answers ≡ true
-    → (entry : Entry) × (Contains server.core.entries entry × ((session ≡ session_of entry.ltxid) × (entry.ltxid.number + 1 ≡ x.number)))
+    → (session : SessionId) (now : ℕ) (kept : List Draw) (called : Call) (answers : List Answer)
+    (draws : List Draw) (x : Ltxid)
+    → Contains history (Served session now (up.Call false kept called)
+    (Says (down.Reply answers draws x))) → ends_committed answers ≡ true
+    → (entry : Entry) × (Contains server.core.entries entry
+    × ((session ≡ session_of entry.ltxid) × (entry.ltxid.number + 1 ≡ x.number)))
 
 -- A marked call is answered Committed in no run.
 abbrev pub MarkedStoresNone : Type 0
-MarkedStoresNone = (base : Base) (history : List Happened) (server : Server) → Runs base history server
-    → (session : SessionId) (now : ℕ) (kept : List Draw) (called : Call) (answers : List Answer) (draws : List Draw) (x : Ltxid)
-    → Contains history (Served session now (up.Call true kept called) (Says (down.Reply answers draws x))) → ends_committed answers ≡ false
+MarkedStoresNone = (base : Base) (history : List Happened) (server : Server)
+    → Runs base history server
+    → (session : SessionId) (now : ℕ) (kept : List Draw) (called : Call) (answers : List Answer)
+    (draws : List Draw) (x : Ltxid)
+    → Contains history (Served session now (up.Call true kept called)
+    (Says (down.Reply answers draws x))) → ends_committed answers ≡ false
 
 -- An identifier that was told uncommitted is blocked, in this run and in every later one.
 abbrev pub TellsUncommitted : Ltxid → Happened → Type 0
-TellsUncommitted x (Served session now (up.Outcome y) (Says (down.OutcomeIs false completed))) = x ≡ y
+TellsUncommitted x (Served session now (up.Outcome y) (Says (down.OutcomeIs false completed))) =
+    x ≡ y
 TellsUncommitted x (Asked y (Says (down.OutcomeIs false completed))) = x ≡ y
 TellsUncommitted x _ = ⊥
 
 abbrev pub BlocksAreStored : Type 0
-BlocksAreStored = (base : Base) (history : List Happened) (server : Server) → Runs base history server
-    → (x : Ltxid) (happened : Happened) → Contains history happened → TellsUncommitted x happened → is_blocked (all_blocked server.core) x ≡ true
+BlocksAreStored = (base : Base) (history : List Happened) (server : Server)
+    → Runs base history server
+    → (x : Ltxid) (happened : Happened) → Contains history happened → TellsUncommitted x happened
+    → is_blocked (all_blocked server.core) x ≡ true
 
 -- ---- what is told, at the moment at which it is told
 
@@ -184,17 +221,24 @@ identifier_in _ = None
 -- A Hello and a Reply carry their session's next identifier.
 abbrev pub TellsNext : Type 0
 TellsNext = (base : Base) (history : List Happened) (server : Server) → IsSound base
-    → (session : SessionId) (now : ℕ) (frame : Up) (told : Down) (x : Ltxid) → Runs base (history ++ Served session now frame (Says told) ∷ []) server → identifier_in told ≡ Some x
-    → x ≡ next_ltxid (map committed_of (all_entries server.core)) session.incarnation session.session
+    → (session : SessionId) (now : ℕ) (frame : Up) (told : Down) (x : Ltxid)
+    → Runs base (history ++ Served session now frame (Says told) ∷ []) server
+    → identifier_in told ≡ Some x
+    → x ≡ next_ltxid (map committed_of (all_entries server.core)) session.incarnation
+    session.session
 
 -- An outcome is told by the table on the store before, unless its frame is refused,
 abbrev pub TellsOutcomes : Type 0
-TellsOutcomes = (base : Base) (history : List Happened) (server : Server) (session : SessionId) (now : ℕ) (x : Ltxid) (told : Down) → Runs base (history ++ Served session now (up.Outcome x) (Says told) ∷ []) server
-    → (before : Server) × (Runs base history before × ((told ≡ down.Refused 2) ⊎ (told ≡ down_of (verdict_on before.core x))))
+TellsOutcomes = (base : Base) (history : List Happened) (server : Server) (session : SessionId)
+    (now : ℕ) (x : Ltxid) (told : Down) → Runs base
+    (history ++ Served session now (up.Outcome x) (Says told) ∷ []) server
+    → (before : Server) × (Runs base history before
+    × ((told ≡ down.Refused 2) ⊎ (told ≡ down_of (verdict_on before.core x))))
 
 -- and so is what is asked from outside.
 abbrev pub TellsAsks : Type 0
-TellsAsks = (base : Base) (history : List Happened) (server : Server) (x : Ltxid) (told : Down) → Runs base (history ++ Asked x (Says told) ∷ []) server
+TellsAsks = (base : Base) (history : List Happened) (server : Server) (x : Ltxid) (told : Down)
+    → Runs base (history ++ Asked x (Says told) ∷ []) server
     → (before : Server) × (Runs base history before × (told ≡ down_of (verdict_on before.core x)))
 
 -- ---- fronts
@@ -211,7 +255,8 @@ pub record IsFront (before after : Server) : Type 0 where
   pub horizon : before.core.horizon ≤ after.core.horizon
 
 abbrev pub RunsFront : Type 0
-RunsFront = (base : Base) (history more : List Happened) (after : Server) → Runs base (history ++ more) after
+RunsFront = (base : Base) (history more : List Happened) (after : Server)
+    → Runs base (history ++ more) after
     → (before : Server) × (Runs base history before × IsFront before after)
 
 -- ---- the last thing
@@ -223,7 +268,8 @@ pub record SameStore (before after : Server) : Type 0 where
 
 -- Where the last thing of a history came: a run to before it, the move that added it, and what has
 -- come since, which added nothing.
-pub record LastOf (base : Base) (history : List Happened) (last : Happened) (after : Server) : Type 0 where
+pub record LastOf (base : Base) (history : List Happened) (last : Happened)
+    (after : Server) : Type 0 where
   pub before : Server
   pub behind : Server
   pub runs : Runs base history before
@@ -231,20 +277,25 @@ pub record LastOf (base : Base) (history : List Happened) (last : Happened) (aft
   pub same : SameStore behind after
 
 abbrev pub RunsLast : Type 0
-RunsLast = (base : Base) (history : List Happened) (last : Happened) (after : Server) → Runs base (history ++ last ∷ []) after → LastOf base history last after
+RunsLast = (base : Base) (history : List Happened) (last : Happened) (after : Server)
+    → Runs base (history ++ last ∷ []) after → LastOf base history last after
 
 -- ---- stops
 
 -- each frame that was stopped is of an incarnation below this one
 abbrev pub AreStoppedBefore : ℕ → List Happened → Type 0
 AreStoppedBefore incarnation [] = Unit {0}
-AreStoppedBefore incarnation (Served session now frame Stopped ∷ more) = (session.incarnation < incarnation) × AreStoppedBefore incarnation more
-AreStoppedBefore incarnation (Served session now frame told ∷ more) = AreStoppedBefore incarnation more
+AreStoppedBefore incarnation (Served session now frame Stopped ∷ more) =
+    (session.incarnation < incarnation) × AreStoppedBefore incarnation more
+AreStoppedBefore incarnation (Served session now frame told ∷ more) =
+    AreStoppedBefore incarnation more
 AreStoppedBefore incarnation (Asked x told ∷ more) = AreStoppedBefore incarnation more
 
 -- While a server runs on, it stopped in no frame of its opening.
 abbrev pub RunsStopped : Type 0
-RunsStopped = (base : Base) (history : List Happened) (server : Server) → IsSound base → Runs base history server → server.power ≡ On → AreStoppedBefore server.core.opening.incarnation history
+RunsStopped = (base : Base) (history : List Happened) (server : Server) → IsSound base
+    → Runs base history server → server.power ≡ On
+    → AreStoppedBefore server.core.opening.incarnation history
 
 -- ---- services
 
@@ -253,7 +304,8 @@ RunsStopped = (base : Base) (history : List Happened) (server : Server) → IsSo
 pub record StoresRight (seen : Seen) : Type 0 where
   pub gained : List Entry
   pub entries : seen.state.store.entries ≡ seen.start.entries ++ gained
-  pub serial : Serial seen.start.shape seen.start.tables gained (tables_with seen.start.tables gained)
+  pub serial : Serial seen.start.shape seen.start.tables gained
+      (tables_with seen.start.tables gained)
   pub numbered : AreNumbered seen.start.entries gained
   pub apart : All (λ entry. is_blocked seen.state.store.blocked entry.ltxid ≡ false) gained
 
@@ -263,7 +315,8 @@ ServiceStores = (seen : Seen) → IsSound seen.start → IsHistory seen → Stor
 
 -- each identifier that it blocked is its session's next one,
 abbrev pub ServiceStands : Type 0
-ServiceStands = (seen : Seen) → IsSound seen.start → IsHistory seen → BlocksStand (map committed_of seen.state.store.entries) seen.state.store.blocked
+ServiceStands = (seen : Seen) → IsSound seen.start → IsHistory seen
+    → BlocksStand (map committed_of seen.state.store.entries) seen.state.store.blocked
 
 -- and it serves right.
 pub record ServesRight (seen : Seen) : Type 0 where
@@ -276,4 +329,5 @@ pub record ServesRight (seen : Seen) : Type 0 where
   pub told : told_right seen.start seen.history gained ≡ true
 
 abbrev pub ServiceRuns : Type 0
-ServiceRuns = (seen : Seen) → IsSound seen.start → IsHistory seen → stops_last seen.history ≡ true → ServesRight seen
+ServiceRuns = (seen : Seen) → IsSound seen.start → IsHistory seen → stops_last seen.history ≡ true
+    → ServesRight seen

@@ -40,5 +40,7 @@ if_blocks (verdict.Forgotten horizon) core x = core
 -- The outcome of an identifier is told, and before it is told uncommitted it is blocked. At a stop
 -- the block stands or not.
 pub data Outcomes (core : Core) (x : Ltxid) : Core → Telling → Type 0 where
-  IsTold : (judged : Verdict) → verdict_on core x ≡ judged → Outcomes core x (if_blocks judged core x) (Says (down_of judged))
-  BlockStops : (after : Core) → verdict_on core x ≡ verdict.BlockIt → (after ≡ core) ⊎ (after ≡ with_block core x) → Outcomes core x after Stopped
+  IsTold : (judged : Verdict) → verdict_on core x ≡ judged
+      → Outcomes core x (if_blocks judged core x) (Says (down_of judged))
+  BlockStops : (after : Core) → verdict_on core x ≡ verdict.BlockIt
+      → (after ≡ core) ⊎ (after ≡ with_block core x) → Outcomes core x after Stopped

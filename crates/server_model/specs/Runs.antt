@@ -49,10 +49,16 @@ is_running Halted = true
 
 -- the session that the server makes next
 abbrev pub next_session : Server → Sess
-next_session server = made (record { incarnation = server.core.opening.incarnation; session = server.count + 1 })
+next_session server = made (record {
+  incarnation = server.core.opening.incarnation;
+  session = server.count + 1;
+})
 
 abbrev pub reopened_core : Core → Core
-reopened_core core = record core { opening = opening_after core.opening (core.opening.incarnation + 1) }
+reopened_core core = record core {
+  opening =
+      opening_after core.opening (core.opening.incarnation + 1);
+}
 
 -- the outcomes of all incarnations below this one are forgotten too
 abbrev pub forgetting : Core → ℕ → Core
@@ -66,36 +72,66 @@ pub record MayOpen (core : Core) (below : ℕ) : Type 0 where
 
 -- One session of the server, with those before and behind it, comes to be another, and the core
 -- too.
-pub record Turns (before after : Server) (old new : Sess) (core : Core) (power : Power) : Type 0 where
+pub record Turns (before after : Server) (old new : Sess) (core : Core)
+    (power : Power) : Type 0 where
   pub front : List Sess
   pub back : List Sess
   pub split : before.sessions ≡ front ++ old ∷ back
-  pub turned : after ≡ record { power = power; core = core; sessions = front ++ new ∷ back; count = before.count }
+  pub turned : after ≡ record {
+    power = power;
+    core = core;
+    sessions = front ++ new ∷ back;
+    count = before.count;
+  }
 
 -- How the server goes on, and what of it stands in the history.
 pub data Moves (server : Server) : List Happened → Server → Type 0 where
   -- a connection's first frame and a run from outside make a session
-  Makes : server.power ≡ On → Moves server [] (record server { sessions = server.sessions ++ next_session server ∷ []; count = server.count + 1 })
-  Answers : (old new : Sess) (now : ℕ) (frame : Up) (core : Core) (told : Telling) (after : Server) → server.power ≡ On → Serve server.core old now frame core new told → IsTrue (is_answered told)
-      → Turns server after old new core On → Moves server (Served (session_of old.ltxid) now frame told ∷ []) after
+  Makes : server.power ≡ On → Moves server []
+      (record server {
+        sessions = server.sessions ++ next_session server ∷ [];
+        count =
+            server.count + 1;
+      })
+  Answers : (old new : Sess) (now : ℕ) (frame : Up) (core : Core) (told : Telling) (after : Server)
+      → server.power ≡ On → Serve server.core old now frame core new told
+      → IsTrue (is_answered told)
+      → Turns server after old new core On
+      → Moves server (Served (session_of old.ltxid) now frame told ∷ []) after
   -- a stop in the frame, or behind it and before its answer went out
-  Halts : (old new : Sess) (now : ℕ) (frame : Up) (core : Core) (told : Telling) (after : Server) → IsTrue (is_running server.power) → Serve server.core old now frame core new told
-      → Turns server after old new core Halted → Moves server (Served (session_of old.ltxid) now frame Stopped ∷ []) after
+  Halts : (old new : Sess) (now : ℕ) (frame : Up) (core : Core) (told : Telling) (after : Server)
+      → IsTrue (is_running server.power) → Serve server.core old now frame core new told
+      → Turns server after old new core Halted
+      → Moves server (Served (session_of old.ltxid) now frame Stopped ∷ []) after
   -- a frame behind a stop of the same call, of which nothing stands
   Loses : (old : Sess) (now : ℕ) (frame : Up) (after : Server) → server.power ≡ Halted
-      → Turns server after old (ended old) server.core Halted → Moves server (Served (session_of old.ltxid) now frame Stopped ∷ []) after
-  AnswersAsk : (x : Ltxid) (core : Core) (frame : Down) → server.power ≡ On → Outcomes server.core x core (Says frame) → Moves server (Asked x (Says frame) ∷ []) (record server { core = core })
-  HaltsInAsk : (x : Ltxid) (core : Core) (told : Telling) → IsTrue (is_running server.power) → Outcomes server.core x core told → Moves server (Asked x Stopped ∷ []) (record server { power = Halted; core = core })
-  Reaps : (front back : List Sess) (sess : Sess) → server.sessions ≡ front ++ sess ∷ back → Moves server [] (record server { sessions = front ++ back })
+      → Turns server after old (ended old) server.core Halted
+      → Moves server (Served (session_of old.ltxid) now frame Stopped ∷ []) after
+  AnswersAsk : (x : Ltxid) (core : Core) (frame : Down) → server.power ≡ On
+      → Outcomes server.core x core (Says frame) → Moves server (Asked x (Says frame) ∷ [])
+      (record server { core = core })
+  HaltsInAsk : (x : Ltxid) (core : Core) (told : Telling) → IsTrue (is_running server.power)
+      → Outcomes server.core x core told
+      → Moves server (Asked x Stopped ∷ []) (record server { power = Halted; core = core })
+  Reaps : (front back : List Sess) (sess : Sess) → server.sessions ≡ front ++ sess ∷ back
+      → Moves server [] (record server { sessions = front ++ back })
   -- a crash ends all sessions. What it leaves of a stopped call is chosen in the move of that call
   Falls : Moves server [] (record { power = Off; core = server.core; sessions = []; count = 0 })
   -- an opening stores the horizon that is wanted, and then its incarnation
-  Opens : (below : ℕ) → server.power ≡ Off → MayOpen server.core below → Moves server [] (record { power = On; core = reopened_core (forgetting server.core below); sessions = []; count = 0 })
+  Opens : (below : ℕ) → server.power ≡ Off → MayOpen server.core below → Moves server [] (record {
+    power = On;
+    core = reopened_core (forgetting server.core below);
+    sessions = [];
+    count = 0;
+  })
   -- one that is stopped has stored neither, the horizon or both
-  StopsOpening : (below : ℕ) (core : Core) → server.power ≡ Off → MayOpen server.core below → (core ≡ server.core) ⊎ ((core ≡ forgetting server.core below) ⊎ (core ≡ reopened_core (forgetting server.core below)))
+  StopsOpening : (below : ℕ) (core : Core) → server.power ≡ Off → MayOpen server.core below
+      → (core ≡ server.core) ⊎ ((core ≡ forgetting server.core below) ⊎
+      (core ≡ reopened_core (forgetting server.core below)))
       → Moves server [] (record { power = Off; core = core; sessions = []; count = 0 })
 
 -- a whole history, from the server as it was made
 pub data Runs (base : Base) : List Happened → Server → Type 0 where
   Start : Runs base [] (server_of base)
-  Then : (history more : List Happened) (server after : Server) → Runs base history server → Moves server more after → Runs base (history ++ more) after
+  Then : (history more : List Happened) (server after : Server) → Runs base history server
+      → Moves server more after → Runs base (history ++ more) after

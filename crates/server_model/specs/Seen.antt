@@ -96,8 +96,11 @@ pub record IsNew (seen : Seen) : Type 0 where
   pub alerts : seen.state.store.alerts ≡ seen.start.alerts
   pub incarnation : seen.state.store.incarnation ≡ seen.start.incarnation
   pub horizon : seen.state.store.horizon ≡ seen.start.horizon
-  pub down : (seen.state.is_up ≡ false) × (seen.state.is_settled ≡ true) × (seen.state.is_opened ≡ false)
-  pub none : SameLiving seen.state.living none_living × (seen.state.stop ≡ None) × (seen.state.crashes ≡ 0) × (seen.state.last_pick ≡ None) × (seen.state.calls ≡ 0) × (seen.state.is_spent ≡ false)
+  pub down : (seen.state.is_up ≡ false) × (seen.state.is_settled ≡ true)
+      × (seen.state.is_opened ≡ false)
+  pub none : SameLiving seen.state.living none_living × (seen.state.stop ≡ None)
+      × (seen.state.crashes ≡ 0) × (seen.state.last_pick ≡ None) × (seen.state.calls ≡ 0)
+      × (seen.state.is_spent ≡ false)
 
 -- ---- connections
 
@@ -109,7 +112,8 @@ abbrev pub without_connection : ℕ → Connections → Connections
 without_connection connection living other = if other == connection then None else living other
 
 abbrev pub with_connection : ℕ → Option SessionId → Connections → Connections
-with_connection connection session living other = if other == connection then Some session else living other
+with_connection connection session living other =
+    if other == connection then Some session else living other
 
 -- ---- what calls keep
 
@@ -123,7 +127,8 @@ pub record Keeps (old new : Seen) : Type 0 where
   pub is_opened : new.state.is_opened ≡ old.state.is_opened
   pub is_quiet : new.state.is_quiet ≡ old.state.is_quiet
   pub per_record : new.state.per_record ≡ old.state.per_record
-  pub crashes : (new.state.crashes ≡ old.state.crashes) × (new.state.last_pick ≡ old.state.last_pick) × (new.state.last_stop ≡ old.state.last_stop)
+  pub crashes : (new.state.crashes ≡ old.state.crashes)
+      × (new.state.last_pick ≡ old.state.last_pick) × (new.state.last_stop ≡ old.state.last_stop)
   pub faults : old.state.faults ≤ new.state.faults
   -- no stop is set
   pub stop : old.state.stop ≡ None → new.state.stop ≡ None

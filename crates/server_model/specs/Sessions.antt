@@ -35,11 +35,27 @@ pub record Sess : Type 0 where
 
 -- a session as it is made
 abbrev pub made : SessionId → Sess
-made id = record { ltxid = ltxid_of id 0; life = New; settings = []; at_start = []; pieces = []; writes = []; reads = [] }
+made id = record {
+  ltxid = ltxid_of id 0;
+  life = New;
+  settings = [];
+  at_start = [];
+  pieces = [];
+  writes = [];
+  reads = [];
+}
 
 -- rolled back, with these settings
 abbrev pub begun_with : Sess → Life → List (List ℕ × Value) → Sess
-begun_with sess life settings = record { ltxid = sess.ltxid; life = life; settings = settings; at_start = settings; pieces = []; writes = []; reads = [] }
+begun_with sess life settings = record {
+  ltxid = sess.ltxid;
+  life = life;
+  settings = settings;
+  at_start = settings;
+  pieces = [];
+  writes = [];
+  reads = [];
+}
 
 -- its transaction is over; the settings stay
 abbrev pub dropped : Sess → Sess
@@ -53,11 +69,17 @@ piece_of call answers draws = record { call = call; answers = answers; draws = d
 
 -- a call becomes a piece
 abbrev pub with_piece : Sess → Call → List Answer → List Draw → Sess
-with_piece sess call answers draws = record sess { pieces = sess.pieces ++ piece_of call answers draws ∷ [] }
+with_piece sess call answers draws = record sess {
+  pieces =
+      sess.pieces ++ piece_of call answers draws ∷ [];
+}
 
 -- what a call read and wrote joins the transaction
 abbrev pub with_work : Sess → List PlainRow → Meant → Sess
-with_work sess committed meant = record sess { reads = sess.reads ++ reads_at committed meant.reads; writes = sess.writes ++ meant.writes }
+with_work sess committed meant = record sess {
+  reads = sess.reads ++ reads_at committed meant.reads;
+  writes = sess.writes ++ meant.writes;
+}
 
 -- the session after a commit
 abbrev pub raised : Sess → Sess

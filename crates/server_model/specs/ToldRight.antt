@@ -28,11 +28,13 @@ use Rattle.server_model.specs.meaning.Walk.{Walk, walk_of, next_of, deed_of, ent
 
 abbrev pub life_in : List (SessionId × Life) → SessionId → Life
 life_in [] session = New
-life_in (first ∷ rest) session = if same_session first.0 session then first.1 else life_in rest session
+life_in (first ∷ rest) session = if same_session first.0 session then first.1 else life_in
+    rest session
 
 abbrev pub with_life : List (SessionId × Life) → SessionId → Life → List (SessionId × Life)
 with_life [] session life = (session, life) ∷ []
-with_life (first ∷ rest) session life = if same_session first.0 session then (session, life) ∷ rest else first ∷ with_life rest session life
+with_life (first ∷ rest) session life = if same_session first.0 session then (session, life)
+    ∷ rest else first ∷ with_life rest session life
 
 -- a frame that is served in order
 abbrev pub life_behind : Up → Life → Life
@@ -99,7 +101,8 @@ tells_outcome walk x told = same_outcome told (outcome_on walk x)
 -- in order, an answer is of the frame's kind, and has the session's identifier behind the frame
 abbrev pub tells : Walk → Walk → SessionId → Up → Down → Bool
 tells before behind session up.Connect (down.Hello x) = same_ltxid x (next_of behind session)
-tells before behind session (up.Call replay kept called) (down.Reply answers draws x) = same_ltxid x (next_of behind session)
+tells before behind session (up.Call replay kept called) (down.Reply answers draws x) =
+    same_ltxid x (next_of behind session)
 tells before behind session (up.Call replay kept called) down.Blocked = true
 tells before behind session (up.Outcome x) told = tells_outcome before x told
 tells before behind session _ _ = false
@@ -118,8 +121,11 @@ is_ended _ = false
 
 -- `life` is that before the frame; `before` and `behind` are the walk before and behind it
 abbrev pub told_holds : Life → Walk → Walk → SessionId → Up → Telling → Bool
-told_holds life before behind session frame Silent = not (is_ended life) && (is_silent frame && not (must_refuse life frame))
-told_holds life before behind session frame (Says told) = not (is_ended life) && (if must_refuse life frame then is_refused told else tells before behind session frame told)
+told_holds life before behind session frame Silent =
+    not (is_ended life) && (is_silent frame && not (must_refuse life frame))
+told_holds life before behind session frame (Says told) =
+    not (is_ended life) && (if must_refuse life frame then is_refused told else
+    tells before behind session frame told)
 told_holds life before behind session frame Stopped = true
 
 abbrev pub ask_holds : Walk → Ltxid → Telling → Bool
@@ -128,11 +134,13 @@ ask_holds before x (Says told) = tells_outcome before x told
 ask_holds before x Stopped = true
 
 abbrev pub happened_holds : List (SessionId × Life) → Walk → Walk → Happened → Bool
-happened_holds lives before behind (Served session now frame told) = told_holds (life_in lives session) before behind session frame told
+happened_holds lives before behind (Served session now frame told) =
+    told_holds (life_in lives session) before behind session frame told
 happened_holds lives before behind (Asked x told) = ask_holds before x told
 
 abbrev pub lives_after : List (SessionId × Life) → Happened → List (SessionId × Life)
-lives_after lives (Served session now frame told) = with_life lives session (life_after frame told (life_in lives session))
+lives_after lives (Served session now frame told) =
+    with_life lives session (life_after frame told (life_in lives session))
 lives_after lives (Asked x told) = lives
 
 abbrev pub told_from : Base → List (SessionId × Life) → Walk → List Happened → Bool
@@ -141,7 +149,8 @@ told_from base lives walk (happened ∷ more) =
     let item = item_of 0 happened in
     let here = entered walk item in
     let behind = after base here item (deed_of base here item) in
-    happened_holds lives here behind happened && told_from base (lives_after lives happened) behind more
+    happened_holds lives here behind happened
+    && told_from base (lives_after lives happened) behind more
 
 -- Each frame of a history is told as it has to be: a Hello and a Reply with their session's
 -- identifier, with the number of its entries then; an outcome and an ask by the table then; Refused

@@ -17,7 +17,8 @@ pub record HasGained (records : List Record) (old new : DiskState) : Type 0 wher
 
 -- the image holds what the old one does, with these records, and the last one or not
 abbrev pub IsLeftOf : List ℕ → List Record → Record → List ℕ → Type 0
-IsLeftOf old records last image = HasAdded old records image ⊎ HasAdded old (records ++ last ∷ []) image
+IsLeftOf old records last image = HasAdded old records image ⊎ HasAdded old (records ++ last ∷ [])
+    image
 
 -- These records were added, and in the one behind them the disk failed: in a quiet one since a stop
 -- was reached. A crash now leaves all of the first, and the last one or not.

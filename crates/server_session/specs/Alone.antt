@@ -22,9 +22,11 @@ is_alone commits (Some since) = (since == commits) && nat_lt since (2 ^ 64 - 1)
 -- What a transaction read is there still where none has committed since it began to.
 abbrev pub HoldsSince : Core → Option ℕ → List Reading → Type 0
 HoldsSince core None readings = readings ≡ []
-HoldsSince core (Some since) readings = (since ≤ core.commits) × (IsTrue (is_alone core.commits (Some since)) → AreUnchanged core.tables.rows readings)
+HoldsSince core (Some since) readings = (since ≤ core.commits)
+    × (IsTrue (is_alone core.commits (Some since)) → AreUnchanged core.tables.rows readings)
 
 -- A core later on: where it has counted no commit more, its tables are the same.
 pub record MovesOn (core later : Core) : Type 0 where
   pub rises : core.commits ≤ later.commits
-  pub same : later.commits ≡ core.commits → core.commits < 2 ^ 64 - 1 → later.tables.rows ≡ core.tables.rows
+  pub same : later.commits ≡ core.commits → core.commits < 2 ^ 64 - 1
+      → later.tables.rows ≡ core.tables.rows

@@ -52,29 +52,37 @@ abbrev pub reserving : List Reservation → List Record
 reserving reservations = map (λ one. kept.Reserved one) reservations
 
 -- A reservation is stored, and the source was told of it.
-pub record HasReserved (name : List ℕ) (upto : ℤ) (opening : Opening) (disk : DiskState) (later : Opening) (log : Log) (end : DiskState) : Type 0 where
+pub record HasReserved (name : List ℕ) (upto : ℤ) (opening : Opening) (disk : DiskState)
+    (later : Opening) (log : Log) (end : DiskState) : Type 0 where
   pub told : later ≡ reserved_to opening name upto
   pub gained : HasGained (kept.Reserved (reservation_of name upto) ∷ []) disk end
   pub prepared : IsPrepared later log end
 
 -- There was no memory for it.
-pub record HasLackedReservation (opening : Opening) (disk : DiskState) (later : Opening) (log : Log) (end : DiskState) (name : List ℕ) (upto : ℤ) : Type 0 where
+pub record HasLackedReservation (opening : Opening) (disk : DiskState) (later : Opening) (log : Log)
+    (end : DiskState) (name : List ℕ) (upto : ℤ) : Type 0 where
   pub same : later ≡ opening
-  pub moments : Meanwhile disk end (IsGrown disk.now.seen (kept.Reserved (reservation_of name upto) ∷ []))
+  pub moments : Meanwhile disk end (IsGrown disk.now.seen (kept.Reserved (reservation_of name upto)
+      ∷ []))
   pub faults : end.faults ≡ disk.faults
   pub prepared : IsPrepared later log end
 
 -- It was stopped.
-pub record HasHaltedReservation (name : List ℕ) (upto : ℤ) (opening : Opening) (disk : DiskState) (later : Opening) (log : Log) (end : DiskState) : Type 0 where
+pub record HasHaltedReservation (name : List ℕ) (upto : ℤ) (opening : Opening) (disk : DiskState)
+    (later : Opening) (log : Log) (end : DiskState) : Type 0 where
   pub same : later ≡ opening
   pub halted : HasHalted [] (kept.Reserved (reservation_of name upto)) disk end
   pub dead : IsFalse (is_live log)
   pub ends : StillEnds log disk end
 
-abbrev pub Reserves : List ℕ → ℤ → Result (Unit {0}) ServeFault → Opening → DiskState → Opening → Log → DiskState → Type 0
-Reserves name upto (Ok done) opening disk later log end = HasReserved name upto opening disk later log end
-Reserves name upto (Err fault.NoMemory) opening disk later log end = HasLackedReservation opening disk later log end name upto
-Reserves name upto (Err fault.Stopped) opening disk later log end = HasHaltedReservation name upto opening disk later log end
+abbrev pub Reserves : List ℕ → ℤ → Result (Unit {0}) ServeFault → Opening → DiskState → Opening
+    → Log → DiskState → Type 0
+Reserves name upto (Ok done) opening disk later log end =
+    HasReserved name upto opening disk later log end
+Reserves name upto (Err fault.NoMemory) opening disk later log end =
+    HasLackedReservation opening disk later log end name upto
+Reserves name upto (Err fault.Stopped) opening disk later log end =
+    HasHaltedReservation name upto opening disk later log end
 
 -- the journal with these reservations behind its own
 abbrev pub with_reserved : Journal → List Reservation → Journal
@@ -82,7 +90,8 @@ with_reserved journal more = record journal { reserved = journal.reserved ++ mor
 
 -- The store may have stopped among these draws with just these reservations: some draws were given,
 -- and the next one asked for a reservation that is the last of them, or was lost behind them.
-pub record HaltsAtFront (now : ℕ) (before : AtDesk) (given : List Draw) (stored : List Reservation) : Type 0 where
+pub record HaltsAtFront (now : ℕ) (before : AtDesk) (given : List Draw)
+    (stored : List Reservation) : Type 0 where
   pub front : List Draw
   pub next : Draw
   pub back : List Draw
@@ -92,7 +101,8 @@ pub record HaltsAtFront (now : ℕ) (before : AtDesk) (given : List Draw) (store
   pub draws : DrawsAll now before.opening before.left front between left
   pub opening : Opening
   pub halts : HaltsAt now left (kind_drawn next) between opening
-  pub source : (journal : Journal) → IsSourceOf before.opening journal → IsSourceOf opening (with_reserved journal stored)
+  pub source : (journal : Journal) → IsSourceOf before.opening journal
+      → IsSourceOf opening (with_reserved journal stored)
 
 -- These were given, one after the other, with the reservations that had to be stored first: at most
 -- one for each value of a sequence. The source goes on beside any journal that it was the source
@@ -102,17 +112,24 @@ pub record HasDealt (now : ℕ) (before : AtDesk) (given : List Draw) (after : A
   pub few : length reservations ≤ sequences_drawn given
   pub gained : HasGained (reserving reservations) before.disk after.disk
   pub draws : DrawsAll now before.opening before.left given after.opening after.left
-  pub moved : (journal : Journal) → IsSourceOf before.opening journal → IsSourceOf after.opening (with_reserved journal reservations)
-  pub halts : (count : ℕ) → count ≤ length reservations → reservations ≢ [] → HaltsAtFront now before given (take count reservations)
+  pub moved : (journal : Journal) → IsSourceOf before.opening journal
+      → IsSourceOf after.opening (with_reserved journal reservations)
+  pub halts : (count : ℕ) → count ≤ length reservations → reservations ≢ []
+      → HaltsAtFront now before given (take count reservations)
   pub prepared : IsPrepared after.opening after.log after.disk
 
 -- The store was stopped at the reservation that a value of a sequence asked for. The source is as
 -- it was.
-pub record HasHaltedAt (now : ℕ) (before : AtDesk) (asked : DrawKind) (after : AtDesk) : Type 0 where
+pub record HasHaltedAt (now : ℕ) (before : AtDesk) (asked : DrawKind)
+    (after : AtDesk) : Type 0 where
   pub name : List ℕ
   pub upto : ℤ
   pub is : asked ≡ kind.Seq name
-  pub wanted : draw_of before.opening before.left asked now ≡ Some (record { answer = drawn.Reserve name upto; opening = before.opening; kept = before.left })
+  pub wanted : draw_of before.opening before.left asked now ≡ Some (record {
+    answer = drawn.Reserve name upto;
+    opening = before.opening;
+    kept = before.left;
+  })
   pub halted : HasHalted [] (kept.Reserved (reservation_of name upto)) before.disk after.disk
   pub same : after.opening ≡ before.opening
   pub ends : StillEnds after.log before.disk after.disk
@@ -121,17 +138,20 @@ pub record HasHaltedAt (now : ℕ) (before : AtDesk) (asked : DrawKind) (after :
 pub record HasLackedAt (before after : AtDesk) : Type 0 where
   pub reservations : List Reservation
   pub few : length reservations ≤ 1
-  pub moments : Meanwhile before.disk after.disk (IsGrown before.disk.now.seen (reserving reservations))
+  pub moments : Meanwhile before.disk after.disk
+      (IsGrown before.disk.now.seen (reserving reservations))
   pub faults : after.disk.faults ≡ before.disk.faults
 
 -- what a draw came to; a log that was stopped before it tells nothing
 abbrev pub Deals : ℕ → AtDesk → Drew → AtDesk → Type 0
 Deals now before (Gave given) after = HasDealt now before (given ∷ []) after
 Deals now before (Lacked asked) after = HasLackedAt before after
-Deals now before (Halted asked) after = IsTrue (is_live before.log) → HasHaltedAt now before asked after
+Deals now before (Halted asked) after = IsTrue (is_live before.log)
+    → HasHaltedAt now before asked after
 
 -- the same of an answer
 abbrev pub DealsAs : ℕ → AtDesk → DrawKind → Result Draw ServeFault → AtDesk → Type 0
-DealsAs now before asked (Ok given) after = (is_of_kind asked given ≡ true) × Deals now before (Gave given) after
+DealsAs now before asked (Ok given) after = (is_of_kind asked given ≡ true)
+    × Deals now before (Gave given) after
 DealsAs now before asked (Err fault.NoMemory) after = Deals now before (Lacked asked) after
 DealsAs now before asked (Err fault.Stopped) after = Deals now before (Halted asked) after

@@ -6,7 +6,12 @@ use Rattle.server_session.specs.declared.desk.Desk.{Desk}
 use Rattle.server_session.specs.Dealing.{AtDesk, Deals}
 
 abbrev pub at_desk : {D : Type 0} → (D → DiskState) → Desk D → AtDesk
-at_desk state desk = record { opening = desk.source.now; left = desk.kept.now; log = desk.log.now; disk = state desk.disk.now }
+at_desk state desk = record {
+  opening = desk.source.now;
+  left = desk.kept.now;
+  log = desk.log.now;
+  disk = state desk.disk.now;
+}
 
 -- the borrows are those that were handed in, and the tick is the same
 pub record SamePlaces {D : Type 0} (a b : Desk D) : Type 0 where

@@ -24,19 +24,27 @@ use Rattle.server_session.specs.SeenSession.{SeenSession}
 
 -- the tables of a journal: those that it began with, and what its entries wrote
 abbrev pub tables_of : Journal → Stored
-tables_of journal = record { schemas = schemas_of journal.base; rows = tables_with (start_of journal.base) journal.entries }
+tables_of journal = record {
+  schemas = schemas_of journal.base;
+  rows = tables_with (start_of journal.base) journal.entries;
+}
 
 -- a sequence of a source, and one of a journal: where the values end that are set aside for it
 abbrev pub sequence_in : SeqState → Sequence
 sequence_in sequence = record { name = sequence.name; upto = sequence.upto; keep = sequence.keep }
 
 abbrev pub sequence_of : Journal → BaseSequence → Sequence
-sequence_of journal sequence = record { name = sequence.name; upto = end_of journal.reserved sequence; keep = sequence.keep }
+sequence_of journal sequence = record {
+  name = sequence.name;
+  upto = end_of journal.reserved sequence;
+  keep = sequence.keep;
+}
 
 -- the source has the journal's incarnation, its sequences, and their reservations
 pub record IsSourceOf (source : Opening) (journal : Journal) : Type 0 where
   pub incarnation : source.incarnation ≡ journal.incarnation
-  pub sequences : map sequence_in source.sequences ≡ map (sequence_of journal) journal.base.sequences
+  pub sequences : map sequence_in source.sequences ≡ map
+      (sequence_of journal) journal.base.sequences
 
 -- The log is live and nothing is pending on its disk, which reads as a journal. The tables, the
 -- book and the source are those of this journal, whose incarnation is not forgotten. No two
@@ -56,7 +64,8 @@ pub record Fits (core : Core) (disk : DiskState) : Type 0 where
 -- and what it read is there still where none has committed since.
 pub record Belongs (core : Core) (seen : SeenSession) : Type 0 where
   pub incarnation : seen.ltxid.incarnation ≡ core.source.incarnation
-  pub number : seen.ltxid.number ≡ ((sessions_in core.book).state seen.ltxid.incarnation seen.ltxid.session).next
+  pub number : seen.ltxid.number ≡ ((sessions_in core.book).state seen.ltxid.incarnation
+      seen.ltxid.session).next
   pub writes : IsTrue (writes_fit core.tables.schemas seen.txn.writes)
   pub calls : AllByRecursion IsMadePiece seen.txn.pieces
   pub holds : HoldsSince core seen.since seen.txn.readings

@@ -13,7 +13,9 @@ use Rattle.server_session.specs.Following.{IsOfJournal}
 
 -- a log that was stopped still knows where the records end that the disk had before
 abbrev pub StillEnds : Log → (disk end : DiskState) → Type 0
-StillEnds log disk end = (journal : Journal) → so_far_of disk.now.seen ≡ Ok (Begun journal true true) → (image : List ℕ) → MayLeave end.now image → Trails true true journal log image
+StillEnds log disk end = (journal : Journal)
+    → so_far_of disk.now.seen ≡ Ok (Begun journal true true) → (image : List ℕ)
+    → MayLeave end.now image → Trails true true journal log image
 
 -- the core is that of the first records of the image
 pub record IsOfFront (core : Core) (image : List ℕ) : Type 0 where

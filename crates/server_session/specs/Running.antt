@@ -29,13 +29,16 @@ pub record Ground : Type 0 where
 
 -- which draws are left of given ones, where these begin as the statements ask
 abbrev pub left_on : Ground → List (List ℕ) → List Draw → Option (List Draw)
-left_on ground names draws = option_map (λ meant. meant.rest) (meaning ground.tables names ground.settings ground.txn ground.statements draws)
+left_on ground names draws = option_map (λ meant. meant.rest)
+    (meaning ground.tables names ground.settings ground.txn ground.statements draws)
 
 -- The statements ran: the draws were dealt, and the transaction has what they did. Where each place
 -- that it had read had what was read there, each that it has read now has.
-pub record HasRunOver (now : ℕ) (ground : Ground) (before : AtDesk) (ran : Ran) (txn : Transaction) (after : AtDesk) : Type 0 where
+pub record HasRunOver (now : ℕ) (ground : Ground) (before : AtDesk) (ran : Ran) (txn : Transaction)
+    (after : AtDesk) : Type 0 where
   pub dealt : HasDealt now before ran.draws after
-  pub run : HasRun ground.tables (names_of before.opening.sequences) ground.settings ground.txn ground.statements ran.answers ran.draws txn
+  pub run : HasRun ground.tables (names_of before.opening.sequences) ground.settings ground.txn
+      ground.statements ran.answers ran.draws txn
   pub fits : IsTrue (writes_fit ground.tables.schemas txn.writes)
   pub unchanged : StayUnchanged ground.tables.rows ground.txn.readings txn.readings
 
@@ -51,10 +54,13 @@ pub record HasHaltedOver (now : ℕ) (ground : Ground) (before after : AtDesk) :
 
 -- How many records a run adds: at most one for each value of a sequence, and the one in which it
 -- ends.
-abbrev pub RunsOver : ℕ → Ground → ℕ → AtDesk → Result Ran ServeFault → Transaction → AtDesk → Type 0
+abbrev pub RunsOver : ℕ → Ground → ℕ → AtDesk → Result Ran ServeFault → Transaction → AtDesk
+    → Type 0
 RunsOver now ground most before (Ok ran) txn after = HasRunOver now ground before ran txn after
-RunsOver now ground most before (Err fault.NoMemory) txn after = HasLacked most before.disk after.disk
-RunsOver now ground most before (Err fault.Stopped) txn after = HasHaltedOver now ground before after
+RunsOver now ground most before (Err fault.NoMemory) txn after =
+    HasLacked most before.disk after.disk
+RunsOver now ground most before (Err fault.Stopped) txn after =
+    HasHaltedOver now ground before after
 
 -- a run, with a fault as the session tells it
 abbrev pub ended_as : Result Ran TxnFault → Result Ran ServeFault

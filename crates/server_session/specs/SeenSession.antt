@@ -25,7 +25,14 @@ started_with (Some earlier) now = earlier
 
 -- as it is made
 abbrev pub begins : Ltxid → SeenSession
-begins ltxid = record { ltxid = ltxid; life = New; settings = []; at_start = []; txn = empty; since = None }
+begins ltxid = record {
+  ltxid = ltxid;
+  life = New;
+  settings = [];
+  at_start = [];
+  txn = empty;
+  since = None;
+}
 
 -- the plain server's session, which read this
 abbrev pub sess_of : SeenSession → List Read → Sess
@@ -45,7 +52,14 @@ is_alive _ = true
 
 -- rolled back, with these settings
 abbrev pub begun_so : SeenSession → Life → NamedValues → SeenSession
-begun_so seen life settings = record { ltxid = seen.ltxid; life = life; settings = settings; at_start = settings; txn = empty; since = None }
+begun_so seen life settings = record {
+  ltxid = seen.ltxid;
+  life = life;
+  settings = settings;
+  at_start = settings;
+  txn = empty;
+  since = None;
+}
 
 abbrev pub ended_so : SeenSession → SeenSession
 ended_so seen = begun_so seen Ended seen.settings

@@ -33,7 +33,8 @@ noted_by (kept.Blocked x) sessions = after_block sessions x
 noted_by _ sessions = sessions
 
 -- The record is stored, and the core fits its disk with it.
-pub record HasStored (one : Record) (core : Core) (disk : DiskState) (later : Core) (end : DiskState) : Type 0 where
+pub record HasStored (one : Record) (core : Core) (disk : DiskState) (later : Core)
+    (end : DiskState) : Type 0 where
   pub gained : HasGained (one ∷ []) disk end
   pub fits : Fits later end
   pub book : sessions_in later.book ≡ noted_by one (sessions_in core.book)
@@ -42,10 +43,12 @@ pub record HasStored (one : Record) (core : Core) (disk : DiskState) (later : Co
   pub source : later.source ≡ core.source
   pub grants : later.grants ≡ core.grants
 
-abbrev pub Stores : Record → Result (Unit {0}) ServeFault → Core → DiskState → Core → DiskState → Type 0
+abbrev pub Stores : Record → Result (Unit {0}) ServeFault → Core → DiskState → Core → DiskState
+    → Type 0
 Stores one (Ok done) core disk later end = HasStored one core disk later end
 Stores one (Err fault.NoMemory) core disk later end = HasLacked 1 disk end
-Stores one (Err fault.Stopped) core disk later end = HasHalted [] one disk end × StaysTrue core later end
+Stores one (Err fault.Stopped) core disk later end = HasHalted [] one disk end
+    × StaysTrue core later end
 
 -- ---- outcomes
 
@@ -53,19 +56,24 @@ Stores one (Err fault.Stopped) core disk later end = HasHalted [] one disk end �
 -- have been stopped with it before the outcome was told.
 abbrev pub StopsTelling : Ltxid → Core → DiskState → List Record → Type 0
 StopsTelling x core disk records =
-    (plain : Plain) → IsPlain plain core disk → (image : List ℕ) → IsGrown disk.now.seen records image → (after : Plain) × (IfOk (journal_of image) (IsStored after) × Outcomes plain x after Stopped)
+    (plain : Plain) → IsPlain plain core disk → (image : List ℕ)
+    → IsGrown disk.now.seen records image
+    → (after : Plain) × (IfOk (journal_of image) (IsStored after)
+    × Outcomes plain x after Stopped)
 
 -- An identifier's outcome by the book. Where it is to be blocked that is stored, and no session is
 -- at another number. Where it was stored, it may as well have been stopped, with the block or
 -- without it.
-pub record HasTold (x : Ltxid) (told : Verdict) (core : Core) (disk : DiskState) (later : Core) (end : DiskState) : Type 0 where
+pub record HasTold (x : Ltxid) (told : Verdict) (core : Core) (disk : DiskState) (later : Core)
+    (end : DiskState) : Type 0 where
   pub verdict : told ≡ verdict_of (sessions_in core.book) x
   pub records : List Record
   pub few : length records ≤ 1
   pub gained : HasGained records disk end
   pub fits : Fits later end
   pub belongs : (seen : SeenSession) → Belongs core seen → Belongs later seen
-  pub steps : (plain : Plain) → IsPlain plain core disk → (verdict_on plain x ≡ told) × IsPlain (if_blocks told plain x) later end
+  pub steps : (plain : Plain) → IsPlain plain core disk → (verdict_on plain x ≡ told)
+      × IsPlain (if_blocks told plain x) later end
   pub fronts : records ≢ [] → StopsTelling x core disk records
 
 -- The block was stopped, and stands in what a crash then leaves or not.
@@ -76,4 +84,5 @@ pub record HasStoppedTelling (x : Ltxid) (core : Core) (disk end : DiskState) : 
 abbrev pub Tells : Ltxid → Result Verdict ServeFault → Core → DiskState → Core → DiskState → Type 0
 Tells x (Ok told) core disk later end = HasTold x told core disk later end
 Tells x (Err fault.NoMemory) core disk later end = HasLacked 1 disk end
-Tells x (Err fault.Stopped) core disk later end = HasStoppedTelling x core disk end × StaysTrue core later end
+Tells x (Err fault.Stopped) core disk later end = HasStoppedTelling x core disk end
+    × StaysTrue core later end

@@ -28,7 +28,8 @@ impl Session {
     /// compared.
     pub(crate) fn conflicts(&self, core: &Core) -> Option<&Place>
         requires { Belongs core.now self.now }
-        ensures { (reads : List Read) → AreReadings self.now.txn.readings reads → IsConflict reads core.now.tables.rows (option_copied result) }
+        ensures { (reads : List Read) → AreReadings self.now.txn.readings reads
+            → IsConflict reads core.now.tables.rows (option_copied result) }
     {
         if self.is_alone(core) {
             return None;

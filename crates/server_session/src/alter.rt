@@ -20,7 +20,8 @@ use svc_values::{Answer, Call, Down, Draws, Text};
 /// Stores a line.
 fn store_line<D: Disk>(core: &mut Core, disk: &mut D, line: &Text) -> Result<(), ServeFault>
     requires { Fits core.old (D.state disk.old) }
-    ensures { Stores (kept_record.Alert line.now) result core.old (D.state disk.old) core.new (D.state disk.new) }
+    ensures { Stores (kept_record.Alert line.now) result core.old (D.state disk.old) core.new
+        (D.state disk.new) }
 {
     stored(core.log.alert(disk, line))
 }
@@ -38,7 +39,10 @@ impl Session {
         requires call { call.now ≡ call_variant.Alter line.now }
         requires fits { Fits core.old (D.state disk.old) }
         requires belongs { Belongs core.old self.old }
-        ensures { (kept : List One) (now : ℕ) → Serves (called_as replay kept call.now now) (1 + sequences_in (up.Call replay kept call.now)) result self.old core.old (D.state disk.old) self.new core.new (D.state disk.new) }
+        ensures { (kept : List One) (now : ℕ)
+            → Serves (called_as replay kept call.now now)
+            (1 + sequences_in (up.Call replay kept call.now)) result self.old core.old
+            (D.state disk.old) self.new core.new (D.state disk.new) }
     {
         if replay {
             self.close();

@@ -30,7 +30,9 @@ impl Session {
         requires fits { Fits core.old (D.state disk.old) }
         requires belongs { Belongs core.old self.old }
         requires made { IsMade call.now }
-        ensures { Serves (called_as replay kept.now call.now now) (1 + sequences_in (up.Call replay kept.now call.now)) result self.old core.old (D.state disk.old) self.new core.new (D.state disk.new) }
+        ensures { Serves (called_as replay kept.now call.now now)
+            (1 + sequences_in (up.Call replay kept.now call.now)) result self.old core.old
+            (D.state disk.old) self.new core.new (D.state disk.new) }
     {
         match call {
             Call::Work { statements, commit } => {
@@ -69,7 +71,9 @@ impl Session {
         requires fits { Fits core.old (D.state disk.old) }
         requires belongs { Belongs core.old self.old }
         requires made { IsMade call.now }
-        ensures { Serves (called_as replay kept.now call.now now) (1 + sequences_in (up.Call replay kept.now call.now)) result self.old core.old (D.state disk.old) self.new core.new (D.state disk.new) }
+        ensures { Serves (called_as replay kept.now call.now now)
+            (1 + sequences_in (up.Call replay kept.now call.now)) result self.old core.old
+            (D.state disk.old) self.new core.new (D.state disk.new) }
     {
         let mut left = brought(self.alloc, &core.source, &core.grants, replay, kept)?;
         let is_alone = self.is_alone(core);

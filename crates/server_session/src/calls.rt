@@ -49,7 +49,13 @@ impl Session {
         draws: Draws,
     ) -> Result<Down, NoMemory>
         ensures told { IfOk result (λ told. told ≡ down.Reply answers draws self.old.ltxid) }
-        ensures seen { IfOk result (λ _. self.new ≡ record self.old { txn = record self.old.txn { pieces = self.old.txn.pieces ++ piece_of call.now answers draws ∷ [] } }) }
+        ensures seen { IfOk result (λ _. self.new
+            ≡ record self.old {
+              txn = record self.old.txn {
+                pieces =
+                    self.old.txn.pieces ++ piece_of call.now answers draws ∷ [];
+              };
+            }) }
     {
         let piece = Piece {
             call: call.copy(self.alloc)?,
@@ -67,8 +73,17 @@ impl Session {
     /// Sets a name.
     pub(crate) fn set(&mut self, call: &Call, name: &Name, value: &Value) -> Result<Down, NoMemory>
         requires { call.now ≡ call_variant.Set name.now value.now }
-        ensures told { IfOk result (λ told. told ≡ down.Reply (answer.Done 1 ∷ []) [] self.old.ltxid) }
-        ensures seen { IfOk result (λ _. self.new ≡ record self.old { settings = put_setting self.old.settings name.now value.now; txn = record self.old.txn { pieces = self.old.txn.pieces ++ piece_of call.now (answer.Done 1 ∷ []) [] ∷ [] } }) }
+        ensures told { IfOk result (λ told. told
+            ≡ down.Reply (answer.Done 1 ∷ []) [] self.old.ltxid) }
+        ensures seen { IfOk result (λ _. self.new ≡ record self.old {
+          settings =
+              put_setting self.old.settings name.now value.now;
+          txn =
+              record self.old.txn {
+                pieces =
+                    self.old.txn.pieces ++ piece_of call.now (answer.Done 1 ∷ []) [] ∷ [];
+              };
+        }) }
     {
         keep_earlier(self.alloc, &mut self.earlier, &self.state.settings)?;
         let name = name.copy(self.alloc)?;
@@ -80,8 +95,15 @@ impl Session {
 
     /// Asks that the request is not replayed from here on.
     pub(crate) fn disable(&mut self, call: &Call) -> Result<Down, NoMemory>
-        ensures told { IfOk result (λ told. told ≡ down.Reply (answer.Done 0 ∷ []) [] self.old.ltxid) }
-        ensures seen { IfOk result (λ _. self.new ≡ record self.old { txn = record self.old.txn { pieces = self.old.txn.pieces ++ piece_of call.now (answer.Done 0 ∷ []) [] ∷ [] } }) }
+        ensures told { IfOk result (λ told. told
+            ≡ down.Reply (answer.Done 0 ∷ []) [] self.old.ltxid) }
+        ensures seen { IfOk result (λ _. self.new
+            ≡ record self.old {
+              txn = record self.old.txn {
+                pieces =
+                    self.old.txn.pieces ++ piece_of call.now (answer.Done 0 ∷ []) [] ∷ [];
+              };
+            }) }
     {
         let answers = alone(self.alloc, Answer::Done(0))?;
         self.answer(call, answers, Draws::new(self.alloc))
@@ -89,8 +111,10 @@ impl Session {
 
     /// Gives up what the session has done and not committed.
     pub(crate) fn roll_back(&mut self) -> Result<Down, NoMemory>
-        ensures told { IfOk result (λ told. told ≡ down.Reply (answer.RolledBack ∷ []) [] self.old.ltxid) }
-        ensures seen { IfOk result (λ _. self.new ≡ begun_so self.old self.old.life self.old.settings) }
+        ensures told { IfOk result (λ told. told
+            ≡ down.Reply (answer.RolledBack ∷ []) [] self.old.ltxid) }
+        ensures seen { IfOk result (λ _. self.new
+            ≡ begun_so self.old self.old.life self.old.settings) }
     {
         let answers = alone(self.alloc, Answer::RolledBack)?;
         self.drop_transaction();

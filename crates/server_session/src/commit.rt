@@ -86,7 +86,8 @@ fn store_entry<D: Disk>(core: &mut Core, disk: &mut D, entry: &Entry) -> Result<
     requires here { entry.now.ltxid.incarnation ≡ core.old.source.incarnation }
     requires may { IsTrue (may_commit (sessions_in core.old.book) entry.now.ltxid) }
     requires writes { IsTrue (writes_fit core.old.tables.schemas entry.now.writes) }
-    ensures { Stores (kept.Commit entry.now) result core.old (D.state disk.old) core.new (D.state disk.new) }
+    ensures { Stores (kept.Commit entry.now) result core.old (D.state disk.old) core.new
+        (D.state disk.new) }
 {
     stored(core.log.commit(disk, entry))?;
     core.tables.apply(&entry.writes)?;
@@ -111,7 +112,8 @@ impl Session {
         requires fits { Fits core.old (D.state disk.old) }
         requires belongs { Belongs core.old self.old }
         requires made { IsMade call.now }
-        ensures { Serves (commits_as replay call.now answers draws) 1 result self.old core.old (D.state disk.old) self.new core.new (D.state disk.new) }
+        ensures { Serves (commits_as replay call.now answers draws) 1 result self.old core.old
+            (D.state disk.old) self.new core.new (D.state disk.new) }
     {
         if replay {
             let told = self.give_up(answers, Answer::CommitInReplay, draws)?;
@@ -130,8 +132,10 @@ impl Session {
 
     /// Rolls the transaction back, and answers the call so.
     fn give_up(&mut self, answers: Answers, last: Answer, draws: Draws) -> Result<Down, NoMemory>
-        ensures told { IfOk result (λ told. told ≡ down.Reply (with_last_def answers last) draws self.old.ltxid) }
-        ensures seen { IfOk result (λ _. self.new ≡ begun_so self.old self.old.life self.old.settings) }
+        ensures told { IfOk result (λ told. told
+            ≡ down.Reply (with_last_def answers last) draws self.old.ltxid) }
+        ensures seen { IfOk result (λ _. self.new
+            ≡ begun_so self.old self.old.life self.old.settings) }
     {
         let answers = with_last(answers, last)?;
         self.drop_transaction();
@@ -155,7 +159,8 @@ impl Session {
         requires belongs { Belongs core.old self.old }
         requires made { IsMade call.now }
         requires free { IsTrue (can_commit (sessions_in core.old.book) self.old.ltxid) }
-        ensures { Serves (stores_as call.now answers draws) 1 result self.old core.old (D.state disk.old) self.new core.new (D.state disk.new) }
+        ensures { Serves (stores_as call.now answers draws) 1 result self.old core.old
+            (D.state disk.old) self.new core.new (D.state disk.new) }
     {
         if !self.ltxid.is_ltxid() {
             return Err(ServeFault::NoMemory);
@@ -178,8 +183,10 @@ impl Session {
         answers: &Answers,
         draws: &Draws,
     ) -> Result<Entry, NoMemory>
-        ensures entry { IfOk result (λ entry. entry ≡ entry_of (sess_of self.old []) call.now answers.now draws.now) }
-        ensures seen { IfOk result (λ _. self.new ≡ begun_so self.old self.old.life self.old.settings) }
+        ensures entry { IfOk result (λ entry. entry
+            ≡ entry_of (sess_of self.old []) call.now answers.now draws.now) }
+        ensures seen { IfOk result (λ _. self.new
+            ≡ begun_so self.old self.old.life self.old.settings) }
     {
         let piece = Piece {
             call: call.copy(self.alloc)?,

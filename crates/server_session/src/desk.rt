@@ -68,7 +68,14 @@ fn draw_value<D: Disk>(
 ) -> Result<Draw, ServeFault>
     requires there { is_there_def (names_of source.old.sequences) kind.now ≡ true }
     requires ready { IsReady source.old log.old (D.state disk.old) }
-    ensures drawn { DealsAs now (record { opening = source.old; left = kept.old; log = log.old; disk = D.state disk.old }) kind.now result (record { opening = source.new; left = kept.new; log = log.new; disk = D.state disk.new }) }
+    ensures drawn { DealsAs now (record {
+      opening = source.old;
+      left = kept.old;
+      log =
+          log.old;
+      disk = D.state disk.old;
+    }) kind.now result
+        (record { opening = source.new; left = kept.new; log = log.new; disk = D.state disk.new }) }
     ensures names { names_of source.new.sequences ≡ names_of source.old.sequences }
     ensures ready { IsReady source.new log.new (D.state disk.new) }
 {
@@ -97,7 +104,8 @@ fn ask(
     now: u64,
 ) -> Result<Drawn, ServeFault>
     requires { is_there_def (names_of source.old.sequences) kind.now ≡ true }
-    ensures asked { IfOk result (λ told. draw_of source.old kept.old kind.now now ≡ Some (record { answer = told; opening = source.new; kept = kept.new })) }
+    ensures asked { IfOk result (λ told. draw_of source.old kept.old kind.now now
+        ≡ Some (record { answer = told; opening = source.new; kept = kept.new })) }
     ensures room { IfOk result (λ told. HasRoom source.old) }
     ensures source { OnErr result (source.new ≡ source.old) }
     ensures kept { OnErr result (kept.new ≡ kept.old) }
@@ -123,7 +131,8 @@ fn reserve<D: Disk>(
 ) -> Result<(), ServeFault>
     requires prepared { IsPrepared source.old log.old (D.state disk.old) }
     requires may { IsTrue (may_reserve source.old name.now upto) }
-    ensures { Reserves name.now upto result source.old (D.state disk.old) source.new log.new (D.state disk.new) }
+    ensures { Reserves name.now upto result source.old (D.state disk.old) source.new log.new
+        (D.state disk.new) }
 {
     stored(log.reserve(disk, name, upto))?;
     source.reserved(name, upto);

@@ -23,7 +23,9 @@ impl Core {
     /// A commit costs what its writes do, and a horizon the number of sessions of the book.
     pub fn follow(&mut self, alloc: Global, next: &Record) -> Result<(), NoMemory>
         requires { MayFollow self.old next.now }
-        ensures follows { (is_opened has_horizon : Bool) (journal : Journal) → IsOfJournal self.old journal → (has_horizon ≡ false → journal.horizon ≡ 0) → IsTrue (may_come journal is_opened has_horizon next.now)
+        ensures follows { (is_opened has_horizon : Bool) (journal : Journal)
+            → IsOfJournal self.old journal → (has_horizon ≡ false → journal.horizon ≡ 0)
+            → IsTrue (may_come journal is_opened has_horizon next.now)
             → OnOk result (IsOfJournal self.new (with_record journal next.now)) }
         ensures log { self.new.log ≡ self.old.log }
         ensures grants { self.new.grants ≡ self.old.grants }
@@ -44,7 +46,10 @@ impl Core {
 
     /// Has the source give values of this incarnation, each sequence from where it was.
     fn take_incarnation(&mut self, alloc: Global, incarnation: u64)
-        ensures { self.new ≡ record self.old { source = record self.old.source { incarnation = incarnation; identifiers = 0 } } }
+        ensures { self.new ≡ record self.old {
+          source =
+              record self.old.source { incarnation = incarnation; identifiers = 0 };
+        } }
     {
         let none = Source::new(incarnation, Vec::new(alloc));
         let source = mem::replace(&mut self.source, none);
@@ -56,8 +61,14 @@ impl Core {
         requires parts { IsLtxid entry.now.ltxid }
         requires may { IsTrue (may_commit (sessions_in self.old.book) entry.now.ltxid) }
         requires writes { IsTrue (writes_fit self.old.tables.schemas entry.now.writes) }
-        ensures tables { OnOk result (self.new.tables ≡ record { schemas = self.old.tables.schemas; rows = with_writes self.old.tables.rows entry.now.writes }) }
-        ensures book { OnOk result (sessions_in self.new.book ≡ after_commit (sessions_in self.old.book) entry.now.ltxid entry.now.completed) }
+        ensures tables { OnOk result (self.new.tables
+            ≡ record {
+              schemas = self.old.tables.schemas;
+              rows =
+                  with_writes self.old.tables.rows entry.now.writes;
+            }) }
+        ensures book { OnOk result (sessions_in self.new.book
+            ≡ after_commit (sessions_in self.old.book) entry.now.ltxid entry.now.completed) }
         ensures source { self.new.source ≡ self.old.source }
         ensures log { self.new.log ≡ self.old.log }
         ensures grants { self.new.grants ≡ self.old.grants }

@@ -46,7 +46,8 @@ fn block<D: Disk>(core: &mut Core, disk: &mut D, x: &Ltxid) -> Result<(), ServeF
     requires fits { Fits core.old (D.state disk.old) }
     requires identifier { IsLtxid x.now }
     requires may { IsTrue (may_commit (sessions_in core.old.book) x.now) }
-    ensures { Stores (kept.Blocked x.now) result core.old (D.state disk.old) core.new (D.state disk.new) }
+    ensures { Stores (kept.Blocked x.now) result core.old (D.state disk.old) core.new
+        (D.state disk.new) }
 {
     stored(core.log.block(disk, x))?;
     core.book.block(x)?;
@@ -93,7 +94,9 @@ impl Session {
         requires fits { Fits core.old (D.state disk.old) }
         requires belongs { Belongs core.old self.now }
         requires identifier { IsLtxid x.now }
-        ensures { (now : ℕ) → Serves (served_as (up.Outcome x.now) now) (1 + sequences_in (up.Outcome x.now)) result self.now core.old (D.state disk.old) self.now core.new (D.state disk.new) }
+        ensures { (now : ℕ) → Serves (served_as (up.Outcome x.now) now)
+            (1 + sequences_in (up.Outcome x.now)) result self.now core.old (D.state disk.old)
+            self.now core.new (D.state disk.new) }
     {
         let verdict = tell_outcome(core, disk, x)?;
         Ok(Some(down_of(verdict)))

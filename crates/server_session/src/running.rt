@@ -54,7 +54,22 @@ pub(crate) fn run_over<D: Disk>(
     requires fits { IsTrue (writes_fit tables.now.schemas txn.old.writes) }
     requires unchanged { IsTrue is_alone → AreUnchanged tables.now.rows txn.old.readings }
     requires prepared { IsPrepared source.old log.old (D.state disk.old) }
-    ensures { RunsOver tick (record { tables = tables.now; settings = settings.now; txn = txn.old; statements = statements.now }) (1 + sequences_in (up.Call true [] (call_variant.Work statements.now true))) (record { opening = source.old; left = kept.old; log = log.old; disk = D.state disk.old }) result txn.new (record { opening = source.new; left = kept.new; log = log.new; disk = D.state disk.new }) }
+    ensures { RunsOver tick (record {
+      tables = tables.now;
+      settings = settings.now;
+      txn =
+          txn.old;
+      statements = statements.now;
+    })
+        (1 + sequences_in (up.Call true [] (call_variant.Work statements.now true)))
+        (record { opening = source.old; left = kept.old; log = log.old; disk = D.state disk.old })
+        result txn.new (record {
+          opening = source.new;
+          left = kept.new;
+          log = log.new;
+          disk =
+              D.state disk.new;
+        }) }
 {
     let mut desk = Desk {
         source,
@@ -78,8 +93,18 @@ impl<D: Disk> Desk<'_, D> {
     ) -> Result<Ran, ServeFault>
         requires fits { IsTrue (writes_fit tables.now.schemas txn.old.writes) }
         requires unchanged { IsTrue is_alone → AreUnchanged tables.now.rows txn.old.readings }
-        requires prepared { IsPrepared self.old.source.now self.old.log.now (D.state self.old.disk.now) }
-        ensures ran { RunsOver self.old.tick (record { tables = tables.now; settings = settings.now; txn = txn.old; statements = statements.now }) (1 + sequences_in (up.Call true [] (call_variant.Work statements.now true))) (at_desk D.state self.old) result txn.new (at_desk D.state self.new) }
+        requires prepared { IsPrepared self.old.source.now self.old.log.now
+            (D.state self.old.disk.now) }
+        ensures ran { RunsOver self.old.tick
+            (record {
+              tables = tables.now;
+              settings = settings.now;
+              txn = txn.old;
+              statements =
+                  statements.now;
+            }) (1 + sequences_in
+            (up.Call true [] (call_variant.Work statements.now true))) (at_desk D.state self.old)
+            result txn.new (at_desk D.state self.new) }
         ensures source { self.new.source.ghost_name ≡ self.old.source.ghost_name }
         ensures kept { self.new.kept.ghost_name ≡ self.old.kept.ghost_name }
         ensures log { self.new.log.ghost_name ≡ self.old.log.ghost_name }

@@ -33,11 +33,13 @@ impl Session {
         requires fits { Fits core.old (D.state disk.old) }
         requires belongs { Belongs core.old self.old }
         requires made { IsMadeUp frame.now }
-        ensures served { Serves (served_as frame.now now) (1 + sequences_in frame.now) result self.old core.old (D.state disk.old) self.new core.new (D.state disk.new) }
+        ensures served { Serves (served_as frame.now now) (1 + sequences_in frame.now) result
+            self.old core.old (D.state disk.old) self.new core.new (D.state disk.new) }
         ensures ended { OnErr result (is_alive self.new.life ≡ false) }
 
         // A frame that stores nothing is never stopped, and makes no device call.
-        ensures silent { may_store frame.now ≡ false → (D.state disk.new ≡ D.state disk.old) × (IsErrOf result ServeFault.Stopped → ⊥) }
+        ensures silent { may_store frame.now ≡ false → (D.state disk.new ≡ D.state disk.old)
+            × (IsErrOf result ServeFault.Stopped → ⊥) }
     {
         match self.answer_frame(core, disk, frame, now) {
             Ok(told) => Ok(told),
@@ -60,8 +62,10 @@ impl Session {
         requires fits { Fits core.old (D.state disk.old) }
         requires belongs { Belongs core.old self.old }
         requires made { IsMadeUp frame.now }
-        ensures served { Serves (served_as frame.now now) (1 + sequences_in frame.now) result self.old core.old (D.state disk.old) self.new core.new (D.state disk.new) }
-        ensures silent { may_store frame.now ≡ false → (D.state disk.new ≡ D.state disk.old) × (IsErrOf result ServeFault.Stopped → ⊥) }
+        ensures served { Serves (served_as frame.now now) (1 + sequences_in frame.now) result
+            self.old core.old (D.state disk.old) self.new core.new (D.state disk.new) }
+        ensures silent { may_store frame.now ≡ false → (D.state disk.new ≡ D.state disk.old)
+            × (IsErrOf result ServeFault.Stopped → ⊥) }
     {
         if self.is_out_of_order(frame) {
             self.close();

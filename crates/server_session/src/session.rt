@@ -38,7 +38,16 @@ impl Model for Session {
     ghost use Rattle.server_session.specs.Lives.{life_of};
     ghost use Rattle.server_session.specs.SeenSession.{started_with};
 
-    ghost view = { λ s. record { ltxid = s.ltxid; life = life_of s.life; settings = s.state.settings; at_start = started_with s.earlier s.state.settings; txn = s.txn; since = s.since } };
+    ghost view = { λ s. record {
+      ltxid = s.ltxid;
+      life = life_of s.life;
+      settings =
+          s.state.settings;
+      at_start = started_with s.earlier s.state.settings;
+      txn = s.txn;
+      since =
+          s.since;
+    } };
 }
 
 impl Session {

@@ -20,7 +20,8 @@ pub record Pictures (store : Store) (bytes : List ℕ) : Type 0 where
 
 -- both are of journals with one base
 abbrev pub HaveOneBase : List ℕ → List ℕ → Type 0
-HaveOneBase old new = (journal other : Journal) → journal_of old ≡ Ok journal → journal_of new ≡ Ok other → other.base ≡ journal.base
+HaveOneBase old new = (journal other : Journal) → journal_of old ≡ Ok journal
+    → journal_of new ≡ Ok other → other.base ≡ journal.base
 
 -- What is seen of a service in this state, whose store has these bytes: the history is one of the
 -- plain server, which ends with the store, and the bytes say what the store holds.

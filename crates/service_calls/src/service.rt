@@ -58,7 +58,8 @@ pub trait Service {
         requires live { (state self.old).is_spent ≡ false }
         requires few { (state self.old).calls < 2 ^ 48 }
         requires new { (state self.old).living connection ≡ None }
-        ensures connected { IfOk result (λ up. Goes (sees self.old) (sees self.new) (λ old new. Connected old connection up new)) }
+        ensures connected { IfOk result (λ up. Goes (sees self.old) (sees self.new)
+            (λ old new. Connected old connection up new)) }
         ensures base { IfOk result (λ up. HaveOneBase (bytes self.old) (bytes self.new)) };
 
     /// Serves one frame of a living connection, by its session: the one that it has, or the next.
@@ -74,14 +75,16 @@ pub trait Service {
         requires lives { Lives (state self.old) connection }
         requires made { IsMadeUp frame.now }
         ensures made { IfOk result (λ reply. IfSome reply IsMadeDown) }
-        ensures served { IfTold result (λ told. Goes (sees self.old) (sees self.new) (λ old new. ServedOne old connection now frame.now told (leaves self.new) new)) }
+        ensures served { IfTold result (λ told. Goes (sees self.old) (sees self.new)
+            (λ old new. ServedOne old connection now frame.now told (leaves self.new) new)) }
         ensures base { NotMemory result (HaveOneBase (bytes self.old) (bytes self.new)) };
 
     /// Ends a connection, with its session. It takes no memory.
     fn reap(&mut self, connection: u64)
         requires live { (state self.old).is_spent ≡ false }
         requires few { (state self.old).calls < 2 ^ 48 }
-        ensures reaped { Goes (sees self.old) (sees self.new) (λ old new. Reaped old connection new) }
+        ensures reaped { Goes (sees self.old) (sees self.new)
+            (λ old new. Reaped old connection new) }
         ensures base { HaveOneBase (bytes self.old) (bytes self.new) };
 
     /// Makes every device call fail once so many have succeeded, or takes the stop away.
@@ -109,7 +112,10 @@ pub trait Service {
         requires few { (state self.old).calls < 2 ^ 48 }
         requires down { ((state self.old).is_up ≡ false) × ((state self.old).is_settled ≡ true) }
         requires may { MayForget (state self.old) horizon }
-        ensures opened { Ends result (λ done. Goes (sees self.old) (sees self.new) (λ old new. Opened old horizon new)) (Goes (sees self.old) (sees self.new) (λ old new. StoppedOpening old horizon (leaves self.new) new)) }
+        ensures opened { Ends result (λ done. Goes (sees self.old) (sees self.new)
+            (λ old new. Opened old horizon new))
+            (Goes (sees self.old) (sees self.new)
+            (λ old new. StoppedOpening old horizon (leaves self.new) new)) }
         ensures base { NotMemory result (HaveOneBase (bytes self.old) (bytes self.new)) };
 
     /// Runs calls in a session of their own, up to the first that is answered Blocked.
@@ -123,7 +129,10 @@ pub trait Service {
         requires few { (state self.old).calls < 2 ^ 48 }
         requires up { (state self.old).is_up ≡ true }
         requires made { AllByRecursion IsMade calls.now }
-        ensures ran { Ends result (λ ran. Goes (sees self.old) (sees self.new) (λ old new. RanOutside old calls.now now ran.ltxid (runs_of ran) new)) (Goes (sees self.old) (sees self.new) (λ old new. StoppedOutside old (leaves self.new) new)) }
+        ensures ran { Ends result (λ ran. Goes (sees self.old) (sees self.new)
+            (λ old new. RanOutside old calls.now now ran.ltxid (runs_of ran) new))
+            (Goes (sees self.old) (sees self.new)
+            (λ old new. StoppedOutside old (leaves self.new) new)) }
         ensures base { NotMemory result (HaveOneBase (bytes self.old) (bytes self.new)) };
 
     /// Tells the outcome of an identifier. One that may still commit is blocked first, and told as
@@ -133,7 +142,10 @@ pub trait Service {
         requires few { (state self.old).calls < 2 ^ 48 }
         requires up { (state self.old).is_up ≡ true }
         requires identifier { IsLtxid x.now }
-        ensures asked { Ends result (λ told. Goes (sees self.old) (sees self.new) (λ old new. AskedOne old x.now told new)) (Goes (sees self.old) (sees self.new) (λ old new. StoppedAsk old x.now (leaves self.new) new)) }
+        ensures asked { Ends result (λ told. Goes (sees self.old) (sees self.new)
+            (λ old new. AskedOne old x.now told new))
+            (Goes (sees self.old) (sees self.new)
+            (λ old new. StoppedAsk old x.now (leaves self.new) new)) }
         ensures base { NotMemory result (HaveOneBase (bytes self.old) (bytes self.new)) };
 
     /// What the store holds. It writes nothing, and reads the whole store.
@@ -142,7 +154,8 @@ pub trait Service {
         requires few { (state self.old).calls < 2 ^ 48 }
         ensures told { IfOk result (λ journal. journal_of (bytes self.new) ≡ Ok journal) }
         ensures unwritten { NotMemory result (bytes self.new ≡ bytes self.old) }
-        ensures looked { Ends result (λ journal. Goes (sees self.old) (sees self.new) Looked) (Goes (sees self.old) (sees self.new) StoppedLook) };
+        ensures looked { Ends result (λ journal. Goes (sees self.old) (sees self.new) Looked)
+            (Goes (sees self.old) (sees self.new) StoppedLook) };
 
     /// What the store holds, at the end of the service. It writes nothing. Where the service has
     /// its tables, these are handed out, and only the records behind the base are read; else the
@@ -152,7 +165,8 @@ pub trait Service {
         ensures told { IfOk result (IsEndOf (bytes self)) }
 
         // In a quiet service only a stop that was set stops it.
-        ensures cause { IsErrOf result ServeFault.Stopped → (state self).is_quiet ≡ true → (state self).stop ≢ None };
+        ensures cause { IsErrOf result ServeFault.Stopped → (state self).is_quiet ≡ true
+            → (state self).stop ≢ None };
 
     /// The bytes of the store. It writes nothing.
     fn image(&mut self, alloc: Global) -> Result<Vec<u8>, ServeFault>
@@ -160,9 +174,11 @@ pub trait Service {
         requires few { (state self.old).calls < 2 ^ 48 }
         ensures told { IfOk result (λ image. image.items ≡ bytes self.new) }
         ensures unwritten { NotMemory result (bytes self.new ≡ bytes self.old) }
-        ensures looked { Ends result (λ image. Goes (sees self.old) (sees self.new) Looked) (Goes (sees self.old) (sees self.new) StoppedLook) };
+        ensures looked { Ends result (λ image. Goes (sees self.old) (sees self.new) Looked)
+            (Goes (sees self.old) (sees self.new) StoppedLook) };
 
     /// What is seen of it is its state, its history is one of the plain server, which ends with the
     /// store, and its bytes say what the store holds.
-    ghost honest: { (service : Self) → (seen : Seen) → sees service seen → IsHonest (state service) (bytes service) seen };
+    ghost honest: { (service : Self) → (seen : Seen) → sees service seen
+        → IsHonest (state service) (bytes service) seen };
 }

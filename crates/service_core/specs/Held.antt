@@ -16,7 +16,8 @@ held_at held connection = lookup (nat_eq connection) held
 
 -- one connection stands so, or is none, and the others as they stood
 abbrev pub Holds : ℕ → Option (Option Session) → Held → Held → Type 0
-Holds connection one old new = (other : ℕ) → held_at new other ≡ (if nat_eq connection other then one else held_at old other)
+Holds connection one old new = (other : ℕ)
+    → held_at new other ≡ (if nat_eq connection other then one else held_at old other)
 
 -- the session that a connection has
 abbrev pub id_of : Session → SessionId

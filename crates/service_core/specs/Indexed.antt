@@ -9,4 +9,5 @@ use Rattle.commit_log.specs.meaning.Journals.{journal_of}
 
 -- each is a column of a table that the base of the journal with these bytes declares
 abbrev pub FitBase : List IndexOf → List ℕ → Type 0
-FitBase indexes image = (journal : Journal) → journal_of image ≡ Ok journal → IsTrue (list_all (is_index_of (schemas_of journal.base)) indexes)
+FitBase indexes image = (journal : Journal) → journal_of image ≡ Ok journal
+    → IsTrue (list_all (is_index_of (schemas_of journal.base)) indexes)

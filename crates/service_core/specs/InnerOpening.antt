@@ -27,7 +27,8 @@ state_of journal sequence = sequence_at (sequence_of journal sequence)
 -- What a service asks of a journal to go on from it.
 pub record CanGoOn (journal : Journal) : Type 0 where
   pub base : IsBase journal.base
-  pub fitting : All (λ entry. IsTrue (writes_fit (schemas_of journal.base) entry.writes)) journal.entries
+  pub fitting : All (λ entry. IsTrue (writes_fit (schemas_of journal.base) entry.writes))
+      journal.entries
   pub within : IsTrue (list_all (ends_low journal) journal.base.sequences)
 
 -- what sessions share with this log and journal

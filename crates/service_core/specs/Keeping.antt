@@ -51,7 +51,8 @@ pub record IsCurrent (resting : Resting) (disk : DiskState) : Type 0 where
 
 -- the horizon is above the one that it knows, or none is stored yet
 abbrev pub rises_on : Resting → ℕ → Bool
-rises_on resting horizon = not resting.has_horizon || nat_lt (sessions_in resting.core.book).horizon horizon
+rises_on resting horizon = not resting.has_horizon
+    || nat_lt (sessions_in resting.core.book).horizon horizon
 
 -- ---- one record more
 
@@ -70,7 +71,8 @@ StepsTo (Err fault.NoMemory) old new disk end = Unit {0}
 StepsTo (Err fault.Stopped) old new disk end = new ≡ old
 StepsTo (Err (fault.Damaged place)) old new disk end = ⊥
 
-pub record Steps (answer : Result Bool RedoFault) (old new : Resting) (disk end : DiskState) : Type 0 where
+pub record Steps (answer : Result Bool RedoFault) (old new : Resting)
+    (disk end : DiskState) : Type 0 where
   pub reached : StepsTo answer old new disk end
   pub reads : OnlyReads (IsErrOf answer fault.Stopped) disk end
   pub grants : new.core.grants ≡ old.core.grants

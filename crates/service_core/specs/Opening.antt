@@ -20,7 +20,11 @@ pub record CanOpen (horizon : ℕ) (image : List ℕ) : Type 0 where
 
 -- the source of an opening that has this journal: each sequence goes on behind its last reservation
 abbrev pub source_of : Journal → Opening
-source_of journal = record { incarnation = journal.incarnation; identifiers = 0; sequences = map (λ sequence. sequence_at (sequence_of journal sequence)) journal.base.sequences }
+source_of journal = record {
+  incarnation = journal.incarnation;
+  identifiers = 0;
+  sequences = map (λ sequence. sequence_at (sequence_of journal sequence)) journal.base.sequences;
+}
 
 -- how many device calls an opening makes
 abbrev pub stop_of : ℕ → List ℕ → ℕ
@@ -28,7 +32,8 @@ stop_of horizon image = 4 * length (first_of_opening horizon (so_far_of image)) 
 
 -- The store was opened: the journal is the old one with this opening. What its sessions share is
 -- what this journal says, and nothing was drawn yet.
-pub record HasOpened (horizon : ℕ) (grants : Grants) (old : DiskState) (core : Core) (new : DiskState) : Type 0 where
+pub record HasOpened (horizon : ℕ) (grants : Grants) (old : DiskState) (core : Core)
+    (new : DiskState) : Type 0 where
   pub fits : Fits core new
   pub opened : with_opening horizon (journal_of old.now.seen) ≡ Ok fits.journal
   pub source : core.source ≡ source_of fits.journal

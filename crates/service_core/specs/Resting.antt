@@ -23,10 +23,12 @@ use Rattle.service_core.specs.Within.{Within}
 -- A service is as it has to be, and what is kept beside it is at rest while it is down.
 pub record IsKeptWith (service : Within) (resting : Option Resting) : Type 0 where
   pub kept : IsKept service
-  pub at_rest : service.notes.is_spent ≡ false → is_some service.core ≡ false → IfSome resting (RestsBy service.grants service.disk)
+  pub at_rest : service.notes.is_spent ≡ false → is_some service.core ≡ false
+      → IfSome resting (RestsBy service.grants service.disk)
 
 -- what adding these records to a store comes to, each in four device calls
-pub record Extends (records : List Record) (answer : Result (Unit {0}) RedoFault) (old new : DiskState) : Type 0 where
+pub record Extends (records : List Record) (answer : Result (Unit {0}) RedoFault)
+    (old new : DiskState) : Type 0 where
   pub added : OnOk answer (HasAdded old.now.seen records new.now.seen)
   pub moments : Meanwhile old new (IsGrown old.now.seen records)
   pub stop : Lowers (4 * length records) answer old.stop new.stop
@@ -34,19 +36,23 @@ pub record Extends (records : List Record) (answer : Result (Unit {0}) RedoFault
   pub whole : (place : ℕ) → answer ≡ Err (fault.Damaged place) → ⊥
 
 -- what is kept behind a stop
-pub record Stays (answer : Result (Unit {0}) RedoFault) (old new : Resting) (end : DiskState) : Type 0 where
-  pub left : IsErrOf answer fault.Stopped → (image : List ℕ) → MayLeave end.now image → Rests image new
+pub record Stays (answer : Result (Unit {0}) RedoFault) (old new : Resting)
+    (end : DiskState) : Type 0 where
+  pub left : IsErrOf answer fault.Stopped → (image : List ℕ) → MayLeave end.now image
+      → Rests image new
   pub grants : new.core.grants ≡ old.core.grants
 
 -- the horizon is stored, where it has to be
-pub record Raises (horizon : ℕ) (answer : Result (Unit {0}) RedoFault) (old new : Resting) (disk end : DiskState) : Type 0 where
+pub record Raises (horizon : ℕ) (answer : Result (Unit {0}) RedoFault) (old new : Resting)
+    (disk end : DiskState) : Type 0 where
   pub extends : Extends (first_of_opening horizon (so_far_of disk.now.seen)) answer disk end
   pub current : OnOk answer (IsCurrent new end)
   pub stored : OnOk answer (IsTrue new.has_horizon)
   pub stays : Stays answer old new end
 
 -- and the incarnation after the last
-pub record Begins (answer : Result (Unit {0}) RedoFault) (old new : Resting) (disk end : DiskState) : Type 0 where
+pub record Begins (answer : Result (Unit {0}) RedoFault) (old new : Resting)
+    (disk end : DiskState) : Type 0 where
   pub extends : Extends (kept.Opened (old.core.source.incarnation + 1) ∷ []) answer disk end
   pub ready : OnOk answer (CanLog new.core.log end)
   pub same : OnOk answer (new.core ≡ record old.core { log = new.core.log })
@@ -54,10 +60,12 @@ pub record Begins (answer : Result (Unit {0}) RedoFault) (old new : Resting) (di
 
 -- the core is that of the journal with this horizon, where it is the greater one
 abbrev pub IsRaised : ℕ → List ℕ → Core → Type 0
-IsRaised horizon image core = (journal : Journal) → journal_of image ≡ Ok journal → IsOfJournal core (record journal { horizon = max journal.horizon horizon })
+IsRaised horizon image core = (journal : Journal) → journal_of image ≡ Ok journal
+    → IsOfJournal core (record journal { horizon = max journal.horizon horizon })
 
 -- both are
-pub record Opens (horizon : ℕ) (answer : Result (Unit {0}) RedoFault) (old new : Resting) (disk end : DiskState) : Type 0 where
+pub record Opens (horizon : ℕ) (answer : Result (Unit {0}) RedoFault) (old new : Resting)
+    (disk end : DiskState) : Type 0 where
   pub extends : Extends (opening_of horizon (so_far_of disk.now.seen)) answer disk end
   pub ready : OnOk answer (CanLog new.core.log end)
   pub core : OnOk answer (IsRaised horizon disk.now.seen new.core)

@@ -31,8 +31,22 @@ use Rattle.service_core.specs.Sound.{IsSoundWithin}
 -- ---- the state
 
 abbrev pub store_in : Result Journal ℕ → ℕ → Store
-store_in (Ok journal) records = record { incarnation = journal.incarnation; horizon = journal.horizon; entries = journal.entries; blocked = journal.blocked; alerts = journal.alerts; records = records }
-store_in (Err place) records = record { incarnation = 0; horizon = 0; entries = []; blocked = []; alerts = []; records = 0 }
+store_in (Ok journal) records = record {
+  incarnation = journal.incarnation;
+  horizon = journal.horizon;
+  entries = journal.entries;
+  blocked = journal.blocked;
+  alerts = journal.alerts;
+  records = records;
+}
+store_in (Err place) records = record {
+  incarnation = 0;
+  horizon = 0;
+  entries = [];
+  blocked = [];
+  alerts = [];
+  records = 0;
+}
 
 -- what these bytes hold; a service's bytes are always those of a journal
 abbrev pub store_of : List ℕ → Store
@@ -71,14 +85,17 @@ pub record Attends (sessions : List Sess) (session : Session) : Type 0 where
   pub split : sessions ≡ front ++ sess_of session reads ∷ back
 
 -- Beside a service that is up.
-pub record StandsUp (disk : DiskState) (core : Core) (held : Held) (made : ℕ) (server : Server) : Type 0 where
+pub record StandsUp (disk : DiskState) (core : Core) (held : Held) (made : ℕ)
+    (server : Server) : Type 0 where
   pub power : server.power ≡ On
   pub plain : IsPlain server.core core disk
   pub count : server.count ≡ made
-  pub attends : (connection : ℕ) (session : Session) → held_at held connection ≡ Some (Some session) → Attends server.sessions session
+  pub attends : (connection : ℕ) (session : Session) → held_at held connection ≡ Some (Some session)
+      → Attends server.sessions session
 
 -- Beside one that is down, on a disk that reads so, or will.
-pub record StandsDown (grants : Grants) (is_settled : Bool) (image : List ℕ) (server : Server) : Type 0 where
+pub record StandsDown (grants : Grants) (is_settled : Bool) (image : List ℕ)
+    (server : Server) : Type 0 where
   pub power : HasPower false is_settled server.power
   pub stored : IfOk (journal_of image) (IsStored server.core)
   pub grants_are : server.core.base.grants ≡ grants
@@ -93,10 +110,13 @@ pub record Came (start : Base) (history : List Happened) (Stands : Server → Ty
 -- Down: whatever a crash leaves, and what a read gives, a run has come to it. Up: a run has come to
 -- where it stands.
 abbrev pub Stands : Grants → DiskState → Option Core → Held → Notes → Base → List Happened → Type 0
-Stands grants disk None held notes start history = (image : List ℕ) → MayLeave disk.now image → Came start history (StandsDown grants notes.is_settled image)
-Stands grants disk (Some core) held notes start history = Came start history (StandsUp disk core held notes.sessions)
+Stands grants disk None held notes start history = (image : List ℕ) → MayLeave disk.now image
+    → Came start history (StandsDown grants notes.is_settled image)
+Stands grants disk (Some core) held notes start history =
+    Came start history (StandsUp disk core held notes.sessions)
 
-pub record Sees (grants : Grants) (disk : DiskState) (core : Option Core) (held : Held) (notes : Notes) (seen : Seen) : Type 0 where
+pub record Sees (grants : Grants) (disk : DiskState) (core : Option Core) (held : Held)
+    (notes : Notes) (seen : Seen) : Type 0 where
   pub state_is : seen.state ≡ state_of disk core held notes
   pub stands : Stands grants disk core held notes seen.start seen.history
 
@@ -106,7 +126,8 @@ abbrev pub state_in : Within → ServiceState
 state_in service = state_of service.disk service.core service.held service.notes
 
 abbrev pub StandsIn : Within → Base → List Happened → Type 0
-StandsIn service start history = Stands service.grants service.disk service.core service.held service.notes start history
+StandsIn service start history = Stands service.grants service.disk service.core service.held
+    service.notes start history
 
 -- It is seen while it is not spent.
 pub record SeesIn (service : Within) (seen : Seen) : Type 0 where

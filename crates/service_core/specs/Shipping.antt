@@ -65,7 +65,8 @@ pub record GrewBy (old new : Within) : Type 0 where
 -- adds.
 pub record Broke (old new : Within) : Type 0 where
   pub counts : CountsOne old new
-  pub left : (image : List ℕ) → MayLeave new.disk.now image → (added : List Record) × HasAdded old.disk.now.seen added image
+  pub left : (image : List ℕ) → MayLeave new.disk.now image → (added : List Record)
+      × HasAdded old.disk.now.seen added image
   pub calls : ℕ
   pub stop : LoweredByLess calls old.disk.stop new.disk.stop
   pub faults : new.disk.faults ≡ with_fault old.disk.faults
@@ -88,17 +89,26 @@ pub record StandsAt (from place : ℕ) (image : List ℕ) : Type 0 where
 
 -- the payloads behind them are these
 abbrev pub AreBehind : ℕ → ℕ → List ℕ → List (List ℕ) → Type 0
-AreBehind from place image payloads = (records : List (List ℕ)) → StandsBehind place records image → from ≡ length records → records_of image ≡ Ok (records ++ payloads)
+AreBehind from place image payloads = (records : List (List ℕ)) → StandsBehind place records image
+    → from ≡ length records → records_of image ≡ Ok (records ++ payloads)
 
 -- they were read once more
 abbrev pub read_once : Within → Within
-read_once service = record service { notes = record service.notes { reads = service.notes.reads + 1 } }
+read_once service = record service {
+  notes =
+      record service.notes { reads = service.notes.reads + 1 };
+}
 
 -- ---- a service that is taken for stopped
 
 -- down, as behind a stop
 abbrev pub halted : Within → Within
-halted service = record service { core = None; held = []; notes = record service.notes { is_settled = false } }
+halted service = record service {
+  core = None;
+  held = [];
+  notes =
+      record service.notes { is_settled = false };
+}
 
 -- and over another disk
 abbrev pub taken : Within → DiskState → Within

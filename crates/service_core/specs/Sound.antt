@@ -25,7 +25,8 @@ HasRoom count notes = count ≤ 2 ^ 62 + notes.calls
 -- A call has one fault at most, and so has the reading for a second store, which comes once behind
 -- a call.
 abbrev pub HasFaultRoom : ℕ → Notes → Type 0
-HasFaultRoom count notes = (count ≤ 2 ^ 62 + (notes.calls + notes.reads)) × (notes.reads ≤ notes.calls)
+HasFaultRoom count notes = (count ≤ 2 ^ 62 + (notes.calls + notes.reads))
+    × (notes.reads ≤ notes.calls)
 
 -- a session of a living connection, and what it has read
 pub record IsHeld (core : Core) (made : ℕ) (session : Session) : Type 0 where
@@ -37,9 +38,13 @@ pub record IsHeld (core : Core) (made : ℕ) (session : Session) : Type 0 where
 
 -- as its connection's first frame makes it
 abbrev pub unmade : Core → ℕ → Session
-unmade core session = begins (ltxid_of (record { incarnation = core.source.incarnation; session = session }) 0)
+unmade core session = begins (ltxid_of (record {
+  incarnation = core.source.incarnation;
+  session = session;
+}) 0)
 
-pub record IsUp (grants : Grants) (disk : DiskState) (core : Core) (held : Held) (notes : Notes) : Type 0 where
+pub record IsUp (grants : Grants) (disk : DiskState) (core : Core) (held : Held)
+    (notes : Notes) : Type 0 where
   pub fits : Fits core disk
   pub granted : core.grants ≡ grants
   pub faults : HasFaultRoom disk.faults notes
@@ -47,13 +52,17 @@ pub record IsUp (grants : Grants) (disk : DiskState) (core : Core) (held : Held)
   pub room : HasRoom core.source.incarnation notes
   pub few : notes.sessions ≤ notes.calls
   pub crashes : notes.crashes ≤ notes.calls
-  pub each : (connection : ℕ) (session : Session) → held_at held connection ≡ Some (Some session) → IsHeld core notes.sessions session
+  pub each : (connection : ℕ) (session : Session) → held_at held connection ≡ Some (Some session)
+      → IsHeld core notes.sessions session
   -- each commit was a call
-  pub counted : (connection : ℕ) (session : Session) → held_at held connection ≡ Some (Some session) → session.ltxid.number ≤ notes.calls
+  pub counted : (connection : ℕ) (session : Session) → held_at held connection ≡ Some (Some session)
+      → session.ltxid.number ≤ notes.calls
   -- no session above those that were made has committed
   pub unmade_belong : (session : ℕ) → notes.sessions < session → Belongs core (unmade core session)
   -- no two connections have one session
-  pub apart : (connection other : ℕ) (session another : Session) → held_at held connection ≡ Some (Some session) → held_at held other ≡ Some (Some another) → another.ltxid.session ≡ session.ltxid.session → other ≡ connection
+  pub apart : (connection other : ℕ) (session another : Session)
+      → held_at held connection ≡ Some (Some session) → held_at held other ≡ Some (Some another)
+      → another.ltxid.session ≡ session.ltxid.session → other ≡ connection
 
 -- the image is that of a journal with this base
 pub record Reads (base : Base) (notes : Notes) (image : List ℕ) : Type 0 where

@@ -32,11 +32,28 @@ pub record IsFoundOn (disk : DiskState) (found : Found) : Type 0 where
 
 -- nothing was called
 abbrev pub first_notes : Notes
-first_notes = record { is_settled = true; is_opened = false; sessions = 0; kept = None; crashes = 0; last_pick = None; last_stop = None; calls = 0; reads = 0; is_spent = false }
+first_notes = record {
+  is_settled = true;
+  is_opened = false;
+  sessions = 0;
+  kept = None;
+  crashes = 0;
+  last_pick = None;
+  last_stop = None;
+  calls = 0;
+  reads = 0;
+  is_spent = false;
+}
 
 -- a service that is down on this disk
 abbrev pub made_on : DiskState → Grants → Within
-made_on disk grants = record { grants = grants; disk = disk; core = None; held = []; notes = first_notes }
+made_on disk grants = record {
+  grants = grants;
+  disk = disk;
+  core = None;
+  held = [];
+  notes = first_notes;
+}
 
 -- the moment at which it was made: what the journal has is of the time before
 abbrev pub base_of : Journal → Grants → Base

@@ -8,10 +8,13 @@ use Rattle.service_core.specs.Sound.{unmade}
 -- the one that the connection has, of so many that were made, or the next
 abbrev pub IsSessionOf : Core → Held → (made connection : ℕ) → Session → (later : ℕ) → Type 0
 IsSessionOf core held made connection session later =
-    ((held_at held connection ≡ Some (Some session)) × (later ≡ made)) ⊎ ((held_at held connection ≡ Some None) × (session ≡ unmade core (made + 1)) × (later ≡ made + 1))
+    ((held_at held connection ≡ Some (Some session))
+    × (later ≡ made)) ⊎ ((held_at held connection ≡ Some None)
+    × (session ≡ unmade core (made + 1)) × (later ≡ made + 1))
 
 -- it was taken out of its connection, which lives on with none
-pub record IsTaken (core : Core) (held : Held) (made connection : ℕ) (session : Session) (rest : Held) (later : ℕ) : Type 0 where
+pub record IsTaken (core : Core) (held : Held) (made connection : ℕ) (session : Session)
+    (rest : Held) (later : ℕ) : Type 0 where
   pub session_is : IsSessionOf core held made connection session later
   pub left : Holds connection (Some None) held rest
 

@@ -36,10 +36,15 @@ abbrev pub item : Up → Telling → Item
 item frame told = record { frame = frame; told = told }
 
 -- these were served and answered
-pub data Through (now : ℕ) (session : Session) (core : Core) (disk : DiskState) : List Item → Session → Core → DiskState → Type 0 where
+pub data Through (now : ℕ) (session : Session) (core : Core) (disk : DiskState) : List Item
+    → Session → Core → DiskState → Type 0 where
   Still : Through now session core disk [] session core disk
-  Then : (items : List Item) (mid : Session) (between : Core) (at : DiskState) (frame : Up) (told : Telling) (new : Session) (later : Core) (end : DiskState) → Through now session core disk items mid between at
-      → HasServed (served_as frame now) (1 + sequences_in frame) told mid between at new later end → IsTrue (is_answered told) → Through now session core disk (items ++ item frame told ∷ []) new later end
+  Then : (items : List Item) (mid : Session) (between : Core) (at : DiskState) (frame : Up)
+      (told : Telling) (new : Session) (later : Core) (end : DiskState)
+      → Through now session core disk items mid between at
+      → HasServed (served_as frame now) (1 + sequences_in frame) told mid between at new later end
+      → IsTrue (is_answered told) → Through now session core disk (items ++ item frame told
+      ∷ []) new later end
 
 -- what of them stands in a history
 abbrev pub happened_in : SessionId → ℕ → List Item → List Happened
@@ -53,7 +58,8 @@ pub record IsGoing (core : Core) (disk : DiskState) (session : Session) : Type 0
   pub noted : AreReadings session.txn.readings reads
 
 -- some were answered, and in the one behind them the disk failed
-pub record HasHaltedIn (now : ℕ) (session : Session) (core : Core) (disk end : DiskState) : Type 0 where
+pub record HasHaltedIn (now : ℕ) (session : Session) (core : Core)
+    (disk end : DiskState) : Type 0 where
   pub items : List Item
   pub mid : Session
   pub between : Core
@@ -68,7 +74,8 @@ abbrev pub begun_items : Ltxid → List Item
 begun_items x = item up.Connect (Says (down.Hello x)) ∷ item (up.Begin []) Silent ∷ []
 
 -- a request without settings was begun, which stores nothing
-pub record HasBegun (now : ℕ) (old : Session) (core : Core) (disk : DiskState) (new : Session) (later : Core) (end : DiskState) : Type 0 where
+pub record HasBegun (now : ℕ) (old : Session) (core : Core) (disk : DiskState) (new : Session)
+    (later : Core) (end : DiskState) : Type 0 where
   pub through : Through now old core disk (begun_items old.ltxid) new later end
   pub going : IsGoing later end new
   pub begun : new.life ≡ Begun
@@ -76,7 +83,8 @@ pub record HasBegun (now : ℕ) (old : Session) (core : Core) (disk : DiskState)
   pub session : session_of new.ltxid ≡ session_of old.ltxid
   pub grants : later.grants ≡ core.grants
 
-abbrev pub Begins : ℕ → Result (Unit {0}) ServeFault → Session → Core → DiskState → Session → Core → DiskState → Type 0
+abbrev pub Begins : ℕ → Result (Unit {0}) ServeFault → Session → Core → DiskState → Session → Core
+    → DiskState → Type 0
 Begins now (Ok done) old core disk new later end = HasBegun now old core disk new later end
 Begins now (Err fault.Stopped) old core disk new later end = ⊥
 Begins now (Err fault.NoMemory) old core disk new later end = end.faults ≡ disk.faults
@@ -91,29 +99,42 @@ abbrev pub run_in : Option Down → Option NoteRun
 run_in (Some (down.Reply answers draws x)) = Some (record { answers = answers; draws = draws })
 run_in _ = None
 
-pub record HasRunOne (now : ℕ) (called : Call) (run : Option NoteRun) (old : Session) (core : Core) (disk : DiskState) (new : Session) (later : Core) (end : DiskState) : Type 0 where
+pub record HasRunOne (now : ℕ) (called : Call) (run : Option NoteRun) (old : Session) (core : Core)
+    (disk : DiskState) (new : Session) (later : Core) (end : DiskState) : Type 0 where
   pub told : Option Down
   pub run_is : run ≡ run_in told
-  pub served : HasServed (served_as (call_frame called) now) (1 + sequences_in (call_frame called)) (told_of told) old core disk new later end
+  pub served : HasServed (served_as (call_frame called) now) (1 + sequences_in (call_frame called))
+      (told_of told) old core disk new later end
 
-abbrev pub RunsOne : ℕ → Call → Result (Option NoteRun) ServeFault → Session → Core → DiskState → Session → Core → DiskState → Type 0
-RunsOne now called (Ok run) old core disk new later end = HasRunOne now called run old core disk new later end
-RunsOne now called (Err fault.Stopped) old core disk new later end = HasStopped (served_as (call_frame called) now) (1 + sequences_in (call_frame called)) old core disk end × StaysTrue core later end
+abbrev pub RunsOne : ℕ → Call → Result (Option NoteRun) ServeFault → Session → Core → DiskState
+    → Session → Core → DiskState → Type 0
+RunsOne now called (Ok run) old core disk new later end =
+    HasRunOne now called run old core disk new later end
+RunsOne now called (Err fault.Stopped) old core disk new later end =
+    HasStopped (served_as (call_frame called) now) (1 + sequences_in (call_frame called)) old core
+    disk end × StaysTrue core later end
 RunsOne now called (Err fault.NoMemory) old core disk new later end = end.faults ≡ disk.faults
 
 -- all of them, up to the first that was answered Blocked
-pub record HasRunAll (now : ℕ) (session : SessionId) (calls : List Call) (runs : List NoteRun) (old : Session) (core : Core) (disk : DiskState) (new : Session) (later : Core) (end : DiskState) : Type 0 where
+pub record HasRunAll (now : ℕ) (session : SessionId) (calls : List Call) (runs : List NoteRun)
+    (old : Session) (core : Core) (disk : DiskState) (new : Session) (later : Core)
+    (end : DiskState) : Type 0 where
   pub items : List Item
   pub through : Through now old core disk items new later end
   pub are : RunsAre session now calls (map run_of runs) (happened_in session now items)
 
-abbrev pub RunsAll : ℕ → SessionId → List Call → Result (List NoteRun) ServeFault → Session → Core → DiskState → Session → Core → DiskState → Type 0
-RunsAll now session calls (Ok runs) old core disk new later end = HasRunAll now session calls runs old core disk new later end
-RunsAll now session calls (Err fault.Stopped) old core disk new later end = HasHaltedIn now old core disk end × StaysTrue core later end
-RunsAll now session calls (Err fault.NoMemory) old core disk new later end = end.faults ≡ disk.faults
+abbrev pub RunsAll : ℕ → SessionId → List Call → Result (List NoteRun) ServeFault → Session → Core
+    → DiskState → Session → Core → DiskState → Type 0
+RunsAll now session calls (Ok runs) old core disk new later end =
+    HasRunAll now session calls runs old core disk new later end
+RunsAll now session calls (Err fault.Stopped) old core disk new later end =
+    HasHaltedIn now old core disk end × StaysTrue core later end
+RunsAll now session calls (Err fault.NoMemory) old core disk new later end =
+    end.faults ≡ disk.faults
 
 -- a request was begun, and its calls were run
-pub record HasRunFrom (now : ℕ) (calls : List Call) (runs : List NoteRun) (old : Session) (core : Core) (disk : DiskState) (new : Session) (later : Core) (end : DiskState) : Type 0 where
+pub record HasRunFrom (now : ℕ) (calls : List Call) (runs : List NoteRun) (old : Session)
+    (core : Core) (disk : DiskState) (new : Session) (later : Core) (end : DiskState) : Type 0 where
   pub mid : Session
   pub between : Core
   pub at : DiskState
@@ -121,14 +142,18 @@ pub record HasRunFrom (now : ℕ) (calls : List Call) (runs : List NoteRun) (old
   pub ran : HasRunAll now (session_of mid.ltxid) calls runs mid between at new later end
 
 -- a request was begun, and in one of its calls the disk failed
-pub record HasHaltedFrom (now : ℕ) (old : Session) (core : Core) (disk end : DiskState) : Type 0 where
+pub record HasHaltedFrom (now : ℕ) (old : Session) (core : Core)
+    (disk end : DiskState) : Type 0 where
   pub mid : Session
   pub between : Core
   pub at : DiskState
   pub begun : HasBegun now old core disk mid between at
   pub halted : HasHaltedIn now mid between at end
 
-abbrev pub RunsFrom : ℕ → List Call → Result (List NoteRun) ServeFault → Session → Core → DiskState → Session → Core → DiskState → Type 0
-RunsFrom now calls (Ok runs) old core disk new later end = HasRunFrom now calls runs old core disk new later end
-RunsFrom now calls (Err fault.Stopped) old core disk new later end = HasHaltedFrom now old core disk end × StaysTrue core later end
+abbrev pub RunsFrom : ℕ → List Call → Result (List NoteRun) ServeFault → Session → Core → DiskState
+    → Session → Core → DiskState → Type 0
+RunsFrom now calls (Ok runs) old core disk new later end =
+    HasRunFrom now calls runs old core disk new later end
+RunsFrom now calls (Err fault.Stopped) old core disk new later end =
+    HasHaltedFrom now old core disk end × StaysTrue core later end
 RunsFrom now calls (Err fault.NoMemory) old core disk new later end = end.faults ≡ disk.faults

@@ -32,7 +32,9 @@ pub record LiesBetween (old image new : List ℕ) : Type 0 where
 pub record IsHaltedAs (old new : Within) (seen : Seen) : Type 0 where
   pub live : new.notes.is_spent ≡ false
   pub state_is : seen.state ≡ state_in (halted new)
-  pub came : (image left : List ℕ) → MayLeave new.disk.now left → LiesBetween old.disk.now.seen image left → Came seen.start seen.history (StandsDown new.grants false image)
+  pub came : (image left : List ℕ) → MayLeave new.disk.now left
+      → LiesBetween old.disk.now.seen image left
+      → Came seen.start seen.history (StandsDown new.grants false image)
 
 -- a store may stand there
 pub record StandsBetween (old new : Within) (store : Store) : Type 0 where
@@ -51,12 +53,14 @@ MayHalt (Err fault.NoMemory) old new = ⊥
 -- ---- what joins the history then
 
 -- one frame
-pub record HaltedFrame (old : Seen) (connection now : ℕ) (frame : Up) (stores : Store → Type 0) (new : Seen) : Type 0 where
+pub record HaltedFrame (old : Seen) (connection now : ℕ) (frame : Up) (stores : Store → Type 0)
+    (new : Seen) : Type 0 where
   pub start : new.start ≡ old.start
   pub session : SessionId
   pub of_connection : SessionOf old connection session new.state.sessions
   pub history : new.history ≡ old.history ++ Served session now frame Stopped ∷ []
-  pub adds : (store : Store) → stores store → Adds (Served session now frame Stopped ∷ []) (1 + sequences_in frame) old.state.store store
+  pub adds : (store : Store) → stores store → Adds (Served session now frame Stopped ∷ [])
+      (1 + sequences_in frame) old.state.store store
 
 -- each frame of a run from outside: none of them is told anything, whichever of them stand
 pub record HaltedCalls (old : Seen) (stores : Store → Type 0) (new : Seen) : Type 0 where
@@ -73,7 +77,8 @@ pub record HaltedAsk (old : Seen) (x : Ltxid) (stores : Store → Type 0) (new :
   pub adds : (store : Store) → stores store → AddsBlock x old.state.store store
 
 -- nothing: an opening
-pub record HaltedOpening (old : Seen) (below : ℕ) (stores : Store → Type 0) (new : Seen) : Type 0 where
+pub record HaltedOpening (old : Seen) (below : ℕ) (stores : Store → Type 0)
+    (new : Seen) : Type 0 where
   pub start : new.start ≡ old.start
   pub history : new.history ≡ old.history
   pub so_far : (store : Store) → stores store → OpenedSoFar below old.state.store store

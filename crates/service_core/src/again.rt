@@ -56,7 +56,8 @@ impl Resting {
     /// Stores the horizon, where it rises or is the first, and forgets what is below it.
     fn raise<D: Disk>(&mut self, disk: &mut D, horizon: u64) -> Result<(), LogFault>
         requires current { IsCurrent self.old (D.state disk.old) }
-        requires may { (journal : Held) → journal_of (D.state disk.old).now.seen ≡ Ok journal → horizon ≤ journal.incarnation + 1 }
+        requires may { (journal : Held) → journal_of (D.state disk.old).now.seen ≡ Ok journal
+            → horizon ≤ journal.incarnation + 1 }
         ensures { Raises horizon result self.old self.new (D.state disk.old) (D.state disk.new) }
     {
         if !self.is_below(horizon) {

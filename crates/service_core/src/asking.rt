@@ -36,12 +36,18 @@ impl<D: StopDisk> OneService<D> {
         requires few { self.old.notes.calls < 2 ^ 48 }
         requires up { (state_in self.old).is_up ≡ true }
         requires identifier { IsLtxid x.now }
-        ensures asked { Ends result (λ told. Goes (SeesIn self.old) (SeesIn self.new) (λ old new. AskedOne old x.now told new)) (Goes (SeesIn self.old) (SeesIn self.new) (λ old new. StoppedAsk old x.now (LeavesIn self.new) new)) }
+        ensures asked { Ends result (λ told. Goes (SeesIn self.old) (SeesIn self.new)
+            (λ old new. AskedOne old x.now told new))
+            (Goes (SeesIn self.old) (SeesIn self.new)
+            (λ old new. StoppedAsk old x.now (LeavesIn self.new) new)) }
         ensures base { NotMemory result (HaveOneBase (bytes_in self.old) (bytes_in self.new)) }
         ensures grew { IfOk result (λ _. GrewBy self.old self.new) }
         ensures broke { IsErrOf result ServeFault.Stopped → Broke self.old self.new }
-        ensures halted { MayHalt result self.old self.new → Goes (SeesIn self.old) (IsHaltedAs self.old self.new) (λ old new. HaltedAsk old x.now (StandsBetween self.old self.new) new) }
-        ensures uncounted { IsErrOf result ServeFault.NoMemory → self.new.disk.faults ≡ self.old.disk.faults }
+        ensures halted { MayHalt result self.old self.new
+            → Goes (SeesIn self.old) (IsHaltedAs self.old self.new)
+            (λ old new. HaltedAsk old x.now (StandsBetween self.old self.new) new) }
+        ensures uncounted { IsErrOf result ServeFault.NoMemory
+            → self.new.disk.faults ≡ self.old.disk.faults }
     {
         self.notes.calls += 1;
         let mut core = match self.core.take() {

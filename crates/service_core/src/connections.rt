@@ -46,7 +46,8 @@ impl Connections {
     /// Takes the session of a connection out. The connection lives on, as one that has none yet.
     pub fn take(&mut self, connection: u64) -> Option<Option<Session>>
         ensures taken { result ≡ held_at self.old connection }
-        ensures left { held_at self.old connection ≢ None → Holds connection (Some None) self.old self.new }
+        ensures left { held_at self.old connection ≢ None
+            → Holds connection (Some None) self.old self.new }
     {
         match self.held.get_mut(&connection) {
             Some(session) => Some(session.take()),

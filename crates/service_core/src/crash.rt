@@ -17,7 +17,8 @@ impl<D: StopDisk> OneService<D> {
         requires live { self.old.notes.is_spent ≡ false }
         requires few { self.old.notes.calls < 2 ^ 48 }
         ensures left { LeavesIn self.old (state_in self.new).store }
-        ensures crashed { Goes (SeesIn self.old) (SeesIn self.new) (λ old new. Crashed old pick new) }
+        ensures crashed { Goes (SeesIn self.old) (SeesIn self.new)
+            (λ old new. Crashed old pick new) }
         ensures base { HaveOneBase (bytes_in self.old) (bytes_in self.new) }
         ensures fell { Fell self.old self.new }
     {

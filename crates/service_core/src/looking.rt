@@ -25,8 +25,10 @@ impl<D: StopDisk + Drop> OneService<D> {
     pub fn read_at_end(self, alloc: Global) -> (Result<Ended, ServeFault>, D)
         requires live { self.notes.is_spent ≡ false }
         ensures told { IfOk result.0 (IsEndOf (bytes_in self)) }
-        ensures cause { IsErrOf result.0 ServeFault.Stopped → self.disk.quiet ≡ true → self.disk.stop ≢ None }
-        ensures uncounted { IsErrOf result.0 ServeFault.NoMemory → (D.state result.1).faults ≡ self.disk.faults }
+        ensures cause { IsErrOf result.0 ServeFault.Stopped → self.disk.quiet ≡ true
+            → self.disk.stop ≢ None }
+        ensures uncounted { IsErrOf result.0 ServeFault.NoMemory
+            → (D.state result.1).faults ≡ self.disk.faults }
     {
         let OneService {
             mut disk,
@@ -53,9 +55,12 @@ impl<D: StopDisk> OneService<D> {
         requires few { self.old.notes.calls < 2 ^ 48 }
         ensures told { IfOk result (λ journal. journal_of (bytes_in self.new) ≡ Ok journal) }
         ensures unwritten { NotMemory result (bytes_in self.new ≡ bytes_in self.old) }
-        ensures looks { NotMemory result (Looks (IsErrOf result ServeFault.Stopped) self.old self.new) }
-        ensures looked { Ends result (λ journal. Goes (SeesIn self.old) (SeesIn self.new) Looked) (Goes (SeesIn self.old) (SeesIn self.new) StoppedLook) }
-        ensures uncounted { IsErrOf result ServeFault.NoMemory → self.new.disk.faults ≡ self.old.disk.faults }
+        ensures looks { NotMemory result
+            (Looks (IsErrOf result ServeFault.Stopped) self.old self.new) }
+        ensures looked { Ends result (λ journal. Goes (SeesIn self.old) (SeesIn self.new) Looked)
+            (Goes (SeesIn self.old) (SeesIn self.new) StoppedLook) }
+        ensures uncounted { IsErrOf result ServeFault.NoMemory
+            → self.new.disk.faults ≡ self.old.disk.faults }
     {
         self.notes.calls += 1;
         match Log::read(alloc, &mut self.disk) {
@@ -81,9 +86,12 @@ impl<D: StopDisk> OneService<D> {
         requires few { self.old.notes.calls < 2 ^ 48 }
         ensures told { IfOk result (λ image. image.items ≡ bytes_in self.new) }
         ensures unwritten { NotMemory result (bytes_in self.new ≡ bytes_in self.old) }
-        ensures looks { NotMemory result (Looks (IsErrOf result ServeFault.Stopped) self.old self.new) }
-        ensures looked { Ends result (λ image. Goes (SeesIn self.old) (SeesIn self.new) Looked) (Goes (SeesIn self.old) (SeesIn self.new) StoppedLook) }
-        ensures uncounted { IsErrOf result ServeFault.NoMemory → self.new.disk.faults ≡ self.old.disk.faults }
+        ensures looks { NotMemory result
+            (Looks (IsErrOf result ServeFault.Stopped) self.old self.new) }
+        ensures looked { Ends result (λ image. Goes (SeesIn self.old) (SeesIn self.new) Looked)
+            (Goes (SeesIn self.old) (SeesIn self.new) StoppedLook) }
+        ensures uncounted { IsErrOf result ServeFault.NoMemory
+            → self.new.disk.faults ≡ self.old.disk.faults }
     {
         self.notes.calls += 1;
         match bytes_of(alloc, &mut self.disk) {
@@ -106,7 +114,8 @@ impl<D: StopDisk> OneService<D> {
 /// All bytes of a disk.
 fn bytes_of<D: Disk>(alloc: Global, disk: &mut D) -> Result<Vec<u8>, ServeFault>
     ensures image { IfOk result (λ image. image.items ≡ (D.state disk.old).now.seen) }
-    ensures only_reads { OnlyReads (IsErrOf result ServeFault.Stopped) (D.state disk.old) (D.state disk.new) }
+    ensures only_reads { OnlyReads (IsErrOf result ServeFault.Stopped) (D.state disk.old)
+        (D.state disk.new) }
 {
     let size = disk.size();
     let Ok(mut image) = vec![in alloc; 0; size as usize] else {

@@ -28,8 +28,11 @@ impl<D: StopDisk> OneService<D> {
     pub fn new(alloc: Global, disk: D, grants: Grants) -> Self
         requires { CanBegin (D.state disk) }
         ensures made { result ≡ made_on (D.state disk) grants }
-        ensures sound { (journal : Journal) → journal_of (D.state disk).now.seen ≡ Ok journal → IsSound (base_of journal grants) }
-        ensures seen { (journal : Journal) → journal_of (D.state disk).now.seen ≡ Ok journal → SeesIn result (seen_new result (base_of journal grants)) × IsNew (seen_new result (base_of journal grants)) }
+        ensures sound { (journal : Journal) → journal_of (D.state disk).now.seen ≡ Ok journal
+            → IsSound (base_of journal grants) }
+        ensures seen { (journal : Journal) → journal_of (D.state disk).now.seen ≡ Ok journal
+            → SeesIn result (seen_new result (base_of journal grants))
+            × IsNew (seen_new result (base_of journal grants)) }
     {
         OneService::indexed(alloc, disk, grants, Vec::new(alloc))
     }
@@ -40,8 +43,11 @@ impl<D: StopDisk> OneService<D> {
         requires begins { CanBegin (D.state disk) }
         requires indexes { FitBase indexes.items (D.state disk).now.seen }
         ensures made { result ≡ made_on (D.state disk) grants }
-        ensures sound { (journal : Journal) → journal_of (D.state disk).now.seen ≡ Ok journal → IsSound (base_of journal grants) }
-        ensures seen { (journal : Journal) → journal_of (D.state disk).now.seen ≡ Ok journal → SeesIn result (seen_new result (base_of journal grants)) × IsNew (seen_new result (base_of journal grants)) }
+        ensures sound { (journal : Journal) → journal_of (D.state disk).now.seen ≡ Ok journal
+            → IsSound (base_of journal grants) }
+        ensures seen { (journal : Journal) → journal_of (D.state disk).now.seen ≡ Ok journal
+            → SeesIn result (seen_new result (base_of journal grants))
+            × IsNew (seen_new result (base_of journal grants)) }
     {
         OneService::resting_on(alloc, disk, grants, indexes, None)
     }
@@ -58,8 +64,11 @@ impl<D: StopDisk> OneService<D> {
         requires indexes { FitBase indexes.items (D.state disk).now.seen }
         requires resting { IfSome resting (RestsBy grants (D.state disk)) }
         ensures made { result ≡ made_on (D.state disk) grants }
-        ensures sound { (journal : Journal) → journal_of (D.state disk).now.seen ≡ Ok journal → IsSound (base_of journal grants) }
-        ensures seen { (journal : Journal) → journal_of (D.state disk).now.seen ≡ Ok journal → SeesIn result (seen_new result (base_of journal grants)) × IsNew (seen_new result (base_of journal grants)) }
+        ensures sound { (journal : Journal) → journal_of (D.state disk).now.seen ≡ Ok journal
+            → IsSound (base_of journal grants) }
+        ensures seen { (journal : Journal) → journal_of (D.state disk).now.seen ≡ Ok journal
+            → SeesIn result (seen_new result (base_of journal grants))
+            × IsNew (seen_new result (base_of journal grants)) }
     {
         keeps_journal();
         OneService {
@@ -101,8 +110,12 @@ impl<D: StopDisk + Drop> OneService<D> {
         requires indexes { FitBase indexes.items (D.state disk).now.seen }
         requires found { IsFoundOn (D.state disk) found }
         ensures made { IfOk result (λ service. service ≡ made_on (D.state disk) grants) }
-        ensures sound { IfOk result (λ service. (journal : Journal) → journal_of (D.state disk).now.seen ≡ Ok journal → IsSound (base_of journal grants)) }
-        ensures seen { IfOk result (λ service. (journal : Journal) → journal_of (D.state disk).now.seen ≡ Ok journal → SeesIn service (seen_new service (base_of journal grants)) × IsNew (seen_new service (base_of journal grants))) }
+        ensures sound { IfOk result (λ service. (journal : Journal)
+            → journal_of (D.state disk).now.seen ≡ Ok journal → IsSound (base_of journal grants)) }
+        ensures seen { IfOk result (λ service. (journal : Journal)
+            → journal_of (D.state disk).now.seen ≡ Ok journal
+            → SeesIn service (seen_new service (base_of journal grants))
+            × IsNew (seen_new service (base_of journal grants))) }
     {
         keeps_journal();
         let resting = resting_of(alloc, found, grants, &indexes)?;

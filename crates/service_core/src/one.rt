@@ -40,9 +40,23 @@ impl<D: StopDisk> Model for OneService<D> {
 
     ghost Value = { Within };
 
-    ghost view = { λ s. record { grants = s.grants; disk = D.state s.disk; core = s.core; held = s.held; notes = s.notes } };
+    ghost view = { λ s. record {
+      grants = s.grants;
+      disk = D.state s.disk;
+      core = s.core;
+      held =
+          s.held;
+      notes = s.notes;
+    } };
 
-    ghost invariant = { λ s. IsKeptWith (record { grants = s.grants; disk = D.state s.disk; core = s.core; held = s.held; notes = s.notes }) s.resting };
+    ghost invariant = { λ s. IsKeptWith (record {
+      grants = s.grants;
+      disk = D.state s.disk;
+      core =
+          s.core;
+      held = s.held;
+      notes = s.notes;
+    }) s.resting };
 }
 
 impl<D: StopDisk> OneService<D> {
@@ -55,7 +69,8 @@ impl<D: StopDisk> OneService<D> {
 
     /// The incarnation of this opening. Of a service that is down it says nothing.
     pub fn opening(&self) -> u64
-        ensures { (state_in self.now).is_up ≡ true → result ≡ (state_in self.now).store.incarnation }
+        ensures { (state_in self.now).is_up ≡ true
+            → result ≡ (state_in self.now).store.incarnation }
     {
         match &self.core {
             Some(core) => core.source.incarnation(),
@@ -68,7 +83,8 @@ impl<D: StopDisk> OneService<D> {
         requires live { self.old.notes.is_spent ≡ false }
         requires few { self.old.notes.calls < 2 ^ 48 }
         requires new { (state_in self.old).living connection ≡ None }
-        ensures connected { IfOk result (λ up. Goes (SeesIn self.old) (SeesIn self.new) (λ old new. Connected old connection up new)) }
+        ensures connected { IfOk result (λ up. Goes (SeesIn self.old) (SeesIn self.new)
+            (λ old new. Connected old connection up new)) }
         ensures base { IfOk result (λ up. HaveOneBase (bytes_in self.old) (bytes_in self.new)) }
         ensures stays { IfOk result (λ up. Stays self.old self.new) }
         ensures uncounted { OnErr result (self.new.disk ≡ self.old.disk) }
@@ -91,7 +107,8 @@ impl<D: StopDisk> OneService<D> {
     pub fn end(&mut self, connection: u64)
         requires live { self.old.notes.is_spent ≡ false }
         requires few { self.old.notes.calls < 2 ^ 48 }
-        ensures reaped { Goes (SeesIn self.old) (SeesIn self.new) (λ old new. Reaped old connection new) }
+        ensures reaped { Goes (SeesIn self.old) (SeesIn self.new)
+            (λ old new. Reaped old connection new) }
         ensures base { HaveOneBase (bytes_in self.old) (bytes_in self.new) }
         ensures stays { Stays self.old self.new }
     {
@@ -103,7 +120,8 @@ impl<D: StopDisk> OneService<D> {
     pub fn set_stop(&mut self, calls: Option<u64>)
         requires live { self.old.notes.is_spent ≡ false }
         requires few { self.old.notes.calls < 2 ^ 48 }
-        ensures stop { Goes (SeesIn self.old) (SeesIn self.new) (λ old new. new ≡ with_stop old calls) }
+        ensures stop { Goes (SeesIn self.old) (SeesIn self.new)
+            (λ old new. new ≡ with_stop old calls) }
         ensures base { HaveOneBase (bytes_in self.old) (bytes_in self.new) }
         ensures sets { SetsStop calls self.old self.new }
     {

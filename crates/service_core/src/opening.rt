@@ -44,17 +44,24 @@ pub(crate) fn open<D: Disk>(
     requires resting { IfSome resting.old (RestsBy grants (D.state disk.old)) }
     requires journal { CanOpen horizon (D.state disk.old).now.seen }
     requires indexes { FitBase indexes.now (D.state disk.old).now.seen }
-    ensures opened { IfOk result (λ core. HasOpened horizon grants (D.state disk.old) core (D.state disk.new)) }
-    ensures kept { IsErrOf result ServeFault.Stopped → IfSome resting.new (RestsBy grants (D.state disk.new)) }
+    ensures opened { IfOk result (λ core. HasOpened horizon grants (D.state disk.old) core
+        (D.state disk.new)) }
+    ensures kept { IsErrOf result ServeFault.Stopped
+        → IfSome resting.new (RestsBy grants (D.state disk.new)) }
 
     // A crash at any moment of the call leaves the old records, or these with the horizon, if it is
     // stored, or with all that the opening adds.
-    ensures any_moment { let old = (D.state disk.old).now.seen in Meanwhile (D.state disk.old) (D.state disk.new) (IsGrown old (opening_of horizon (so_far_of old))) }
+    ensures any_moment { let old = (D.state disk.old).now.seen in
+        Meanwhile (D.state disk.old) (D.state disk.new)
+        (IsGrown old (opening_of horizon (so_far_of old))) }
 
     // It is stopped only under a stop that does not let its device calls pass, or by a fault of the
     // disk.
-    ensures stop { IsErrOf result ServeFault.Stopped → LoweredByLess (stop_of horizon (D.state disk.old).now.seen) (D.state disk.old).stop (D.state disk.new).stop }
-    ensures cause { Caused (IsErrOf result ServeFault.Stopped) (D.state disk.old) (D.state disk.new) }
+    ensures stop { IsErrOf result ServeFault.Stopped
+        → LoweredByLess (stop_of horizon (D.state disk.old).now.seen) (D.state disk.old).stop
+        (D.state disk.new).stop }
+    ensures cause { Caused (IsErrOf result ServeFault.Stopped) (D.state disk.old)
+        (D.state disk.new) }
 {
     keeps_journal();
     raises_horizon();
@@ -83,7 +90,8 @@ fn kept_or_read<D: Disk>(
     requires journal { (journal : Held) × (journal_of (D.state disk.old).now.seen ≡ Ok journal) }
     requires indexes { FitBase indexes.now (D.state disk.old).now.seen }
     ensures rests { IfOk result (RestsBy grants (D.state disk.old)) }
-    ensures only_reads { OnlyReads (IsErrOf result ServeFault.Stopped) (D.state disk.old) (D.state disk.new) }
+    ensures only_reads { OnlyReads (IsErrOf result ServeFault.Stopped) (D.state disk.old)
+        (D.state disk.new) }
 {
     match resting {
         Some(kept) => Ok(kept),
@@ -102,7 +110,8 @@ fn read_whole<D: Disk>(
     requires journal { (journal : Held) × (journal_of (D.state disk.old).now.seen ≡ Ok journal) }
     requires indexes { FitBase indexes.now (D.state disk.old).now.seen }
     ensures rests { IfOk result (RestsBy grants (D.state disk.old)) }
-    ensures only_reads { OnlyReads (IsErrOf result ServeFault.Stopped) (D.state disk.old) (D.state disk.new) }
+    ensures only_reads { OnlyReads (IsErrOf result ServeFault.Stopped) (D.state disk.old)
+        (D.state disk.new) }
 {
     keeps_journal();
     match Log::find(alloc, disk) {

@@ -42,7 +42,8 @@ fn begin<D: Disk>(
 ) -> Result<(), ServeFault>
     requires going { IsGoing core.old (D.state disk.old) session.old }
     requires new { session.old.life ≡ New }
-    ensures { Begins now result session.old core.old (D.state disk.old) session.new core.new (D.state disk.new) }
+    ensures { Begins now result session.old core.old (D.state disk.old) session.new core.new
+        (D.state disk.new) }
 {
     match session.serve(core, disk, &Up::Connect, now) {
         Ok(_) => {}
@@ -67,7 +68,8 @@ fn run_one<D: Disk>(
     requires going { IsGoing core.old (D.state disk.old) session.old }
     requires begun { session.old.life ≡ Begun }
     requires made { IsMade call.now }
-    ensures { RunsOne now call.now result session.old core.old (D.state disk.old) session.new core.new (D.state disk.new) }
+    ensures { RunsOne now call.now result session.old core.old (D.state disk.old) session.new
+        core.new (D.state disk.new) }
 {
     let frame = Up::Call {
         replay: false,
@@ -92,7 +94,8 @@ fn run_all<D: Disk>(
     requires going { IsGoing core.old (D.state disk.old) session.old }
     requires begun { session.old.life ≡ Begun }
     requires made { AllByRecursion IsMade calls.now }
-    ensures { RunsAll now (session_of session.old.ltxid) calls.now result session.old core.old (D.state disk.old) session.new core.new (D.state disk.new) }
+    ensures { RunsAll now (session_of session.old.ltxid) calls.now result session.old core.old
+        (D.state disk.old) session.new core.new (D.state disk.new) }
 {
     let mut runs = Vec::new(alloc);
     for call in calls {
@@ -121,7 +124,8 @@ fn begin_and_run<D: Disk>(
     requires going { IsGoing core.old (D.state disk.old) session.old }
     requires new { session.old.life ≡ New }
     requires made { AllByRecursion IsMade calls.now }
-    ensures { RunsFrom now calls.now result session.old core.old (D.state disk.old) session.new core.new (D.state disk.new) }
+    ensures { RunsFrom now calls.now result session.old core.old (D.state disk.old) session.new
+        core.new (D.state disk.new) }
 {
     match begin(alloc, core, disk, session, now) {
         Ok(()) => run_all(alloc, core, disk, session, calls, now),
@@ -141,12 +145,18 @@ impl<D: StopDisk> OneService<D> {
         requires few { self.old.notes.calls < 2 ^ 48 }
         requires up { (state_in self.old).is_up ≡ true }
         requires made { AllByRecursion IsMade calls.now }
-        ensures ran { Ends result (λ ran. Goes (SeesIn self.old) (SeesIn self.new) (λ old new. RanOutside old calls.now now ran.ltxid (runs_of ran) new)) (Goes (SeesIn self.old) (SeesIn self.new) (λ old new. StoppedOutside old (LeavesIn self.new) new)) }
+        ensures ran { Ends result (λ ran. Goes (SeesIn self.old) (SeesIn self.new)
+            (λ old new. RanOutside old calls.now now ran.ltxid (runs_of ran) new))
+            (Goes (SeesIn self.old) (SeesIn self.new)
+            (λ old new. StoppedOutside old (LeavesIn self.new) new)) }
         ensures base { NotMemory result (HaveOneBase (bytes_in self.old) (bytes_in self.new)) }
         ensures grew { IfOk result (λ _. GrewBy self.old self.new) }
         ensures broke { IsErrOf result ServeFault.Stopped → Broke self.old self.new }
-        ensures halted { MayHalt result self.old self.new → Goes (SeesIn self.old) (IsHaltedAs self.old self.new) (λ old new. HaltedCalls old (StandsBetween self.old self.new) new) }
-        ensures uncounted { IsErrOf result ServeFault.NoMemory → self.new.disk.faults ≡ self.old.disk.faults }
+        ensures halted { MayHalt result self.old self.new
+            → Goes (SeesIn self.old) (IsHaltedAs self.old self.new)
+            (λ old new. HaltedCalls old (StandsBetween self.old self.new) new) }
+        ensures uncounted { IsErrOf result ServeFault.NoMemory
+            → self.new.disk.faults ≡ self.old.disk.faults }
     {
         self.notes.calls += 1;
         let mut core = match self.core.take() {

@@ -83,10 +83,12 @@ impl Resting {
         ensures knows { OnOk result (KnowsAll (D.state disk.old).now.seen self.new) }
         ensures current { IsSettled (D.state disk.old)
             → OnOk result (IsCurrent self.new (D.state disk.new)) }
-        ensures rests { IsErrOf result LogFault.Stopped → Rests (D.state disk.old).now.seen self.new }
+        ensures rests { IsErrOf result LogFault.Stopped
+            → Rests (D.state disk.old).now.seen self.new }
         ensures grants { self.new.core.grants ≡ self.old.core.grants }
         ensures whole { (place : ℕ) → IsErrOf result (LogFault.Damaged place) → ⊥ }
-        ensures only_reads { OnlyReads (IsErrOf result LogFault.Stopped) (D.state disk.old) (D.state disk.new) }
+        ensures only_reads { OnlyReads (IsErrOf result LogFault.Stopped) (D.state disk.old)
+            (D.state disk.new) }
     {
         while self.read_on(alloc, disk)? {}
         Ok(())

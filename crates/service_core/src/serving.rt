@@ -25,7 +25,11 @@ use svc_values::{Down, Ltxid, Up};
 /// The first identifier of the next session, which is counted.
 pub(crate) fn next_ltxid(core: &Core, made: &mut u64) -> Ltxid
     requires { made.old < 2 ^ 63 }
-    ensures next { result ≡ ltxid_of (record { incarnation = core.now.source.incarnation; session = made.old + 1 }) 0 }
+    ensures next { result ≡ ltxid_of (record {
+      incarnation = core.now.source.incarnation;
+      session =
+          made.old + 1;
+    }) 0 }
     ensures counted { made.new ≡ made.old + 1 }
 {
     *made += 1;
@@ -81,12 +85,17 @@ impl<D: StopDisk> OneService<D> {
         requires lives { Lives (state_in self.old) connection }
         requires made { IsMadeUp frame.now }
         ensures made { IfOk result (λ told. IfSome told IsMadeDown) }
-        ensures served { IfTold result (λ told. Goes (SeesIn self.old) (SeesIn self.new) (λ old new. ServedOne old connection now frame.now told (LeavesIn self.new) new)) }
+        ensures served { IfTold result (λ told. Goes (SeesIn self.old) (SeesIn self.new)
+            (λ old new. ServedOne old connection now frame.now told (LeavesIn self.new) new)) }
         ensures base { NotMemory result (HaveOneBase (bytes_in self.old) (bytes_in self.new)) }
         ensures grew { IfOk result (λ _. GrewBy self.old self.new) }
         ensures broke { IsErrOf result ServeFault.Stopped → Broke self.old self.new }
-        ensures halted { MayHalt result self.old self.new → Goes (SeesIn self.old) (IsHaltedAs self.old self.new) (λ old new. HaltedFrame old connection now frame.now (StandsBetween self.old self.new) new) }
-        ensures uncounted { IsErrOf result ServeFault.NoMemory → self.new.disk.faults ≡ self.old.disk.faults }
+        ensures halted { MayHalt result self.old self.new
+            → Goes (SeesIn self.old) (IsHaltedAs self.old self.new)
+            (λ old new. HaltedFrame old connection now frame.now (StandsBetween self.old self.new)
+            new) }
+        ensures uncounted { IsErrOf result ServeFault.NoMemory
+            → self.new.disk.faults ≡ self.old.disk.faults }
     {
         self.notes.calls += 1;
         self.notes.kept = self.disk.left();

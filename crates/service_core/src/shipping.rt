@@ -56,8 +56,10 @@ impl<D: StopDisk> OneService<D> {
         requires stands { StandsAt from place (bytes_in self.old) }
         ensures read { IfOk result (λ _. self.new ≡ read_once self.old) }
         ensures failed { IsErrOf result ServeFault.Stopped → FailedRead self.old self.new }
-        ensures spent { IsErrOf result ServeFault.NoMemory → (self.new.notes.is_spent ≡ true) × (self.new.disk.faults ≡ self.old.disk.faults) }
-        ensures records { IfOk result (λ payloads. AreBehind from place (bytes_in self.old) (map (λ payload. payload.items) payloads.items)) }
+        ensures spent { IsErrOf result ServeFault.NoMemory → (self.new.notes.is_spent ≡ true)
+            × (self.new.disk.faults ≡ self.old.disk.faults) }
+        ensures records { IfOk result (λ payloads. AreBehind from place (bytes_in self.old)
+            (map (λ payload. payload.items) payloads.items)) }
     {
         self.notes.reads += 1;
         match Walk::behind(alloc, place, from).rest(&mut self.disk) {
@@ -94,7 +96,9 @@ impl<D: StopDisk> OneService<D> {
         requires live { self.old.notes.is_spent ≡ false }
         requires room { HasFaultRoom (D.state disk).faults self.old.notes }
         requires base { HaveOneBase (bytes_in self.old) (D.state disk).now.seen }
-        requires journals { (base : Begun) × ((image : List ℕ) → MayLeave (D.state disk).now image → Reads base self.old.notes image) }
+        requires journals { (base : Begun)
+            × ((image : List ℕ) → MayLeave (D.state disk).now image
+            → Reads base self.old.notes image) }
         ensures taken { self.new ≡ taken self.old (D.state disk) }
         ensures lost { D.state result ≡ self.old.disk }
     {

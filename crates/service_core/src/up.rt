@@ -21,14 +21,21 @@ impl<D: StopDisk> OneService<D> {
     pub fn reopen(&mut self, alloc: Global, horizon: u64) -> Result<(), ServeFault>
         requires live { self.old.notes.is_spent ≡ false }
         requires few { self.old.notes.calls < 2 ^ 48 }
-        requires down { ((state_in self.old).is_up ≡ false) × ((state_in self.old).is_settled ≡ true) }
+        requires down { ((state_in self.old).is_up ≡ false)
+            × ((state_in self.old).is_settled ≡ true) }
         requires may { MayForget (state_in self.old) horizon }
-        ensures opened { Ends result (λ done. Goes (SeesIn self.old) (SeesIn self.new) (λ old new. Opened old horizon new)) (Goes (SeesIn self.old) (SeesIn self.new) (λ old new. StoppedOpening old horizon (LeavesIn self.new) new)) }
+        ensures opened { Ends result (λ done. Goes (SeesIn self.old) (SeesIn self.new)
+            (λ old new. Opened old horizon new))
+            (Goes (SeesIn self.old) (SeesIn self.new)
+            (λ old new. StoppedOpening old horizon (LeavesIn self.new) new)) }
         ensures base { NotMemory result (HaveOneBase (bytes_in self.old) (bytes_in self.new)) }
         ensures grew { IfOk result (λ _. GrewBy self.old self.new) }
         ensures broke { IsErrOf result ServeFault.Stopped → Broke self.old self.new }
-        ensures halted { MayHalt result self.old self.new → Goes (SeesIn self.old) (IsHaltedAs self.old self.new) (λ old new. HaltedOpening old horizon (StandsBetween self.old self.new) new) }
-        ensures uncounted { IsErrOf result ServeFault.NoMemory → self.new.disk.faults ≡ self.old.disk.faults }
+        ensures halted { MayHalt result self.old self.new
+            → Goes (SeesIn self.old) (IsHaltedAs self.old self.new)
+            (λ old new. HaltedOpening old horizon (StandsBetween self.old self.new) new) }
+        ensures uncounted { IsErrOf result ServeFault.NoMemory
+            → self.new.disk.faults ≡ self.old.disk.faults }
     {
         keeps_journal();
         raises_horizon();

@@ -22,7 +22,15 @@ impl Model for Known {
 
     ghost Value = { Facts };
 
-    ghost view = { λ k. record { calls = k.calls; is_settled = k.is_settled; is_opened = k.is_opened; incarnation = k.incarnation; first = k.first; second = k.second } };
+    ghost view = { λ k. record {
+      calls = k.calls;
+      is_settled = k.is_settled;
+      is_opened =
+          k.is_opened;
+      incarnation = k.incarnation;
+      first = k.first;
+      second = k.second;
+    } };
 }
 
 impl Known {

@@ -9,4 +9,5 @@ use Rattle.shown_clauses.specs.meaning.LegalItems.{items_of}
 
 -- `FreshNew` of what was served
 abbrev pub fresh_new_of : Document → Report → Bool
-fresh_new_of document report = fresh_new (service_base document) (items_of document report) report.entries
+fresh_new_of document report = fresh_new (service_base document) (items_of document report)
+    report.entries

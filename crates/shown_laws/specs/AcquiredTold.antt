@@ -18,10 +18,14 @@ is_on number _ = false
 
 -- and acquired its session by that
 abbrev pub acquired_by : ℕ → Step → Option Acquired
-acquired_by number step = if is_on number step.did && is_some step.session then Some (record { client = step.client; event = step.event }) else None
+acquired_by number step = if is_on number step.did && is_some step.session then Some (record {
+  client = step.client;
+  event = step.event;
+}) else None
 
 abbrev pub acquired_after : ℕ → Option Acquired → List Step → Option Acquired
-acquired_after number before steps = fold (λ found step. option_or (acquired_by number step) found) before steps
+acquired_after number before steps = fold (λ found step. option_or (acquired_by number step) found)
+    before steps
 
 abbrev pub last_acquired : ℕ → List Step → Option Acquired
 last_acquired number steps = acquired_after number None steps
@@ -31,4 +35,6 @@ told_acquired number links = option_map_or (λ one. one.acquired) (link_of numbe
 
 -- in all that is told
 abbrev pub StepsAcquire : Type 0
-StepsAcquire = (notes : List Note) (items : List Served) (number : ℕ) → told_acquired number (seen_told notes items).links ≡ last_acquired number (steps_told notes items)
+StepsAcquire = (notes : List Note) (items : List Served) (number : ℕ)
+    → told_acquired number (seen_told notes items).links
+    ≡ last_acquired number (steps_told notes items)

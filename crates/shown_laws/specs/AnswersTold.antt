@@ -16,12 +16,14 @@ use Rattle.shown_laws.specs.ReportsTold.{HoldsOfReports, of_parts}
 -- A reply is of the script's call at its place, by a session of the report. For an outcome the
 -- report has one that says committed and completed of that identifier.
 abbrev pub is_answered : RequestReport → Shown → Item → Bool
-is_answered copy one (item.Call replay call answers draws) = same_call one.call call && list_any (same_session one.showing.session) copy.sessions
+is_answered copy one (item.Call replay call answers draws) =
+    same_call one.call call && list_any (same_session one.showing.session) copy.sessions
 is_answered copy one (item.Outcome x result) = list_any (says_completed x) copy.outcomes
 is_answered copy one _ = false
 
 abbrev pub calls_answered : Part → Bool
-calls_answered part = list_all (λ one. is_answered part.submission.copy one one.showing.item) (shown_calls part)
+calls_answered part = list_all (λ one. is_answered part.submission.copy one one.showing.item)
+    (shown_calls part)
 
 abbrev pub CallsAreAnswered : Type 0
 CallsAreAnswered = HoldsOfParts calls_answered

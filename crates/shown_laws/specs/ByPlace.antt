@@ -18,7 +18,8 @@ doing_so doing = record { request = doing.request; steps = doing.steps }
 
 -- those of a client, in order, the one in course last
 abbrev pub requests_by_place : Client → List RequestSteps
-requests_by_place own = map over_so own.past ++ option_map_or (λ doing. doing_so doing ∷ []) own.now []
+requests_by_place own = map over_so own.past
+    ++ option_map_or (λ doing. doing_so doing ∷ []) own.now []
 
 -- the owner submitted this request, and these are its steps
 pub record IsRequestOf (clients : List Client) (owner : Owner) (one : RequestSteps) : Type 0 where

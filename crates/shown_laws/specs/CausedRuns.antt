@@ -13,4 +13,5 @@ use Rattle.world_model.specs.Traced.{Traced}
 abbrev pub RunsAreCaused : Type 0
 RunsAreCaused =
     (document : Document) (report : Report) (seen : Seen) (t : Traced) (server : Server)
-    → IsTrue (all_requests_right document) → 1 ≤ document.service.retries → IsReported document report seen t server → IsTrue (caused document report)
+    → IsTrue (all_requests_right document) → 1 ≤ document.service.retries
+    → IsReported document report seen t server → IsTrue (caused document report)

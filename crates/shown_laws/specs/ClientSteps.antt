@@ -33,7 +33,8 @@ use Rattle.shown_laws.specs.Connections.{TellsLink}
 -- A reply that is taken, as it is told: the item is that of a frame which this connection's session
 -- answered with this reply, and the frame is the one that the request sent last there and awaited
 -- the reply to.
-pub record TellsReply (owner : Owner) (phase : Phase) (link : Link) (frame : Down) (served : Served) : Type 0 where
+pub record TellsReply (owner : Owner) (phase : Phase) (link : Link) (frame : Down)
+    (served : Served) : Type 0 where
   pub one : Handled
   pub before : List Handled
   pub later : List Handled
@@ -93,10 +94,14 @@ ended_at link = unwrap_or link.ended 0
 
 -- Behind a reply the connection is gone in the same event, where it had ended and the request goes
 -- on.
-pub data GoneBehind (t : Traced) (doing : Doing) (link : Link) (frame : Down) : List Step → Type 0 where
+pub data GoneBehind (t : Traced) (doing : Doing) (link : Link) (frame : Down) : List Step
+    → Type 0 where
   GoesOn : link.is_open ≡ true → GoneBehind t doing link frame []
-  IsOver : link.is_open ≡ false → ((now_at t doing (Took frame link.is_open)).done.act.hold ≡ hold.Keep → ⊥) → GoneBehind t doing link frame []
-  IsGone : link.is_open ≡ false → (now_at t doing (Took frame link.is_open)).done.act.hold ≡ hold.Keep → GoneBehind t doing link frame (now_at t (after_now t doing (Took frame link.is_open)) (Gone (ended_at link)) ∷ [])
+  IsOver : link.is_open ≡ false → ((now_at t doing (Took frame link.is_open)).done.act.hold
+      ≡ hold.Keep → ⊥) → GoneBehind t doing link frame []
+  IsGone : link.is_open ≡ false → (now_at t doing (Took frame link.is_open)).done.act.hold
+      ≡ hold.Keep → GoneBehind t doing link frame
+      (now_at t (after_now t doing (Took frame link.is_open)) (Gone (ended_at link)) ∷ [])
 
 -- what the request wants then, and that it has begun
 abbrev pub wants_at : Traced → Doing → Wants
@@ -106,17 +111,37 @@ abbrev pub HasBegun : Traced → Doing → Type 0
 HasBegun t doing = wants_at t doing ≡ wants.Request → ⊥
 
 -- What a step of a client is told as, by its kind, and what the request did at it.
-pub data TellsKind (t : Traced) (client place : ℕ) (doing : Doing) (step : StepTold) : List Step → Type 0 where
-  Rested : step.did ≡ go.Early → wants_at t doing ≡ wants.Early → IsBare step → TellsKind t client place doing step []
-  FoundNone : step.did ≡ go.NoFrame → wants_at t doing ≡ wants.Frame → IsBare step → TellsKind t client place doing step []
-  Waited : step.did ≡ go.Wait → HasBegun t doing → IsBare step → TellsKind t client place doing step (now_at t doing Waiting ∷ [])
-  WasLent : (connection : ℕ) (link : Link) (ltxid : Ltxid) → step.did ≡ go.Lent connection → HasBegun t doing → link_at t.machine.links connection ≡ Some link → link.held ≡ Some ltxid
-      → step.taken ≡ None → step.session ≡ link.session → step.session ≡ Some (session_of ltxid) → step.lost ≡ None → TellsKind t client place doing step (now_at t doing (Lent connection ltxid) ∷ [])
-  HasOpened : (connection : ℕ) → step.did ≡ go.Open connection → connection ≡ length t.machine.links + 1 → HasBegun t doing → IsBare step → TellsKind t client place doing step (now_at t doing (Opened connection) ∷ [])
-  HasFailed : step.did ≡ go.Down → HasBegun t doing → IsBare step → TellsKind t client place doing step (now_at t doing TryFailed ∷ [])
-  HasTaken : (connection sent : ℕ) (link : Link) (frame : Down) (served : Served) (more : List Step) → step.did ≡ go.Took connection sent → SentBy (now_at t doing (Took frame link.is_open)).done.act sent → doing.connection ≡ Some connection → link_at t.machine.links connection ≡ Some link
-      → step.taken ≡ Some served → TellsReply (record { client = client; place = place }) doing.talk.phase link frame served → step.session ≡ (if is_connect served.item then Some served.session else None)
-      → LostTold t (course_now t.setting client place doing) step.lost (asked_of served.item) → GoneBehind t doing link frame more
+pub data TellsKind (t : Traced) (client place : ℕ) (doing : Doing) (step : StepTold) : List Step
+    → Type 0 where
+  Rested : step.did ≡ go.Early → wants_at t doing ≡ wants.Early → IsBare step
+      → TellsKind t client place doing step []
+  FoundNone : step.did ≡ go.NoFrame → wants_at t doing ≡ wants.Frame → IsBare step
+      → TellsKind t client place doing step []
+  Waited : step.did ≡ go.Wait → HasBegun t doing → IsBare step
+      → TellsKind t client place doing step (now_at t doing Waiting ∷ [])
+  WasLent : (connection : ℕ) (link : Link) (ltxid : Ltxid) → step.did ≡ go.Lent connection
+      → HasBegun t doing → link_at t.machine.links connection ≡ Some link → link.held ≡ Some ltxid
+      → step.taken ≡ None → step.session ≡ link.session → step.session ≡ Some (session_of ltxid)
+      → step.lost ≡ None → TellsKind t client place doing step
+      (now_at t doing (Lent connection ltxid) ∷ [])
+  HasOpened : (connection : ℕ) → step.did ≡ go.Open connection
+      → connection ≡ length t.machine.links + 1 → HasBegun t doing → IsBare step
+      → TellsKind t client place doing step (now_at t doing (Opened connection) ∷ [])
+  HasFailed : step.did ≡ go.Down → HasBegun t doing → IsBare step
+      → TellsKind t client place doing step (now_at t doing TryFailed ∷ [])
+  HasTaken : (connection sent : ℕ) (link : Link) (frame : Down) (served : Served) (more : List Step)
+      → step.did ≡ go.Took connection sent
+      → SentBy (now_at t doing (Took frame link.is_open)).done.act sent
+      → doing.connection ≡ Some connection → link_at t.machine.links connection ≡ Some link
+      → step.taken ≡ Some served → TellsReply (record {
+        client = client;
+        place = place;
+      }) doing.talk.phase link frame served
+      → step.session ≡ (if is_connect served.item then Some served.session else None)
+      → LostTold t (course_now t.setting client place doing) step.lost (asked_of served.item)
+      → GoneBehind t doing link frame more
       → TellsKind t client place doing step (now_at t doing (Took frame link.is_open) ∷ more)
-  HasLost : (connection : ℕ) (link : Link) → step.did ≡ go.Lost connection → doing.connection ≡ Some connection → link_at t.machine.links connection ≡ Some link → link.is_open ≡ false → IsBare step
+  HasLost : (connection : ℕ) (link : Link) → step.did ≡ go.Lost connection
+      → doing.connection ≡ Some connection → link_at t.machine.links connection ≡ Some link
+      → link.is_open ≡ false → IsBare step
       → TellsKind t client place doing step (now_at t doing (Gone (ended_at link)) ∷ [])

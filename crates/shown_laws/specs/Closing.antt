@@ -26,18 +26,24 @@ pub record IsUnclosed (links : List Link) (doing : Doing) (number : ℕ) : Type 
   pub had : (doing.connection ≡ Some number) ⊎ (link.is_open ≡ false)
 
 abbrev pub HeldUnclosed : List Link → Doing → Type 0
-HeldUnclosed links doing = (number : ℕ) → IsTrue (list_any (λ other. other == number) (held_in doing.steps)) → IsUnclosed links doing number
+HeldUnclosed links doing = (number : ℕ) → IsTrue (list_any (λ other. other == number)
+    (held_in doing.steps)) → IsUnclosed links doing number
 
 abbrev pub AllUnclosed : Machine → Type 0
-AllUnclosed m = (client : ℕ) (own : Client) (doing : Doing) → client_at m.clients client ≡ Some own → own.now ≡ Some doing → HeldUnclosed m.links doing
+AllUnclosed m = (client : ℕ) (own : Client) (doing : Doing) → client_at m.clients client ≡ Some own
+    → own.now ≡ Some doing → HeldUnclosed m.links doing
 
 -- wherever a run has come to
 abbrev pub RunsLeaveUnclosed : Type 0
 RunsLeaveUnclosed =
-    (document : Document) (events : List Event) (notes : List Note) (items : List Served) (seen : Seen) (t : Traced)
-    → IsTrue (all_requests_right document) → Reached document events notes items seen t → AllUnclosed t.machine
+    (document : Document) (events : List Event) (notes : List Note) (items : List Served)
+    (seen : Seen) (t : Traced)
+    → IsTrue (all_requests_right document) → Reached document events notes items seen t
+    → AllUnclosed t.machine
 
 abbrev pub FinishesLeaveUnclosed : Type 0
 FinishesLeaveUnclosed =
-    (document : Document) (place : Place) (notes : List Note) (items : List Served) (seen : Seen) (t : Traced)
-    → IsTrue (all_requests_right document) → IsFinishing document place notes items seen t → AllUnclosed t.machine
+    (document : Document) (place : Place) (notes : List Note) (items : List Served) (seen : Seen)
+    (t : Traced)
+    → IsTrue (all_requests_right document) → IsFinishing document place notes items seen t
+    → AllUnclosed t.machine

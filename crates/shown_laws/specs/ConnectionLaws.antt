@@ -19,10 +19,14 @@ pub record AreTold (notes : List Note) (items : List Served) (t : Traced) : Type
 
 abbrev pub RunsTellConnections : Type 0
 RunsTellConnections =
-    (document : Document) (events : List Event) (notes : List Note) (items : List Served) (seen : Seen) (t : Traced)
-    → IsTrue (all_requests_right document) → Reached document events notes items seen t → AreTold notes items t
+    (document : Document) (events : List Event) (notes : List Note) (items : List Served)
+    (seen : Seen) (t : Traced)
+    → IsTrue (all_requests_right document) → Reached document events notes items seen t
+    → AreTold notes items t
 
 abbrev pub FinishesTellConnections : Type 0
 FinishesTellConnections =
-    (document : Document) (place : Place) (notes : List Note) (items : List Served) (seen : Seen) (t : Traced)
-    → IsTrue (all_requests_right document) → IsFinishing document place notes items seen t → AreTold notes items t
+    (document : Document) (place : Place) (notes : List Note) (items : List Served) (seen : Seen)
+    (t : Traced)
+    → IsTrue (all_requests_right document) → IsFinishing document place notes items seen t
+    → AreTold notes items t

@@ -15,7 +15,10 @@ pub record Answer : Type 0 where
   pub served : Served
 
 abbrev pub answer_of : Handled → Option Answer
-answer_of one = option_map (λ frame. record { reply = record { to = one.sent; frame = frame }; served = one.served }) one.reply
+answer_of one = option_map (λ frame. record {
+  reply = record { to = one.sent; frame = frame };
+  served = one.served;
+}) one.reply
 
 -- all that a session gave, in order
 abbrev pub answers_of : List Handled → List Answer
@@ -50,9 +53,11 @@ pub record TellsReplies (link : Link) (told : List Served) : Type 0 where
 -- Connect was served, from which no reply comes.
 pub data TellsEnd (link : Link) : ℕ → Type 0 where
   IsOpen : link.is_open ≡ true → link.ended ≡ None → is_closed link ≡ false → TellsEnd link 0
-  HasEnded : (event : ℕ) → 0 < event → link.is_open ≡ false → link.ended ≡ Some event → is_closed link ≡ false → TellsEnd link event
+  HasEnded : (event : ℕ) → 0 < event → link.is_open ≡ false → link.ended ≡ Some event
+      → is_closed link ≡ false → TellsEnd link event
   WasClosed : (event : ℕ) → link.is_open ≡ false → is_closed link ≡ true → TellsEnd link event
-  NeverHeard : (event : ℕ) → link.is_open ≡ false → link.taken ≡ [] → link.down ≡ [] → TellsEnd link event
+  NeverHeard : (event : ℕ) → link.is_open ≡ false → link.taken ≡ [] → link.down ≡ []
+      → TellsEnd link event
 
 -- CONNECTIONS -------------------------------------------------------------------------------------
 
@@ -74,7 +79,8 @@ pub record IsUnnamed (link : Link) : Type 0 where
 pub data TellsAt (number : ℕ) : Option Link → Option Seen → Type 0 where
   NoLink : TellsAt number None None
   Unnamed : (link : Link) → IsUnnamed link → TellsAt number (Some link) None
-  Named : (link : Link) (one : Seen) → TellsLink number link one → TellsAt number (Some link) (Some one)
+  Named : (link : Link) (one : Seen) → TellsLink number link one
+      → TellsAt number (Some link) (Some one)
 
 -- each connection by its number, and none is told twice
 pub record TellsLinks (links : List Link) (told : List Seen) : Type 0 where
@@ -83,4 +89,5 @@ pub record TellsLinks (links : List Link) (told : List Seen) : Type 0 where
 
 -- A connection that is found by its number is found by its session.
 abbrev pub FoundBySession : List Seen → Type 0
-FoundBySession told = (number : ℕ) (one : Seen) → link_of number told ≡ Some one → link_of_session one.session told ≡ Some one
+FoundBySession told = (number : ℕ) (one : Seen) → link_of number told ≡ Some one
+    → link_of_session one.session told ≡ Some one

@@ -20,10 +20,14 @@ next_told m note items = event_told m.event m.tick note items
 
 -- One event more is told behind those before it, with the number and the tick that the machine
 -- gives it, and what they come to grows by it.
-pub record GrowsBy (notes : List Note) (items : List Served) (m : Machine) (note : Note) (more : List Served) : Type 0 where
-  pub events : events_told (notes ++ note ∷ []) (items ++ more) ≡ events_told notes items ++ next_told m note more ∷ []
-  pub seen : seen_told (notes ++ note ∷ []) (items ++ more) ≡ after_happening (seen_told notes items) (next_told m note more)
-  pub steps : steps_told (notes ++ note ∷ []) (items ++ more) ≡ steps_told notes items ++ steps_in (seen_told notes items) (next_told m note more)
+pub record GrowsBy (notes : List Note) (items : List Served) (m : Machine) (note : Note)
+    (more : List Served) : Type 0 where
+  pub events : events_told (notes ++ note ∷ []) (items ++ more) ≡ events_told notes items
+      ++ next_told m note more ∷ []
+  pub seen : seen_told (notes ++ note ∷ []) (items ++ more) ≡ after_happening
+      (seen_told notes items) (next_told m note more)
+  pub steps : steps_told (notes ++ note ∷ []) (items ++ more) ≡ steps_told notes items ++ steps_in
+      (seen_told notes items) (next_told m note more)
 
 -- as many events as notes, and as many ticks as are among them
 pub record IsCounted (notes : List Note) (m : Machine) : Type 0 where
@@ -32,18 +36,28 @@ pub record IsCounted (notes : List Note) (m : Machine) : Type 0 where
 
 -- wherever a run has come to
 abbrev pub RunsAreCounted : Type 0
-RunsAreCounted = (document : Document) (events : List Event) (notes : List Note) (items : List Served) (seen : Seen) (t : Traced) → Reached document events notes items seen t → IsCounted notes t.machine
+RunsAreCounted = (document : Document) (events : List Event) (notes : List Note)
+    (items : List Served) (seen : Seen) (t : Traced) → Reached document events notes items seen t
+    → IsCounted notes t.machine
 
 abbrev pub RunsGrow : Type 0
 RunsGrow =
-    (document : Document) (events : List Event) (notes : List Note) (items more : List Served) (before after : Seen) (old new : Traced) (event : Event) (note : Note)
-    → Reached document events notes items before old → OneEvent before old event note more [] after new → GrowsBy notes items old.machine note more
+    (document : Document) (events : List Event) (notes : List Note) (items more : List Served)
+    (before after : Seen) (old new : Traced) (event : Event) (note : Note)
+    → Reached document events notes items before old
+    → OneEvent before old event note more [] after new
+    → GrowsBy notes items old.machine note more
 
 -- and wherever its finish has
 abbrev pub FinishesAreCounted : Type 0
-FinishesAreCounted = (document : Document) (place : Place) (notes : List Note) (items : List Served) (seen : Seen) (t : Traced) → IsFinishing document place notes items seen t → IsCounted notes t.machine
+FinishesAreCounted = (document : Document) (place : Place) (notes : List Note) (items : List Served)
+    (seen : Seen) (t : Traced) → IsFinishing document place notes items seen t
+    → IsCounted notes t.machine
 
 abbrev pub FinishesGrow : Type 0
 FinishesGrow =
-    (document : Document) (place : Place) (notes : List Note) (items more : List Served) (before after : Seen) (old new : Traced) (event : Event) (note : Note)
-    → IsFinishing document place notes items before old → OneEvent before old event note more [] after new → GrowsBy notes items old.machine note more
+    (document : Document) (place : Place) (notes : List Note) (items more : List Served)
+    (before after : Seen) (old new : Traced) (event : Event) (note : Note)
+    → IsFinishing document place notes items before old
+    → OneEvent before old event note more [] after new
+    → GrowsBy notes items old.machine note more

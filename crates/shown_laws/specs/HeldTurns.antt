@@ -23,7 +23,8 @@ use Rattle.shown_laws.specs.TurnsServed.{calls_served}
 
 -- what its session had served at some time, on a connection that a request held, where the calls
 -- since the last Begin are this request's
-pub record IsHeldTurn (t : Traced) (number : ℕ) (course : Course) (served : List Handled) (turn : Turn) : Type 0 where
+pub record IsHeldTurn (t : Traced) (number : ℕ) (course : Course) (served : List Handled)
+    (turn : Turn) : Type 0 where
   pub link : Link
   pub there : link_at t.machine.links number ≡ Some link
   pub later : List Handled
@@ -35,13 +36,19 @@ pub record IsHeldTurn (t : Traced) (number : ℕ) (course : Course) (served : Li
   pub own : IsTrue (list_all (owned_by course.owner) (sent_since (map (λ one. one.sent) served)))
 
 abbrev pub HaveRightTurns : Traced → Type 0
-HaveRightTurns t = (number : ℕ) (course : Course) (served : List Handled) (turn : Turn) → IsHeldTurn t number course served turn → IsTrue (is_turn_right (submission_so_far course) turn)
+HaveRightTurns t = (number : ℕ) (course : Course) (served : List Handled) (turn : Turn)
+    → IsHeldTurn t number course served turn
+    → IsTrue (is_turn_right (submission_so_far course) turn)
 
 -- wherever a run has come to
 abbrev pub RunsHaveRightTurns : Type 0
 RunsHaveRightTurns =
-    (document : Document) (events : List Event) (notes : List Note) (items : List Served) (seen : Seen) (t : Traced) → IsTrue (all_requests_right document) → Reached document events notes items seen t → HaveRightTurns t
+    (document : Document) (events : List Event) (notes : List Note) (items : List Served)
+    (seen : Seen) (t : Traced) → IsTrue (all_requests_right document)
+    → Reached document events notes items seen t → HaveRightTurns t
 
 abbrev pub FinishesHaveRightTurns : Type 0
 FinishesHaveRightTurns =
-    (document : Document) (place : Place) (notes : List Note) (items : List Served) (seen : Seen) (t : Traced) → IsTrue (all_requests_right document) → IsFinishing document place notes items seen t → HaveRightTurns t
+    (document : Document) (place : Place) (notes : List Note) (items : List Served) (seen : Seen)
+    (t : Traced) → IsTrue (all_requests_right document)
+    → IsFinishing document place notes items seen t → HaveRightTurns t

@@ -26,7 +26,8 @@ use Rattle.shown_laws.specs.Tellings.{Telling, TellsClient}
 
 -- the session of an item, with the number of its entries that were stored up to the event of it
 abbrev pub identifier_by : Document → Report → Served → Ltxid
-identifier_by document report one = identifier_at (journal_before document).entries (stored_entries report) one
+identifier_by document report one = identifier_at (journal_before document).entries
+    (stored_entries report) one
 
 -- the call that a step showed, if it showed one, was shown under this identifier
 abbrev pub shows_under : Ltxid → Step → Bool
@@ -34,28 +35,40 @@ shows_under x step = option_map_or (λ shown. same_ltxid shown.ltxid x) step.don
 
 -- what was shown at a step that is told was shown under that of the item which it took
 abbrev pub is_identified : Document → Report → Telling → Bool
-is_identified document report one = option_map_or (λ served. list_all (shows_under (identifier_by document report served)) one.acts) one.step.taken true
+is_identified document report one = option_map_or
+    (λ served. list_all (shows_under (identifier_by document report served)) one.acts)
+    one.step.taken true
 
 -- The steps that are told of a client are those of its requests, and at each of them that is so.
-pub record TellsIdentified (setting : Setting) (test : Telling → Bool) (client : ℕ) (own : Client) (told : List StepTold) : Type 0 where
+pub record TellsIdentified (setting : Setting) (test : Telling → Bool) (client : ℕ) (own : Client)
+    (told : List StepTold) : Type 0 where
   pub tells : TellsClient setting client own told
   pub past : IsTrue (list_all (list_all test) tells.past)
   pub now : IsTrue (list_all test tells.now)
 
 abbrev pub CallsAreIdentified : Type 0
 CallsAreIdentified =
-    (document : Document) (report : Report) (seen : Seen) (t : Traced) (server : Server) (client : ℕ) (own : Client)
-    → IsTrue (all_requests_right document) → IsReported document report seen t server → client_at t.machine.clients client ≡ Some own
-    → TellsIdentified t.setting (is_identified document report) client own (steps_of client (steps_told report.notes report.served))
+    (document : Document) (report : Report) (seen : Seen) (t : Traced) (server : Server)
+    (client : ℕ) (own : Client)
+    → IsTrue (all_requests_right document) → IsReported document report seen t server
+    → client_at t.machine.clients client ≡ Some own
+    → TellsIdentified t.setting (is_identified document report) client own
+    (steps_of client (steps_told report.notes report.served))
 
 -- Each call of a report has the identifier of the item that showed it: this line of `Whole` holds
 -- of each part of a client that is at no request, at the end of a whole run.
 abbrev pub IdentifiersAreStored : Type 0
 IdentifiersAreStored =
-    (document : Document) (report : Report) (seen : Seen) (t : Traced) (server : Server) (client : ℕ) (own : Client)
-    → IsTrue (all_requests_right document) → IsReported document report seen t server → client_at t.machine.clients client ≡ Some own → own.now ≡ None
-    → IsTrue (list_all (have_identifiers (journal_before document).entries (stored_entries report)) (parts_of (map submission_of own.past) (steps_of client (steps_told report.notes report.served))))
+    (document : Document) (report : Report) (seen : Seen) (t : Traced) (server : Server)
+    (client : ℕ) (own : Client)
+    → IsTrue (all_requests_right document) → IsReported document report seen t server
+    → client_at t.machine.clients client ≡ Some own → own.now ≡ None
+    → IsTrue (list_all (have_identifiers (journal_before document).entries (stored_entries report))
+    (parts_of (map submission_of own.past)
+    (steps_of client (steps_told report.notes report.served))))
 
 -- so of each part of its report
 abbrev pub ReportsIdentifyCalls : Type 0
-ReportsIdentifyCalls = HoldsOfReports (λ document report. of_parts (have_identifiers (journal_before document).entries (stored_entries report)) document report)
+ReportsIdentifyCalls = HoldsOfReports (λ document report.
+    of_parts (have_identifiers (journal_before document).entries (stored_entries report)) document
+    report)

@@ -17,7 +17,8 @@ use Rattle.shown_laws.specs.TurnSent.{sent_since}
 use Rattle.shown_laws.specs.TurnsServed.{calls_served}
 
 -- what is asked of a connection and of what its session had served in the turn
-pub record IsOwnTurn (course : Course) (link : Link) (served : List Handled) (turn : Turn) : Type 0 where
+pub record IsOwnTurn (course : Course) (link : Link) (served : List Handled)
+    (turn : Turn) : Type 0 where
   pub calls : calls_served served ≡ Some turn.calls
   pub handled : IsTrue (handled_from 0 served)
   pub unblocked : IsTrue (none_blocked served)
@@ -29,7 +30,9 @@ pub record IsOwnTurn (course : Course) (link : Link) (served : List Handled) (tu
 abbrev pub OwnTurnsAreRight : Type 0
 OwnTurnsAreRight =
     (course : Course) (current : Bool) (link : Link) (served : List Handled) (turn : Turn)
-    → IsOwnTurn course link served turn → IsTrue (is_row course current (calls_on course link)) → IsTrue (list_all (is_shown_or_next course.report.calls) (calls_on course link)) → IsTrue (is_turn_right (submission_so_far course) turn)
+    → IsOwnTurn course link served turn → IsTrue (is_row course current (calls_on course link))
+    → IsTrue (list_all (is_shown_or_next course.report.calls) (calls_on course link))
+    → IsTrue (is_turn_right (submission_so_far course) turn)
 
 -- What the wire gives of it, wherever the turn ended.
 pub record OnWire (link : Link) (served : List Handled) : Type 0 where
@@ -38,4 +41,6 @@ pub record OnWire (link : Link) (served : List Handled) : Type 0 where
   pub grammar : IsTrue (is_right (stage_of link))
 
 abbrev pub TurnsAreOnWire : Type 0
-TurnsAreOnWire = (t : Traced) (number : ℕ) (link : Link) (before later : List Handled) → Wire t → link_at t.machine.links number ≡ Some link → link.served ≡ before ++ later → OnWire link before
+TurnsAreOnWire = (t : Traced) (number : ℕ) (link : Link) (before later : List Handled) → Wire t
+    → link_at t.machine.links number ≡ Some link → link.served ≡ before ++ later
+    → OnWire link before

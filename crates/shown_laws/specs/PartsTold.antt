@@ -62,7 +62,9 @@ pub record IsPartOf (steps : List Step) (part : Part) : Type 0 where
 -- request by request
 pub data ArePartsOf : List Past → List (List Telling) → List Part → Type 0 where
   NoParts : ArePartsOf [] [] []
-  OnePart : (one : Past) (past : List Past) (tellings : List Telling) (more : List (List Telling)) (part : Part) (parts : List Part) → part.submission ≡ submission_of one → IsPartOf (steps_in_tellings tellings) part
+  OnePart : (one : Past) (past : List Past) (tellings : List Telling) (more : List (List Telling))
+      (part : Part) (parts : List Part) → part.submission ≡ submission_of one
+      → IsPartOf (steps_in_tellings tellings) part
       → ArePartsOf past more parts → ArePartsOf (one ∷ past) (tellings ∷ more) (part ∷ parts)
 
 -- WHOLE RUNS --------------------------------------------------------------------------------------
@@ -70,9 +72,12 @@ pub data ArePartsOf : List Past → List (List Telling) → List Part → Type 0
 -- It holds of each part of a client that is at no request, in the finish of a run.
 abbrev pub HoldsOfParts : (Part → Bool) → Type 0
 HoldsOfParts test =
-    (document : Document) (place : Place) (notes : List Note) (items : List Served) (seen : Seen) (t : Traced) (client : ℕ) (own : Client)
-    → IsTrue (all_requests_right document) → IsFinishing document place notes items seen t → client_at t.machine.clients client ≡ Some own → own.now ≡ None
-    → IsTrue (list_all test (parts_of (map submission_of own.past) (steps_of client (steps_told notes items))))
+    (document : Document) (place : Place) (notes : List Note) (items : List Served) (seen : Seen)
+    (t : Traced) (client : ℕ) (own : Client)
+    → IsTrue (all_requests_right document) → IsFinishing document place notes items seen t
+    → client_at t.machine.clients client ≡ Some own → own.now ≡ None
+    → IsTrue (list_all test (parts_of (map submission_of own.past)
+    (steps_of client (steps_told notes items))))
 
 -- The sessions of its report are those that the steps of a request acquired, in order.
 abbrev pub SessionsAreAcquired : Type 0
@@ -89,7 +94,8 @@ CallsAreShown = HoldsOfParts has_its_showings
 
 -- each reply that showed a call is of a session of the report
 abbrev pub shown_by_own : Part → Bool
-shown_by_own part = list_all (λ one. list_any (same_session one.session) part.submission.copy.sessions) (showings part.steps)
+shown_by_own part = list_all (λ one. list_any (same_session one.session)
+    part.submission.copy.sessions) (showings part.steps)
 
 abbrev pub ShownByOwnSessions : Type 0
 ShownByOwnSessions = HoldsOfParts shown_by_own
@@ -97,5 +103,7 @@ ShownByOwnSessions = HoldsOfParts shown_by_own
 -- Each step that is noted to take a reply has one, in the finish of a run.
 abbrev pub RepliesAreTaken : Type 0
 RepliesAreTaken =
-    (document : Document) (place : Place) (notes : List Note) (items : List Served) (seen : Seen) (t : Traced)
-    → IsTrue (all_requests_right document) → IsFinishing document place notes items seen t → IsTrue (are_taken (steps_told notes items))
+    (document : Document) (place : Place) (notes : List Note) (items : List Served) (seen : Seen)
+    (t : Traced)
+    → IsTrue (all_requests_right document) → IsFinishing document place notes items seen t
+    → IsTrue (are_taken (steps_told notes items))

@@ -20,15 +20,20 @@ use Rattle.world_model.specs.Traced.{Traced}
 -- It holds of the report of every whole run.
 abbrev pub HoldsOfReports : (Document → Report → Bool) → Type 0
 HoldsOfReports test =
-    (document : Document) (report : Report) (seen : Seen) (t : Traced) (server : Server) → IsTrue (all_requests_right document) → IsReported document report seen t server → IsTrue (test document report)
+    (document : Document) (report : Report) (seen : Seen) (t : Traced) (server : Server)
+    → IsTrue (all_requests_right document) → IsReported document report seen t server
+    → IsTrue (test document report)
 
 -- of each part of each client, from this one on
 abbrev pub are_parts : (Part → Bool) → ℕ → List Step → List (List Submission) → Bool
 are_parts test client all [] = true
-are_parts test client all (submissions ∷ more) = list_all test (parts_of submissions (steps_of client all)) && are_parts test (client + 1) all more
+are_parts test client all (submissions ∷ more) =
+    list_all test (parts_of submissions (steps_of client all))
+    && are_parts test (client + 1) all more
 
 abbrev pub of_parts : (Part → Bool) → Document → Report → Bool
-of_parts test document report = are_parts test 1 (steps report) (submissions_by_client document report)
+of_parts test document report = are_parts test 1 (steps report)
+    (submissions_by_client document report)
 
 -- The sessions of each report are those that its steps acquired, in order.
 abbrev pub ReportsListSessions : Type 0

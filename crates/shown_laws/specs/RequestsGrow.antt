@@ -21,6 +21,9 @@ pub record GoesOnAs (clients : List Client) (owner : Owner) (one : RequestSteps)
 -- so it is behind each event
 abbrev pub RequestsGrow : Type 0
 RequestsGrow =
-    (document : Document) (events : List Event) (notes : List Note) (items more : List Served) (before after : Seen) (old new : Traced) (event : Event) (note : Note)
-    → IsTrue (all_requests_right document) → Reached document events notes items before old → OneEvent before old event note more [] after new
-    → (owner : Owner) (one : RequestSteps) → IsRequestOf old.machine.clients owner one → GoesOnAs new.machine.clients owner one
+    (document : Document) (events : List Event) (notes : List Note) (items more : List Served)
+    (before after : Seen) (old new : Traced) (event : Event) (note : Note)
+    → IsTrue (all_requests_right document) → Reached document events notes items before old
+    → OneEvent before old event note more [] after new
+    → (owner : Owner) (one : RequestSteps) → IsRequestOf old.machine.clients owner one
+    → GoesOnAs new.machine.clients owner one

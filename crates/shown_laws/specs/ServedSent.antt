@@ -13,18 +13,22 @@ use Rattle.shown_laws.specs.TurnsServed.{calls_served}
 
 -- no call with the mark met a block
 abbrev pub none_blocked : List Handled → Bool
-none_blocked served = list_all (λ one. not (is_blocked one.served.item && is_marked one.sent.frame)) served
+none_blocked served = list_all (λ one. not (is_blocked one.served.item && is_marked one.sent.frame))
+    served
 
 -- The calls since the last Begin that was served are those of the frames that were served since it,
 -- in order, and whatever was sent behind.
 abbrev pub ServesItsFrames : Type 0
 ServesItsFrames =
-    (served : List Handled) (calls : List Marked) (behind : List Sent) → IsTrue (handled_from 0 served) → IsTrue (none_blocked served) → calls_served served ≡ Some calls
+    (served : List Handled) (calls : List Marked) (behind : List Sent)
+    → IsTrue (handled_from 0 served) → IsTrue (none_blocked served)
+    → calls_served served ≡ Some calls
     → ServedOf (reverse calls) (sent_since (map (λ one. one.sent) served) ++ behind)
 
 -- so many frames that were sent first, which are those that were served: by them the calls since
 -- the last Begin are told
-pub record ServesFront (served : List Handled) (calls : List Marked) (sents : List Sent) : Type 0 where
+pub record ServesFront (served : List Handled) (calls : List Marked)
+    (sents : List Sent) : Type 0 where
   pub taken : List Sent
   pub rest : List Sent
   pub sent : sents ≡ taken ++ rest
@@ -33,5 +37,8 @@ pub record ServesFront (served : List Handled) (calls : List Marked) (sents : Li
 
 abbrev pub ServesAFront : Type 0
 ServesAFront =
-    (served : List Handled) (calls : List Marked) (sents : List Sent) → IsTrue (handled_from 0 served) → IsTrue (none_blocked served) → calls_served served ≡ Some calls
-    → IsTrue (is_front same_sent (map (λ one. one.sent) served) sents) → ServesFront served calls sents
+    (served : List Handled) (calls : List Marked) (sents : List Sent)
+    → IsTrue (handled_from 0 served) → IsTrue (none_blocked served)
+    → calls_served served ≡ Some calls
+    → IsTrue (is_front same_sent (map (λ one. one.sent) served) sents)
+    → ServesFront served calls sents

@@ -13,10 +13,14 @@ use Rattle.world_model.specs.meaning.Serving.{identifier}
 -- that session with its commits; or it is shown with Committed and no draws, by an outcome that
 -- says committed and completed.
 pub data ShownBy (shown : Shown) (served : Served) : Type 0 where
-  ByReply : (call : Call) (commits : ℕ) → served.item ≡ item.Call false call shown.answers shown.draws → shown.ltxid ≡ identifier served.session commits → ShownBy shown served
-  ByOutcome : (x : Ltxid) → served.item ≡ item.Outcome x (told.Committed true) → shown.answers ≡ answer.Committed ∷ [] → shown.draws ≡ [] → ShownBy shown served
+  ByReply : (call : Call) (commits : ℕ) → served.item
+      ≡ item.Call false call shown.answers shown.draws
+      → shown.ltxid ≡ identifier served.session commits → ShownBy shown served
+  ByOutcome : (x : Ltxid) → served.item ≡ item.Outcome x (told.Committed true)
+      → shown.answers ≡ answer.Committed ∷ [] → shown.draws ≡ [] → ShownBy shown served
 
 -- each of these by the one beside it
 pub data AreShownBy : List Shown → List Served → Type 0 where
   NoneShown : AreShownBy [] []
-  OneShown : (shown : Shown) (served : Served) (more : List Shown) (items : List Served) → ShownBy shown served → AreShownBy more items → AreShownBy (shown ∷ more) (served ∷ items)
+  OneShown : (shown : Shown) (served : Served) (more : List Shown) (items : List Served)
+      → ShownBy shown served → AreShownBy more items → AreShownBy (shown ∷ more) (served ∷ items)

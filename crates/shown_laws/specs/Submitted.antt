@@ -9,4 +9,8 @@ submission_of one = record { request = one.request; copy = one.report }
 
 -- the request of a course, with its report as far as it has come
 abbrev pub submission_so_far : Course → Submission
-submission_so_far course = submission_of (record { request = course.request; steps = course.steps; report = course.report })
+submission_so_far course = submission_of (record {
+  request = course.request;
+  steps = course.steps;
+  report = course.report;
+})

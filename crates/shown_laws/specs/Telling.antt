@@ -27,7 +27,12 @@ ticks_told notes = fold tick_after 0 notes
 
 -- an event behind so many events and ticks
 abbrev pub event_told : ℕ → ℕ → Note → List Served → Happening
-event_told before ticks note items = record { event = before + 1; tick = ticks; noted = note; items = items }
+event_told before ticks note items = record {
+  event = before + 1;
+  tick = ticks;
+  noted = note;
+  items = items;
+}
 
 -- the steps of an event
 abbrev pub steps_in : Seen → Happening → List Step

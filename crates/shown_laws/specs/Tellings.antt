@@ -31,16 +31,24 @@ steps_in_tellings tellings = map (λ one. one.step) tellings
 
 -- a request before its Start
 abbrev pub unbegun : Request → Doing
-unbegun request = record { request = request; talk = requested request.settings request.calls; connection = None; steps = [] }
+unbegun request = record {
+  request = request;
+  talk = requested request.settings request.calls;
+  connection = None;
+  steps = [];
+}
 
 -- The request was there before the event, with these steps, or it begins in it.
 pub data Begins (t : Traced) (own : Client) (doing : Doing) : List Step → List Step → Type 0 where
   WasThere : own.now ≡ Some doing → Begins t own doing doing.steps []
-  BeginsNow : (request : Request) → own.now ≡ None → own.next ≡ Some request → doing ≡ begun t.setting.terms (t.machine.event + 1) t.machine.tick request → Begins t own doing [] (now_at t (unbegun request) Start ∷ [])
+  BeginsNow : (request : Request) → own.now ≡ None → own.next ≡ Some request
+      → doing ≡ begun t.setting.terms (t.machine.event + 1) t.machine.tick request
+      → Begins t own doing [] (now_at t (unbegun request) Start ∷ [])
 
 -- One step of a request of this client, as it is told: in the state of the machine before its event
 -- the client is at this request, and what is told is of this kind.
-pub record TellsStep (setting : Setting) (client place : ℕ) (request : Request) (steps : List Step) (one : Telling) : Type 0 where
+pub record TellsStep (setting : Setting) (client place : ℕ) (request : Request) (steps : List Step)
+    (one : Telling) : Type 0 where
   pub t : Traced
   pub inv : Invariant t
   pub of_run : t.setting ≡ setting
@@ -60,21 +68,30 @@ pub record TellsStep (setting : Setting) (client place : ℕ) (request : Request
   pub kind : TellsKind t client place doing one.step acts
 
 -- All steps of a request so far, in order, are told.
-pub data TellsRequest (setting : Setting) (client place : ℕ) (request : Request) : List Telling → List Step → Type 0 where
+pub data TellsRequest (setting : Setting) (client place : ℕ) (request : Request) : List Telling
+    → List Step → Type 0 where
   NoneYet : TellsRequest setting client place request [] []
-  OneMore : (tellings : List Telling) (steps : List Step) (one : Telling) → TellsRequest setting client place request tellings steps → TellsStep setting client place request steps one
+  OneMore : (tellings : List Telling) (steps : List Step) (one : Telling)
+      → TellsRequest setting client place request tellings steps
+      → TellsStep setting client place request steps one
       → TellsRequest setting client place request (tellings ++ one ∷ []) (steps ++ one.acts)
 
 -- the requests that are over, the first at this place
-pub data TellsPast (setting : Setting) (client : ℕ) : ℕ → List Past → List (List Telling) → Type 0 where
+pub data TellsPast (setting : Setting) (client : ℕ) : ℕ → List Past → List (List Telling)
+    → Type 0 where
   NonePast : (place : ℕ) → TellsPast setting client place [] []
-  OnePast : (place : ℕ) (one : Past) (others : List Past) (tellings : List Telling) (more : List (List Telling)) → TellsRequest setting client place one.request tellings one.steps → TellsPast setting client (place + 1) others more
+  OnePast : (place : ℕ) (one : Past) (others : List Past) (tellings : List Telling)
+      (more : List (List Telling)) → TellsRequest setting client place one.request tellings
+      one.steps → TellsPast setting client (place + 1) others more
       → TellsPast setting client place (one ∷ others) (tellings ∷ more)
 
 -- and the one in course
-pub data TellsNow (setting : Setting) (client place : ℕ) : Option Doing → List Telling → Type 0 where
+pub data TellsNow (setting : Setting) (client place : ℕ) : Option Doing → List Telling
+    → Type 0 where
   NoneNow : TellsNow setting client place None []
-  OneNow : (doing : Doing) (tellings : List Telling) → TellsRequest setting client place doing.request tellings doing.steps → TellsNow setting client place (Some doing) tellings
+  OneNow : (doing : Doing) (tellings : List Telling)
+      → TellsRequest setting client place doing.request tellings doing.steps
+      → TellsNow setting client place (Some doing) tellings
 
 abbrev pub joined : List (List Telling) → List Telling
 joined [] = []
@@ -83,7 +100,8 @@ joined (tellings ∷ more) = tellings ++ joined more
 -- each request that is over was the one that the script lets follow the reports before it
 abbrev pub FollowsFrom : List Request → List RequestReport → List Past → Type 0
 FollowsFrom script before [] = Unit {0}
-FollowsFrom script before (past ∷ others) = (next_of script before ≡ Some past.request) × FollowsFrom script (before ++ past.report ∷ []) others
+FollowsFrom script before (past ∷ others) = (next_of script before ≡ Some past.request)
+    × FollowsFrom script (before ++ past.report ∷ []) others
 
 -- A client follows its script: with each request, and with the next one, which is the one in course
 -- if one is.
@@ -93,7 +111,8 @@ pub record IsScripted (script : List Request) (own : Client) : Type 0 where
   pub now : (doing : Doing) → own.now ≡ Some doing → own.next ≡ Some doing.request
 
 -- The steps that are told of a client are those of its requests, one request after the other.
-pub record TellsClient (setting : Setting) (client : ℕ) (own : Client) (told : List StepTold) : Type 0 where
+pub record TellsClient (setting : Setting) (client : ℕ) (own : Client)
+    (told : List StepTold) : Type 0 where
   pub past : List (List Telling)
   pub now : List Telling
   pub tells_past : TellsPast setting client 0 own.past past
@@ -102,17 +121,23 @@ pub record TellsClient (setting : Setting) (client : ℕ) (own : Client) (told :
   pub scripted : IsScripted (script_at setting client) own
 
 -- of each client, of which there are as many as scripts
-pub record TellsClients (setting : Setting) (clients : List Client) (told : List StepTold) : Type 0 where
+pub record TellsClients (setting : Setting) (clients : List Client)
+    (told : List StepTold) : Type 0 where
   pub many : length clients ≡ length setting.scripts
-  pub each : (client : ℕ) (own : Client) → client_at clients client ≡ Some own → TellsClient setting client own (steps_of client told)
+  pub each : (client : ℕ) (own : Client) → client_at clients client ≡ Some own
+      → TellsClient setting client own (steps_of client told)
 
 -- wherever a run has come to
 abbrev pub RunsTellSteps : Type 0
 RunsTellSteps =
-    (document : Document) (events : List Event) (notes : List Note) (items : List Served) (seen : Seen) (t : Traced)
-    → IsTrue (all_requests_right document) → Reached document events notes items seen t → TellsClients t.setting t.machine.clients (steps_told notes items)
+    (document : Document) (events : List Event) (notes : List Note) (items : List Served)
+    (seen : Seen) (t : Traced)
+    → IsTrue (all_requests_right document) → Reached document events notes items seen t
+    → TellsClients t.setting t.machine.clients (steps_told notes items)
 
 abbrev pub FinishesTellSteps : Type 0
 FinishesTellSteps =
-    (document : Document) (place : Place) (notes : List Note) (items : List Served) (seen : Seen) (t : Traced)
-    → IsTrue (all_requests_right document) → IsFinishing document place notes items seen t → TellsClients t.setting t.machine.clients (steps_told notes items)
+    (document : Document) (place : Place) (notes : List Note) (items : List Served) (seen : Seen)
+    (t : Traced)
+    → IsTrue (all_requests_right document) → IsFinishing document place notes items seen t
+    → TellsClients t.setting t.machine.clients (steps_told notes items)

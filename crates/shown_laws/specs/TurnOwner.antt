@@ -15,4 +15,6 @@ pub record AreAll (sents calls : List Sent) : Type 0 where
 
 abbrev pub TurnsHaveAllCalls : Type 0
 TurnsHaveAllCalls =
-    (sents : List Sent) → IsTrue (is_right (fold (λ stage sent. next_stage stage sent.owner sent.frame) New sents)) → IsTrue (begin_new [] sents) → AreAll sents (sent_since sents)
+    (sents : List Sent) → IsTrue (is_right
+    (fold (λ stage sent. next_stage stage sent.owner sent.frame) New sents))
+    → IsTrue (begin_new [] sents) → AreAll sents (sent_since sents)

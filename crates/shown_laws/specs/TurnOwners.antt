@@ -69,7 +69,8 @@ said_at number links = option_map said_of (link_at links number)
 pub data Tied (clients : List Client) : Option Said → Option Acquired → Type 0 where
   Unopened : Tied clients None None
   Unheard : (said : Said) → said.held ≡ None → Tied clients (Some said) None
-  Heard : (said : Said) (owner : Owner) (acquired : Acquired) → said.last ≡ Some owner → IsStepOf clients owner acquired → Tied clients (Some said) (Some acquired)
+  Heard : (said : Said) (owner : Owner) (acquired : Acquired) → said.last ≡ Some owner
+      → IsStepOf clients owner acquired → Tied clients (Some said) (Some acquired)
 
 -- TURNS -------------------------------------------------------------------------------------------
 
@@ -87,27 +88,35 @@ served_begin served = sent_begin (map (λ one. one.sent) served)
 
 -- the acquisition before the last Begin, as it is told
 abbrev pub told_begin : ℕ → List SeenLink → Option (Option Acquired)
-told_begin number told = option_map_or (λ one. option_map (λ turn. turn.acquired) one.turn) (link_of number told) None
+told_begin number told = option_map_or (λ one. option_map (λ turn. turn.acquired) one.turn)
+    (link_of number told) None
 
 -- It is a step of the request that sent the Begin.
-pub data Begun (clients : List Client) : Option (Option Acquired) → Option (Option Owner) → Type 0 where
+pub data Begun (clients : List Client) : Option (Option Acquired) → Option (Option Owner)
+    → Type 0 where
   NotBegun : Begun clients None None
-  HasBegun : (owner : Owner) (acquired : Acquired) → IsStepOf clients owner acquired → Begun clients (Some (Some acquired)) (Some (Some owner))
+  HasBegun : (owner : Owner) (acquired : Acquired) → IsStepOf clients owner acquired
+      → Begun clients (Some (Some acquired)) (Some (Some owner))
 
 -- so it is of a turn, beside what its session had served
 abbrev pub TurnBegun : List Client → Turn → List Handled → Type 0
 TurnBegun clients turn served = Begun clients (Some turn.acquired) (served_begin served)
 
 pub record TellsOwners (t : Traced) (notes : List Note) (items : List Served) : Type 0 where
-  pub sessions : (number : ℕ) → Tied t.machine.clients (said_at number t.machine.links) (last_acquired number (steps_told notes items))
-  pub current : (number : ℕ) → Begun t.machine.clients (told_begin number (seen_told notes items).links) (served_begin (served_in (link_at t.machine.links number)))
+  pub sessions : (number : ℕ) → Tied t.machine.clients (said_at number t.machine.links)
+      (last_acquired number (steps_told notes items))
+  pub current : (number : ℕ) → Begun t.machine.clients
+      (told_begin number (seen_told notes items).links)
+      (served_begin (served_in (link_at t.machine.links number)))
   pub over : WereTurns (TurnBegun t.machine.clients) t.machine.links (seen_told notes items).over
 
 -- wherever a run has come to
 abbrev pub RunsTellOwners : Type 0
 RunsTellOwners =
-    (document : Document) (events : List Event) (notes : List Note) (items : List Served) (seen : ServerSeen) (t : Traced)
-    → IsTrue (all_requests_right document) → Reached document events notes items seen t → TellsOwners t notes items
+    (document : Document) (events : List Event) (notes : List Note) (items : List Served)
+    (seen : ServerSeen) (t : Traced)
+    → IsTrue (all_requests_right document) → Reached document events notes items seen t
+    → TellsOwners t notes items
 
 -- WHOLE RUNS --------------------------------------------------------------------------------------
 
@@ -118,13 +127,17 @@ pub record IsOwned (clients : List Client) (turn : Turn) : Type 0 where
   pub has : turn.acquired ≡ Some acquired
   pub owner : Owner
   pub did : IsStepOf clients owner acquired
-  pub right : (own : Client) (one : Past) → client_at clients owner.client ≡ Some own → slice_get own.past owner.place ≡ Some one → IsTrue (is_turn_right (submission_of one) turn)
+  pub right : (own : Client) (one : Past) → client_at clients owner.client ≡ Some own
+      → slice_get own.past owner.place ≡ Some one → IsTrue (is_turn_right (submission_of one) turn)
 
 pub data AreOwned (clients : List Client) : List Turn → Type 0 where
   NoneOwned : AreOwned clients []
-  OneOwned : (turn : Turn) (more : List Turn) → IsOwned clients turn → AreOwned clients more → AreOwned clients (turn ∷ more)
+  OneOwned : (turn : Turn) (more : List Turn) → IsOwned clients turn → AreOwned clients more
+      → AreOwned clients (turn ∷ more)
 
 -- all that the report of a whole run tells
 abbrev pub WholeRunsOwnTurns : Type 0
 WholeRunsOwnTurns =
-    (document : Document) (notes : List Note) (items : List Served) (seen : ServerSeen) (t : Traced) → IsTrue (all_requests_right document) → IsRun document notes items seen t → AreOwned t.machine.clients (turns_seen (seen_told notes items))
+    (document : Document) (notes : List Note) (items : List Served) (seen : ServerSeen) (t : Traced)
+    → IsTrue (all_requests_right document) → IsRun document notes items seen t
+    → AreOwned t.machine.clients (turns_seen (seen_told notes items))

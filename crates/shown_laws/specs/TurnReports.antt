@@ -13,18 +13,23 @@ use Rattle.shown_laws.specs.ReportsTold.{HoldsOfReports}
 
 -- Each session in which a request began was acquired by one of the clients.
 abbrev pub turns_have_clients : Document → Report → Bool
-turns_have_clients document report = list_all (has_client (length (submissions_by_client document report))) (turns report)
+turns_have_clients document report = list_all (has_client
+    (length (submissions_by_client document report))) (turns report)
 
 abbrev pub ReportsTurnsHaveClients : Type 0
 ReportsTurnsHaveClients = HoldsOfReports turns_have_clients
 
 -- of the turns, the submissions and the steps of each client, from this one on
-abbrev pub are_turns : (List Owned → List Submission → List Step → Bool) → ℕ → List Turn → List Step → List (List Submission) → Bool
+abbrev pub are_turns : (List Owned → List Submission → List Step → Bool) → ℕ → List Turn → List Step
+    → List (List Submission) → Bool
 are_turns test client turns all [] = true
-are_turns test client turns all (submissions ∷ more) = test (turns_of client turns) submissions (steps_of client all) && are_turns test (client + 1) turns all more
+are_turns test client turns all (submissions ∷ more) =
+    test (turns_of client turns) submissions (steps_of client all)
+    && are_turns test (client + 1) turns all more
 
 abbrev pub of_turns : (List Owned → List Submission → List Step → Bool) → Document → Report → Bool
-of_turns test document report = are_turns test 1 (turns report) (steps report) (submissions_by_client document report)
+of_turns test document report = are_turns test 1 (turns report) (steps report)
+    (submissions_by_client document report)
 
 -- The turns of each part are right for its submission.
 abbrev pub parts_turn_right : List Owned → List Submission → List Step → Bool

@@ -25,4 +25,5 @@ pub record IsTurn (calls : List Sent) : Type 0 where
 
 -- so it is on each connection in the grammar
 abbrev pub TurnsHaveOneOwner : Type 0
-TurnsHaveOneOwner = (link : Link) → IsTrue (is_right (stage_of link)) → IsTurn (sent_since link.sent)
+TurnsHaveOneOwner = (link : Link) → IsTrue (is_right (stage_of link))
+    → IsTurn (sent_since link.sent)

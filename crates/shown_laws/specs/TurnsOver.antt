@@ -25,9 +25,11 @@ pub record WasTurn (links : List Link) (turn : Turn) : Type 0 where
   pub calls : calls_served before ≡ Some turn.calls
 
 -- Each was one, and of each this holds beside what its session had served.
-pub data WereTurns (Beside : Turn → List Handled → Type 0) (links : List Link) : List Turn → Type 0 where
+pub data WereTurns (Beside : Turn → List Handled → Type 0) (links : List Link) : List Turn
+    → Type 0 where
   NoneOver : WereTurns Beside links []
-  OneOver : (turn : Turn) (more : List Turn) (was : WasTurn links turn) → Beside turn was.before → WereTurns Beside links more → WereTurns Beside links (turn ∷ more)
+  OneOver : (turn : Turn) (more : List Turn) (was : WasTurn links turn) → Beside turn was.before
+      → WereTurns Beside links more → WereTurns Beside links (turn ∷ more)
 
 abbrev pub NothingBeside : Turn → List Handled → Type 0
 NothingBeside turn before = Unit {0}
@@ -35,10 +37,14 @@ NothingBeside turn before = Unit {0}
 -- each that is told as over was one
 abbrev pub RunsTellOver : Type 0
 RunsTellOver =
-    (document : Document) (events : List Event) (notes : List Note) (items : List Served) (seen : ServerSeen) (t : Traced)
-    → IsTrue (all_requests_right document) → Reached document events notes items seen t → WereTurns NothingBeside t.machine.links (seen_told notes items).over
+    (document : Document) (events : List Event) (notes : List Note) (items : List Served)
+    (seen : ServerSeen) (t : Traced)
+    → IsTrue (all_requests_right document) → Reached document events notes items seen t
+    → WereTurns NothingBeside t.machine.links (seen_told notes items).over
 
 abbrev pub FinishesTellOver : Type 0
 FinishesTellOver =
-    (document : Document) (place : Place) (notes : List Note) (items : List Served) (seen : ServerSeen) (t : Traced)
-    → IsTrue (all_requests_right document) → IsFinishing document place notes items seen t → WereTurns NothingBeside t.machine.links (seen_told notes items).over
+    (document : Document) (place : Place) (notes : List Note) (items : List Served)
+    (seen : ServerSeen) (t : Traced)
+    → IsTrue (all_requests_right document) → IsFinishing document place notes items seen t
+    → WereTurns NothingBeside t.machine.links (seen_told notes items).over

@@ -20,7 +20,10 @@ use Rattle.shown_laws.specs.Telling.{seen_told}
 
 -- The calls since the last Begin, the newest first. None where none was served.
 abbrev pub with_call : Bool → Call → Option (List Marked) → Option (List Marked)
-with_call replay call calls = option_map (λ before. record { replay = replay; call = call } ∷ before) calls
+with_call replay call calls = option_map (λ before. record {
+  replay = replay;
+  call = call;
+} ∷ before) calls
 
 abbrev pub calls_after : Option (List Marked) → Item → Option (List Marked)
 calls_after calls (item.Begin settings) = Some []
@@ -53,10 +56,14 @@ TellsTurns links told = (number : ℕ) → told_at number told ≡ served_at num
 
 abbrev pub RunsTellTurns : Type 0
 RunsTellTurns =
-    (document : Document) (events : List Event) (notes : List Note) (items : List Served) (seen : ServerSeen) (t : Traced)
-    → IsTrue (all_requests_right document) → Reached document events notes items seen t → TellsTurns t.machine.links (seen_told notes items).links
+    (document : Document) (events : List Event) (notes : List Note) (items : List Served)
+    (seen : ServerSeen) (t : Traced)
+    → IsTrue (all_requests_right document) → Reached document events notes items seen t
+    → TellsTurns t.machine.links (seen_told notes items).links
 
 abbrev pub FinishesTellTurns : Type 0
 FinishesTellTurns =
-    (document : Document) (place : Place) (notes : List Note) (items : List Served) (seen : ServerSeen) (t : Traced)
-    → IsTrue (all_requests_right document) → IsFinishing document place notes items seen t → TellsTurns t.machine.links (seen_told notes items).links
+    (document : Document) (place : Place) (notes : List Note) (items : List Served)
+    (seen : ServerSeen) (t : Traced)
+    → IsTrue (all_requests_right document) → IsFinishing document place notes items seen t
+    → TellsTurns t.machine.links (seen_told notes items).links

@@ -21,9 +21,11 @@ pub record HasLines (document : Document) (report : Report) : Type 0 where
   pub sessions : IsTrue (of_parts has_its_sessions document report)
   pub showings : IsTrue (of_parts has_its_showings document report)
   pub served : IsTrue (of_parts calls_served document report)
-  pub identifiers : IsTrue (of_parts (have_identifiers (journal_before document).entries (stored_entries report)) document report)
+  pub identifiers : IsTrue (of_parts (have_identifiers (journal_before document).entries
+      (stored_entries report)) document report)
   pub turns : IsTrue (of_turns parts_turn_right document report)
   pub requests : IsTrue (of_turns turns_have_requests document report)
 
 abbrev pub LinesMakeWhole : Type 0
-LinesMakeWhole = (document : Document) (report : Report) → HasLines document report → IsTrue (whole document report)
+LinesMakeWhole = (document : Document) (report : Report) → HasLines document report
+    → IsTrue (whole document report)

@@ -41,16 +41,19 @@ MayTakeOver primary (Some second) = MayGoOn primary second
 
 -- With a second store that is the service's, and the first one's disk is the lost one. With none
 -- nothing is done.
-pub record IsTakenOver (old new : Within) (second : Second) (later : Option Second) (lost : Option DiskState) : Type 0 where
+pub record IsTakenOver (old new : Within) (second : Second) (later : Option Second)
+    (lost : Option DiskState) : Type 0 where
   pub primary : new ≡ taken old second.disk
   pub none : later ≡ None
   pub lost_is : lost ≡ Some old.disk
 
-pub record IsKeptOver (old new : Within) (later : Option Second) (before lost : Option DiskState) : Type 0 where
+pub record IsKeptOver (old new : Within) (later : Option Second)
+    (before lost : Option DiskState) : Type 0 where
   pub primary : new ≡ old
   pub none : later ≡ None
   pub lost_is : lost ≡ before
 
-abbrev pub TookOver : Within → Within → Option Second → Option Second → Option DiskState → Option DiskState → Type 0
+abbrev pub TookOver : Within → Within → Option Second → Option Second → Option DiskState
+    → Option DiskState → Type 0
 TookOver old new None later before lost = IsKeptOver old new later before lost
 TookOver old new (Some second) later before lost = IsTakenOver old new second later lost

@@ -8,10 +8,19 @@ use Rattle.service_core.specs.Seeing.{state_in as state_of_one}
 use Rattle.standby_ship.specs.Seeing.{SeesPair, bytes_in}
 use Rattle.standby_ship.specs.Twins.{Twin, state_in}
 
-pub honest : (pair : Twin) (seen : Seen) → SeesPair pair seen → IsHonest (state_in pair) (bytes_in pair) seen
+pub honest : (pair : Twin) (seen : Seen) → SeesPair pair seen
+    → IsHonest (state_in pair) (bytes_in pair) seen
 honest pair seen sees =
-    let one = honest_one pair.primary (record seen { state = state_of_one pair.primary }) (record { live = sees.sound.live; sound = sees.sound.primary; sees = record { state_is = refl; stands = sees.stands } }) in
-    subst (λ (state : ServiceState). IsHonest (state_in pair) (bytes_in pair) (record { start = seen.start; history = seen.history; state = state })) (sym sees.state_is)
+    let one = honest_one pair.primary (record seen { state = state_of_one pair.primary }) (record {
+      live = sees.sound.live;
+      sound = sees.sound.primary;
+      sees = record { state_is = refl; stands = sees.stands };
+    }) in
+    subst (λ (state : ServiceState). IsHonest (state_in pair) (bytes_in pair) (record {
+      start = seen.start;
+      history = seen.history;
+      state = state;
+    })) (sym sees.state_is)
     (record {
       state_is = refl;
       history = record {

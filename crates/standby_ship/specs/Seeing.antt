@@ -17,7 +17,9 @@ use Rattle.standby_ship.specs.Sound.{IsSoundPair}
 abbrev pub SecondStands : Twin → Option Second → Base → List Happened → Type 0
 SecondStands pair None start history = Unit {0}
 SecondStands pair (Some second) start history =
-    pair.is_opened ≡ true → pair.primary.notes.is_settled ≡ false → (image : List ℕ) → MayLeave second.disk.now image → Came start history (StandsDown pair.primary.grants false image)
+    pair.is_opened ≡ true → pair.primary.notes.is_settled ≡ false → (image : List ℕ)
+    → MayLeave second.disk.now image
+    → Came start history (StandsDown pair.primary.grants false image)
 
 pub record SeesPair (pair : Twin) (seen : Seen) : Type 0 where
   pub live : pair.is_spent ≡ false

@@ -47,7 +47,8 @@ pub record IsCaughtUp (old new : Within) (before after : Second) : Type 0 where
 pub record HasShipped (old new : Within) (before after : Second) : Type 0 where
   pub caught_up : IsCaughtUp old new before after
   pub none : lacked_in old before ≡ 0 → after ≡ before
-  pub under : lacked_in old before ≢ 0 → Lowered (4 * lacked_in old before) old.disk.stop after.disk.stop
+  pub under : lacked_in old before ≢ 0 → Lowered
+      (4 * lacked_in old before) old.disk.stop after.disk.stop
 
 -- A disk failed in it: the first one as it was read, or the second; in quiet ones only under a stop
 -- of fewer device calls than so many records take. The first store holds what it held; of the
@@ -60,11 +61,13 @@ pub record HasBroken (most : ℕ) (old new : Within) (before after : Second) : T
   pub some : 1 ≤ most
   pub bytes : new.disk.now ≡ old.disk.now
   pub stop : new.disk.stop ≡ old.disk.stop
-  pub between : (image : List ℕ) → MayLeave after.disk.now image → LiesBetween before.disk.now.seen image old.disk.now.seen
+  pub between : (image : List ℕ) → MayLeave after.disk.now image
+      → LiesBetween before.disk.now.seen image old.disk.now.seen
   pub reads_now : MayLeave after.disk.now after.disk.now.seen
   pub rose : old.disk.faults + before.disk.faults < new.disk.faults + after.disk.faults
   pub faults : (old.disk.faults ≤ new.disk.faults) × (after.disk.faults ≤ before.disk.faults + 1)
-  pub reached : old.disk.quiet ≡ true → before.disk.quiet ≡ true → (n : ℕ) × ((old.disk.stop ≡ Some n) × (n < 4 * most))
+  pub reached : old.disk.quiet ≡ true → before.disk.quiet ≡ true
+      → (n : ℕ) × ((old.disk.stop ≡ Some n) × (n < 4 * most))
   pub quiet : (new.disk.quiet ≡ old.disk.quiet) × (after.disk.quiet ≡ before.disk.quiet)
 
 -- ---- where there may be no second store

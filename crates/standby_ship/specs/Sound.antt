@@ -31,14 +31,16 @@ pub record MayShip (second : Second) : Type 0 where
 -- Beside the first store.
 pub record IsBeside (pair : Twin) (second : Second) : Type 0 where
   -- whatever a crash leaves of both, the second has the first records of the first one
-  pub fronts : (image whole : List ℕ) → MayLeave second.disk.now image → MayLeave pair.primary.disk.now whole → IsFrontOf image whole
+  pub fronts : (image whole : List ℕ) → MayLeave second.disk.now image
+      → MayLeave pair.primary.disk.now whole → IsFrontOf image whole
   pub reads_now : MayLeave second.disk.now second.disk.now.seen
   pub faults : HasFaultRoom second.disk.faults pair.primary.notes
   -- nothing is pending on it where nothing is on the first one
   pub settled : pair.primary.notes.is_settled ≡ true → IsSettled second.disk
   -- None is missing where it was opened and nothing is pending: no reply is out that the second
   -- store has not.
-  pub even : pair.is_opened ≡ true → pair.primary.notes.is_settled ≡ true → IsEven pair.primary second
+  pub even : pair.is_opened ≡ true → pair.primary.notes.is_settled ≡ true
+      → IsEven pair.primary second
   pub ready : is_some pair.primary.core ≡ true → MayShip second
   -- no disk was lost yet
   pub none_lost : pair.lost ≡ None

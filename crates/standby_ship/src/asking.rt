@@ -23,7 +23,10 @@ impl<D: StopDisk> Pair<D> {
         requires few { (state_in self.old).calls < 2 ^ 48 }
         requires up { (state_in self.old).is_up ≡ true }
         requires identifier { IsLtxid x.now }
-        ensures asked { Ends result (λ told. Goes (SeesPair self.old) (SeesPair self.new) (λ old new. AskedOne old x.now told new)) (Goes (SeesPair self.old) (SeesPair self.new) (λ old new. StoppedAsk old x.now (LeavesPair self.new) new)) }
+        ensures asked { Ends result (λ told. Goes (SeesPair self.old) (SeesPair self.new)
+            (λ old new. AskedOne old x.now told new))
+            (Goes (SeesPair self.old) (SeesPair self.new)
+            (λ old new. StoppedAsk old x.now (LeavesPair self.new) new)) }
         ensures base { NotMemory result (HaveOneBase (bytes_in self.old) (bytes_in self.new)) }
     {
         match self.primary.tell(x) {

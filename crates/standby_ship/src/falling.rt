@@ -38,7 +38,8 @@ fn take_over<D: StopDisk + Drop>(
 )
     requires live { primary.old.notes.is_spent ≡ false }
     requires may { MayTakeOver primary.old second.old }
-    ensures { TookOver primary.old primary.new second.old second.new (option_map D.state lost.old) (option_map D.state lost.new) }
+    ensures { TookOver primary.old primary.new second.old second.new (option_map D.state lost.old)
+        (option_map D.state lost.new) }
 {
     if let Some(second) = second.take() {
         *lost = Some(primary.take_over(second.disk));
@@ -54,7 +55,8 @@ impl<D: StopDisk + Drop> Pair<D> {
         requires few { (state_in self.old).calls < 2 ^ 48 }
         requires may { MayCrash (state_in self.old) pick }
         ensures left { LeavesPair self.old (state_in self.new).store }
-        ensures crashed { Goes (SeesPair self.old) (SeesPair self.new) (λ old new. Crashed old pick new) }
+        ensures crashed { Goes (SeesPair self.old) (SeesPair self.new)
+            (λ old new. Crashed old pick new) }
         ensures base { HaveOneBase (bytes_in self.old) (bytes_in self.new) }
     {
         if is_failover(pick) {
@@ -70,7 +72,8 @@ impl<D: StopDisk + Drop> Pair<D> {
         requires few { (state_in self.old).calls < 2 ^ 48 }
         requires both { is_failover_def pick ≡ false }
         ensures left { LeavesPair self.old (state_in self.new).store }
-        ensures crashed { Goes (SeesPair self.old) (SeesPair self.new) (λ old new. Crashed old pick new) }
+        ensures crashed { Goes (SeesPair self.old) (SeesPair self.new)
+            (λ old new. Crashed old pick new) }
         ensures base { HaveOneBase (bytes_in self.old) (bytes_in self.new) }
     {
         fall_second(&mut self.second, pick % 4);
@@ -86,7 +89,8 @@ impl<D: StopDisk + Drop> Pair<D> {
         requires opened { self.old.is_opened ≡ true }
         requires over { is_failover_def pick ≡ true }
         ensures left { LeavesPair self.old (state_in self.new).store }
-        ensures crashed { Goes (SeesPair self.old) (SeesPair self.new) (λ old new. Crashed old pick new) }
+        ensures crashed { Goes (SeesPair self.old) (SeesPair self.new)
+            (λ old new. Crashed old pick new) }
         ensures base { HaveOneBase (bytes_in self.old) (bytes_in self.new) }
     {
         take_over(&mut self.primary, &mut self.second, &mut self.lost);

@@ -21,7 +21,8 @@ impl<D: StopDisk + Drop> Pair<D> {
     pub(crate) fn read_at_end(self, alloc: Global) -> Result<Ended, ServeFault>
         requires live { self.is_spent ≡ false }
         ensures told { IfOk result (IsEndOf (bytes_in self)) }
-        ensures cause { IsErrOf result ServeFault.Stopped → (state_in self).is_quiet ≡ true → (state_in self).stop ≢ None }
+        ensures cause { IsErrOf result ServeFault.Stopped → (state_in self).is_quiet ≡ true
+            → (state_in self).stop ≢ None }
     {
         let Pair {
             primary,
@@ -43,7 +44,8 @@ impl<D: StopDisk> Pair<D> {
         requires few { (state_in self.old).calls < 2 ^ 48 }
         ensures told { IfOk result (λ journal. journal_of (bytes_in self.new) ≡ Ok journal) }
         ensures unwritten { NotMemory result (bytes_in self.new ≡ bytes_in self.old) }
-        ensures looked { Ends result (λ journal. Goes (SeesPair self.old) (SeesPair self.new) Looked) (Goes (SeesPair self.old) (SeesPair self.new) StoppedLook) }
+        ensures looked { Ends result (λ journal. Goes (SeesPair self.old) (SeesPair self.new)
+            Looked) (Goes (SeesPair self.old) (SeesPair self.new) StoppedLook) }
     {
         match self.primary.read_journal(alloc) {
             Ok(journal) => {
@@ -67,7 +69,8 @@ impl<D: StopDisk> Pair<D> {
         requires few { (state_in self.old).calls < 2 ^ 48 }
         ensures told { IfOk result (λ image. image.items ≡ bytes_in self.new) }
         ensures unwritten { NotMemory result (bytes_in self.new ≡ bytes_in self.old) }
-        ensures looked { Ends result (λ image. Goes (SeesPair self.old) (SeesPair self.new) Looked) (Goes (SeesPair self.old) (SeesPair self.new) StoppedLook) }
+        ensures looked { Ends result (λ image. Goes (SeesPair self.old) (SeesPair self.new) Looked)
+            (Goes (SeesPair self.old) (SeesPair self.new) StoppedLook) }
     {
         match self.primary.read_image(alloc) {
             Ok(image) => {

@@ -26,10 +26,14 @@ impl<D: StopDisk> Pair<D> {
     pub fn new(alloc: Global, primary: D, second: D, grants: Grants) -> Self
         requires primary { CanBegin (D.state primary) }
         requires second { CanBegin (D.state second) }
-        requires same { records_of (D.state second).now.seen ≡ records_of (D.state primary).now.seen }
+        requires same { records_of (D.state second).now.seen
+            ≡ records_of (D.state primary).now.seen }
         ensures made { result ≡ made_of (D.state primary) (D.state second) grants }
-        ensures sound { (journal : Journal) → journal_of (D.state primary).now.seen ≡ Ok journal → IsSound (base_of journal grants) }
-        ensures seen { (journal : Journal) → journal_of (D.state primary).now.seen ≡ Ok journal → SeesPair result (seen_new result (base_of journal grants)) × IsNew (seen_new result (base_of journal grants)) }
+        ensures sound { (journal : Journal) → journal_of (D.state primary).now.seen ≡ Ok journal
+            → IsSound (base_of journal grants) }
+        ensures seen { (journal : Journal) → journal_of (D.state primary).now.seen ≡ Ok journal
+            → SeesPair result (seen_new result (base_of journal grants))
+            × IsNew (seen_new result (base_of journal grants)) }
     {
         Pair::indexed(alloc, primary, second, grants, Vec::new(alloc))
     }
@@ -45,11 +49,15 @@ impl<D: StopDisk> Pair<D> {
     ) -> Self
         requires primary { CanBegin (D.state primary) }
         requires second { CanBegin (D.state second) }
-        requires same { records_of (D.state second).now.seen ≡ records_of (D.state primary).now.seen }
+        requires same { records_of (D.state second).now.seen
+            ≡ records_of (D.state primary).now.seen }
         requires indexes { FitBase indexes.items (D.state primary).now.seen }
         ensures made { result ≡ made_of (D.state primary) (D.state second) grants }
-        ensures sound { (journal : Journal) → journal_of (D.state primary).now.seen ≡ Ok journal → IsSound (base_of journal grants) }
-        ensures seen { (journal : Journal) → journal_of (D.state primary).now.seen ≡ Ok journal → SeesPair result (seen_new result (base_of journal grants)) × IsNew (seen_new result (base_of journal grants)) }
+        ensures sound { (journal : Journal) → journal_of (D.state primary).now.seen ≡ Ok journal
+            → IsSound (base_of journal grants) }
+        ensures seen { (journal : Journal) → journal_of (D.state primary).now.seen ≡ Ok journal
+            → SeesPair result (seen_new result (base_of journal grants))
+            × IsNew (seen_new result (base_of journal grants)) }
     {
         let primary = OneService::indexed(alloc, primary, grants, indexes);
         primary.keeps_to_it();
@@ -88,12 +96,19 @@ impl<D: StopDisk + Drop> Pair<D> {
     ) -> Result<Self, NoMemory>
         requires primary { CanBegin (D.state primary) }
         requires second { CanBegin (D.state second) }
-        requires same { records_of (D.state second).now.seen ≡ records_of (D.state primary).now.seen }
+        requires same { records_of (D.state second).now.seen
+            ≡ records_of (D.state primary).now.seen }
         requires indexes { FitBase indexes.items (D.state primary).now.seen }
         requires found { IsFoundOn (D.state primary) found }
-        ensures made { IfOk result (λ pair. pair ≡ made_of (D.state primary) (D.state second) grants) }
-        ensures sound { IfOk result (λ pair. (journal : Journal) → journal_of (D.state primary).now.seen ≡ Ok journal → IsSound (base_of journal grants)) }
-        ensures seen { IfOk result (λ pair. (journal : Journal) → journal_of (D.state primary).now.seen ≡ Ok journal → SeesPair pair (seen_new pair (base_of journal grants)) × IsNew (seen_new pair (base_of journal grants))) }
+        ensures made { IfOk result (λ pair. pair
+            ≡ made_of (D.state primary) (D.state second) grants) }
+        ensures sound { IfOk result (λ pair. (journal : Journal)
+            → journal_of (D.state primary).now.seen ≡ Ok journal
+            → IsSound (base_of journal grants)) }
+        ensures seen { IfOk result (λ pair. (journal : Journal)
+            → journal_of (D.state primary).now.seen ≡ Ok journal
+            → SeesPair pair (seen_new pair (base_of journal grants))
+            × IsNew (seen_new pair (base_of journal grants))) }
     {
         let primary = OneService::known(alloc, primary, grants, indexes, found)?;
         primary.keeps_to_it();

@@ -24,9 +24,12 @@ use std::alloc::Global;
 
 /// The end of a store, to which all its records are walked.
 fn end_of<D: Disk>(alloc: Global, disk: &mut D) -> Result<Redo, RedoFault>
-    ensures ready { IsSettled (D.state disk.old) → IfOk result (λ store. CanAppend store (D.state disk.new)) }
-    ensures damaged { (place : ℕ) → IsErrOf result (RedoFault.Damaged place) → records_of (D.state disk.old).now.seen ≡ Err place }
-    ensures only_reads { OnlyReads (IsErrOf result RedoFault.Stopped) (D.state disk.old) (D.state disk.new) }
+    ensures ready { IsSettled (D.state disk.old)
+        → IfOk result (λ store. CanAppend store (D.state disk.new)) }
+    ensures damaged { (place : ℕ) → IsErrOf result (RedoFault.Damaged place)
+        → records_of (D.state disk.old).now.seen ≡ Err place }
+    ensures only_reads { OnlyReads (IsErrOf result RedoFault.Stopped) (D.state disk.old)
+        (D.state disk.new) }
 {
     let mut walk = Walk::begin(alloc, disk)?;
     while walk.next(disk)?.is_some() {}
@@ -40,9 +43,11 @@ fn walk_to_end<D: StopDisk>(
     stop: Option<u64>,
 ) -> Result<(), ServeFault>
     requires settled { IsSettled second.old.disk }
-    requires reads { (records : List (List ℕ)) × (records_of second.old.disk.now.seen ≡ Ok records) }
+    requires reads { (records : List (List ℕ))
+        × (records_of second.old.disk.now.seen ≡ Ok records) }
     ensures ready { OnOk result (MayShip second.new) }
-    ensures only_reads { OnlyReads (IsErrOf result ServeFault.Stopped) (record second.old.disk { stop = stop }) second.new.disk }
+    ensures only_reads { OnlyReads (IsErrOf result ServeFault.Stopped)
+        (record second.old.disk { stop = stop }) second.new.disk }
     ensures reads_now { MayLeave second.new.disk.now second.new.disk.now.seen }
 {
     second.disk.stop_after(stop);
@@ -66,8 +71,11 @@ fn bring_up_to<D: StopDisk>(
 ) -> Result<(), ServeFault>
     requires lags { Lags primary.old second.old }
     requires settled { IsSettled second.old.disk }
-    ensures caught_up { IfOk result (λ _. IsCaughtUp primary.old primary.new second.old second.new) }
-    ensures broken { IsErrOf result ServeFault.Stopped → HasBroken (lacked_in primary.old second.old + 1) primary.old primary.new second.old second.new }
+    ensures caught_up { IfOk result (λ _. IsCaughtUp primary.old primary.new second.old
+        second.new) }
+    ensures broken { IsErrOf result ServeFault.Stopped
+        → HasBroken (lacked_in primary.old second.old + 1) primary.old primary.new second.old
+        second.new }
 {
     match walk_to_end(alloc, second, primary.left()) {
         Ok(()) => ship(alloc, primary, second),
@@ -86,8 +94,11 @@ fn bring_up<D: StopDisk>(
     second: &mut Option<SecondStore<D>>,
 ) -> Result<(), ServeFault>
     requires { LagsSettled primary.old second.old }
-    ensures caught_up { IfOk result (λ _. IsCaughtUpSome primary.old primary.new second.old second.new) }
-    ensures broken { IsErrOf result ServeFault.Stopped → HasBrokenSome (lacked_some primary.old second.old + 1) primary.old primary.new second.old second.new }
+    ensures caught_up { IfOk result (λ _. IsCaughtUpSome primary.old primary.new second.old
+        second.new) }
+    ensures broken { IsErrOf result ServeFault.Stopped
+        → HasBrokenSome (lacked_some primary.old second.old + 1) primary.old primary.new second.old
+        second.new }
     ensures kept { IsKept primary.new }
 {
     primary.keeps_to_it();
@@ -108,9 +119,13 @@ impl<D: StopDisk> Pair<D> {
     pub(crate) fn reopen(&mut self, alloc: Global, horizon: u64) -> Result<(), ServeFault>
         requires live { self.old.is_spent ≡ false }
         requires few { (state_in self.old).calls < 2 ^ 48 }
-        requires down { ((state_in self.old).is_up ≡ false) × ((state_in self.old).is_settled ≡ true) }
+        requires down { ((state_in self.old).is_up ≡ false)
+            × ((state_in self.old).is_settled ≡ true) }
         requires may { MayForget (state_in self.old) horizon }
-        ensures opened { Ends result (λ done. Goes (SeesPair self.old) (SeesPair self.new) (λ old new. Opened old horizon new)) (Goes (SeesPair self.old) (SeesPair self.new) (λ old new. StoppedOpening old horizon (LeavesPair self.new) new)) }
+        ensures opened { Ends result (λ done. Goes (SeesPair self.old) (SeesPair self.new)
+            (λ old new. Opened old horizon new))
+            (Goes (SeesPair self.old) (SeesPair self.new)
+            (λ old new. StoppedOpening old horizon (LeavesPair self.new) new)) }
         ensures base { NotMemory result (HaveOneBase (bytes_in self.old) (bytes_in self.new)) }
     {
         match self.primary.reopen(alloc, horizon) {

@@ -29,7 +29,10 @@ impl<D: StopDisk> Pair<D> {
         requires few { (state_in self.old).calls < 2 ^ 48 }
         requires up { (state_in self.old).is_up ≡ true }
         requires made { AllByRecursion IsMade calls.now }
-        ensures ran { Ends result (λ ran. Goes (SeesPair self.old) (SeesPair self.new) (λ old new. RanOutside old calls.now now ran.ltxid (runs_of ran) new)) (Goes (SeesPair self.old) (SeesPair self.new) (λ old new. StoppedOutside old (LeavesPair self.new) new)) }
+        ensures ran { Ends result (λ ran. Goes (SeesPair self.old) (SeesPair self.new)
+            (λ old new. RanOutside old calls.now now ran.ltxid (runs_of ran) new))
+            (Goes (SeesPair self.old) (SeesPair self.new)
+            (λ old new. StoppedOutside old (LeavesPair self.new) new)) }
         ensures base { NotMemory result (HaveOneBase (bytes_in self.old) (bytes_in self.new)) }
     {
         match self.primary.run_outside(alloc, calls, now) {

@@ -49,9 +49,23 @@ impl<D: StopDisk> Model for Pair<D> {
 
     ghost Value = { Twin };
 
-    ghost view = { λ p. record { primary = p.primary; second = p.second; lost = option_map D.state p.lost; is_opened = p.is_opened; is_spent = p.is_spent } };
+    ghost view = { λ p. record {
+      primary = p.primary;
+      second = p.second;
+      lost =
+          option_map D.state p.lost;
+      is_opened = p.is_opened;
+      is_spent = p.is_spent;
+    } };
 
-    ghost invariant = { λ p. IsKept (record { primary = p.primary; second = p.second; lost = option_map D.state p.lost; is_opened = p.is_opened; is_spent = p.is_spent }) };
+    ghost invariant = { λ p. IsKept (record {
+      primary = p.primary;
+      second = p.second;
+      lost =
+          option_map D.state p.lost;
+      is_opened = p.is_opened;
+      is_spent = p.is_spent;
+    }) };
 }
 
 impl<D: StopDisk> Pair<D> {
@@ -64,7 +78,8 @@ impl<D: StopDisk> Pair<D> {
 
     /// The incarnation of this opening. Of a pair that is down it says nothing.
     pub(crate) fn opening(&self) -> u64
-        ensures { (state_in self.now).is_up ≡ true → result ≡ (state_in self.now).store.incarnation }
+        ensures { (state_in self.now).is_up ≡ true
+            → result ≡ (state_in self.now).store.incarnation }
     {
         self.primary.opening()
     }
@@ -74,7 +89,8 @@ impl<D: StopDisk> Pair<D> {
         requires live { self.old.is_spent ≡ false }
         requires few { (state_in self.old).calls < 2 ^ 48 }
         requires new { (state_in self.old).living connection ≡ None }
-        ensures connected { IfOk result (λ up. Goes (SeesPair self.old) (SeesPair self.new) (λ old new. Connected old connection up new)) }
+        ensures connected { IfOk result (λ up. Goes (SeesPair self.old) (SeesPair self.new)
+            (λ old new. Connected old connection up new)) }
         ensures base { IfOk result (λ up. HaveOneBase (bytes_in self.old) (bytes_in self.new)) }
     {
         match self.primary.add(connection) {
@@ -93,7 +109,8 @@ impl<D: StopDisk> Pair<D> {
     pub(crate) fn end(&mut self, connection: u64)
         requires live { self.old.is_spent ≡ false }
         requires few { (state_in self.old).calls < 2 ^ 48 }
-        ensures reaped { Goes (SeesPair self.old) (SeesPair self.new) (λ old new. Reaped old connection new) }
+        ensures reaped { Goes (SeesPair self.old) (SeesPair self.new)
+            (λ old new. Reaped old connection new) }
         ensures base { HaveOneBase (bytes_in self.old) (bytes_in self.new) }
     {
         self.primary.end(connection);
@@ -105,7 +122,8 @@ impl<D: StopDisk> Pair<D> {
     pub(crate) fn set_stop(&mut self, calls: Option<u64>)
         requires live { self.old.is_spent ≡ false }
         requires few { (state_in self.old).calls < 2 ^ 48 }
-        ensures stop { Goes (SeesPair self.old) (SeesPair self.new) (λ old new. new ≡ with_stop old calls) }
+        ensures stop { Goes (SeesPair self.old) (SeesPair self.new)
+            (λ old new. new ≡ with_stop old calls) }
         ensures base { HaveOneBase (bytes_in self.old) (bytes_in self.new) }
     {
         self.primary.set_stop(calls);

@@ -31,7 +31,8 @@ impl<D: StopDisk> Pair<D> {
         requires lives { Lives (state_in self.old) connection }
         requires made { IsMadeUp frame.now }
         ensures made { IfOk result (λ told. IfSome told IsMadeDown) }
-        ensures served { IfTold result (λ told. Goes (SeesPair self.old) (SeesPair self.new) (λ old new. ServedOne old connection now frame.now told (LeavesPair self.new) new)) }
+        ensures served { IfTold result (λ told. Goes (SeesPair self.old) (SeesPair self.new)
+            (λ old new. ServedOne old connection now frame.now told (LeavesPair self.new) new)) }
         ensures base { NotMemory result (HaveOneBase (bytes_in self.old) (bytes_in self.new)) }
     {
         match self.primary.serve_frame(alloc, connection, frame, now) {

@@ -24,11 +24,17 @@ fn append_each<D: Disk>(
 ) -> Result<(), RedoFault>
     requires { CanAppend store.old (D.state disk.old) }
     ensures ready { OnOk result (CanAppend store.new (D.state disk.new)) }
-    ensures added { OnOk result (records_of (D.state disk.new).now.seen ≡ with_lasts (map (λ payload. payload.items) payloads.now) (records_of (D.state disk.old).now.seen)) }
-    ensures left { (image : List ℕ) → MayLeave (D.state disk.new).now image → HasSomeLasts (map (λ payload. payload.items) payloads.now) (D.state disk.old).now.seen image }
+    ensures added { OnOk result (records_of (D.state disk.new).now.seen
+        ≡ with_lasts (map (λ payload. payload.items) payloads.now)
+        (records_of (D.state disk.old).now.seen)) }
+    ensures left { (image : List ℕ) → MayLeave (D.state disk.new).now image
+        → HasSomeLasts (map (λ payload. payload.items) payloads.now) (D.state disk.old).now.seen
+        image }
     ensures whole { (place : ℕ) → IsErrOf result (RedoFault.Damaged place) → ⊥ }
-    ensures stop { Lowers (4 * length payloads.now) result (D.state disk.old).stop (D.state disk.new).stop }
-    ensures cause { Caused (IsErrOf result RedoFault.Stopped) (D.state disk.old) (D.state disk.new) }
+    ensures stop { Lowers (4 * length payloads.now) result (D.state disk.old).stop
+        (D.state disk.new).stop }
+    ensures cause { Caused (IsErrOf result RedoFault.Stopped) (D.state disk.old)
+        (D.state disk.new) }
 {
     for payload in payloads {
         store.append(disk, payload)?;
@@ -45,8 +51,11 @@ fn ship_to<D: StopDisk>(
 ) -> Result<(), ServeFault>
     requires lags { Lags primary.old (open_at store.old (D.state disk.old)) }
     requires ready { CanAppend store.old (D.state disk.old) }
-    ensures shipped { IfOk result (λ _. HasShipped primary.old primary.new (open_at store.old (D.state disk.old)) (open_at store.new (D.state disk.new))) }
-    ensures broken { IsErrOf result ServeFault.Stopped → HasBroken (lacked_in primary.old (open_at store.old (D.state disk.old))) primary.old primary.new (open_at store.old (D.state disk.old)) (open_at store.new (D.state disk.new)) }
+    ensures shipped { IfOk result (λ _. HasShipped primary.old primary.new
+        (open_at store.old (D.state disk.old)) (open_at store.new (D.state disk.new))) }
+    ensures broken { IsErrOf result ServeFault.Stopped
+        → HasBroken (lacked_in primary.old (open_at store.old (D.state disk.old))) primary.old
+        primary.new (open_at store.old (D.state disk.old)) (open_at store.new (D.state disk.new)) }
 {
     primary.keeps_to_it();
     let from = store.count();
@@ -77,7 +86,9 @@ pub fn ship<D: StopDisk>(
     requires lags { Lags primary.old second.old }
     requires ready { MayShip second.old }
     ensures shipped { IfOk result (λ _. HasShipped primary.old primary.new second.old second.new) }
-    ensures broken { IsErrOf result ServeFault.Stopped → HasBroken (lacked_in primary.old second.old) primary.old primary.new second.old second.new }
+    ensures broken { IsErrOf result ServeFault.Stopped
+        → HasBroken (lacked_in primary.old second.old) primary.old primary.new second.old
+        second.new }
 {
     let SecondStore { disk, store } = second;
     match store {
@@ -93,8 +104,11 @@ pub fn ship_behind<D: StopDisk>(
     second: &mut Option<SecondStore<D>>,
 ) -> Result<(), ServeFault>
     requires { LagsOpen primary.old second.old }
-    ensures shipped { IfOk result (λ _. HasShippedSome primary.old primary.new second.old second.new) }
-    ensures broken { IsErrOf result ServeFault.Stopped → HasBrokenSome (lacked_some primary.old second.old) primary.old primary.new second.old second.new }
+    ensures shipped { IfOk result (λ _. HasShippedSome primary.old primary.new second.old
+        second.new) }
+    ensures broken { IsErrOf result ServeFault.Stopped
+        → HasBrokenSome (lacked_some primary.old second.old) primary.old primary.new second.old
+        second.new }
     ensures kept { IsKept primary.new }
 {
     match second {

@@ -14,7 +14,8 @@ kind_drawn (draw.Id id) = kind.Id
 
 -- The draws before `rest` were used: they are those that are asked for, in order, up to some place,
 -- and all of them where nothing was refused.
-pub record UsesInOrder (asked : List DrawKind) (draws rest : List Draw) (is_refused : Bool) : Type 0 where
+pub record UsesInOrder (asked : List DrawKind) (draws rest : List Draw)
+    (is_refused : Bool) : Type 0 where
   pub used : List Draw
   pub unused : List DrawKind
   pub first : draws ≡ used ++ rest

@@ -26,19 +26,22 @@ asked_before (Ok (Drawn asked)) more = asked ∷ more
 -- what operands ask for, up to the first that refuses
 abbrev pub asked_by_operands : List (List ℕ) → NamedValues → List Operand → List DrawKind
 asked_by_operands sequences settings [] = []
-asked_by_operands sequences settings (first ∷ rest) = asked_before (wanted sequences settings first) (asked_by_operands sequences settings rest)
+asked_by_operands sequences settings (first ∷ rest) =
+    asked_before (wanted sequences settings first) (asked_by_operands sequences settings rest)
 
 -- a statement with a wrong name asks for nothing
 abbrev pub asked_at : Shape → NamedValues → Statement → Result Aim StatementFault → List DrawKind
 asked_at shape settings asked (Err refusal) = []
-asked_at shape settings asked (Ok aim) = asked_by_operands shape.sequences settings (operands_of asked)
+asked_at shape settings asked (Ok aim) =
+    asked_by_operands shape.sequences settings (operands_of asked)
 
 abbrev pub asked_in : Shape → NamedValues → Statement → List DrawKind
 asked_in shape settings asked = asked_at shape settings asked (aim_of shape.schemas asked)
 
 -- what those of a call's statements ask for that have an answer, of so many answers
 abbrev pub asked_while : Shape → NamedValues → Call → ℕ → List DrawKind
-asked_while shape settings (call.Work statements commit) count = flat_map (asked_in shape settings) (take count statements)
+asked_while shape settings (call.Work statements commit) count =
+    flat_map (asked_in shape settings) (take count statements)
 asked_while shape settings _ count = []
 
 -- the last answer refuses a statement for a setting that is not there

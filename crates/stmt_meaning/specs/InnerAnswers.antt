@@ -21,12 +21,15 @@ IsPlanned (Err e) planned = IsRefusedAs e planned
 
 -- Statements did this: their answers, the rows after them where none was refused, and how many
 -- draws they used.
-pub record HaveDone (done : AllDone) (tables : List PlainRow) (draws : List Draw) (answers : List Answer) (rows : List PlainRow) (used : ℕ) (is_refused : Bool) : Type 0 where
+pub record HaveDone (done : AllDone) (tables : List PlainRow) (draws : List Draw)
+    (answers : List Answer) (rows : List PlainRow) (used : ℕ) (is_refused : Bool) : Type 0 where
   pub answered : answers ≡ done.answers
   pub refusal : is_refused ≡ done.refused
   pub written : done.refused ≡ false → rows ≡ with_writes tables done.writes
   pub left : done.rest ≡ drop used draws
   pub within : used ≤ length draws
 
-abbrev pub DidAll : Option AllDone → List PlainRow → List Draw → List Answer → List PlainRow → ℕ → Bool → Type 0
-DidAll all tables draws answers rows used is_refused = (done : AllDone) × ((all ≡ Some done) × HaveDone done tables draws answers rows used is_refused)
+abbrev pub DidAll : Option AllDone → List PlainRow → List Draw → List Answer → List PlainRow → ℕ
+    → Bool → Type 0
+DidAll all tables draws answers rows used is_refused = (done : AllDone)
+    × ((all ≡ Some done) × HaveDone done tables draws answers rows used is_refused)

@@ -14,16 +14,21 @@ use Rattle.stmt_meaning.specs.meaning.Effects.{number_at, total, summed}
 
 -- what was found in these rows. Of the rows that meet a select's test the first 32 are kept
 abbrev pub scanned : TableWork → List (List Value) → Scan
-scanned (table_work.Select at test than) rows = scan.Select at test than (take 32 (selected at test than rows)) (nat_lt 32 (length (selected at test than rows)))
+scanned (table_work.Select at test than) rows =
+    scan.Select at test than (take 32 (selected at test than rows))
+    (nat_lt 32 (length (selected at test than rows)))
 scanned table_work.Count rows = scan.Count (pos (length rows))
 scanned (table_work.Sum at) rows = scan.Sum at (total at rows)
 
 abbrev pub with_met : ℕ → Test → Value → List (List Value) → Bool → List Value → Scan
-with_met at test than met is_over row = if nat_lt (length met) 32 then scan.Select at test than (met ++ row ∷ []) is_over else scan.Select at test than met true
+with_met at test than met is_over row = if nat_lt (length met) 32 then
+    scan.Select at test than (met ++ row ∷ []) is_over else scan.Select at test than met true
 
 -- a row more
 abbrev pub next_scan : Scan → List Value → Scan
-next_scan (scan.Select at test than met is_over) row = if value_meets test than (slice_get row at) then with_met at test than met is_over row else scan.Select at test than met is_over
+next_scan (scan.Select at test than met is_over) row =
+    if value_meets test than (slice_get row at) then with_met at test than met is_over row else
+    scan.Select at test than met is_over
 next_scan (scan.Count rows) row = scan.Count (rows +ℤ pos 1)
 next_scan (scan.Sum at sum) row = scan.Sum at (sum +ℤ number_at row at)
 

@@ -27,7 +27,8 @@ first_asked asked (first ∷ rest) = if is_of_kind asked first then Ok first els
 
 -- the answer, which the names and the draws determine
 abbrev pub listed : List (List ℕ) → List Draw → DrawKind → Result Draw DrawFromFault
-listed names draws asked = if is_there names asked then first_asked asked draws else Err fault.NoSequence
+listed names draws asked = if is_there names asked then first_asked asked draws else
+    Err fault.NoSequence
 
 -- the front of a list is taken off, if there is one
 abbrev pub TakesFront : List Draw → Option Draw → List Draw → Type 0

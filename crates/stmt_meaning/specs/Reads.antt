@@ -22,4 +22,5 @@ ReadsDiffer reads now = (read : Read) × (Contains reads read × HasChanged now 
 -- has other rows now than it had at the read. The answer is such a place.
 abbrev pub IsConflict : List Read → List PlainRow → Option Place → Type 0
 IsConflict reads now None = ReadsStand reads now
-IsConflict reads now (Some at) = (read : Read) × (Contains reads read × ((read.at ≡ at) × HasChanged now read))
+IsConflict reads now (Some at) = (read : Read)
+    × (Contains reads read × ((read.at ≡ at) × HasChanged now read))

@@ -19,10 +19,13 @@ pub record CallAt : Type 0 where
 -- The calls in order, each on the tables committed at its moment with the transaction's own earlier
 -- writes over them. `own` and `settings` are those before the first call, `own_after` and
 -- `settings_after` those after the last.
-abbrev pub RanAt : Shape → NamedValues → List Write → List CallAt → NamedValues → List Write → Type 0
-RanAt shape settings own [] settings_after own_after = (settings_after ≡ settings) × (own_after ≡ own)
+abbrev pub RanAt : Shape → NamedValues → List Write → List CallAt → NamedValues → List Write
+    → Type 0
+RanAt shape settings own [] settings_after own_after = (settings_after ≡ settings)
+    × (own_after ≡ own)
 RanAt shape settings own (moment ∷ moments) settings_after own_after =
-    (meant : Meant) × (Replays shape (with_writes moment.committed own) settings moment.piece meant × RanAt shape meant.settings (own ++ meant.writes) moments settings_after own_after)
+    (meant : Meant) × (Replays shape (with_writes moment.committed own) settings moment.piece meant
+    × RanAt shape meant.settings (own ++ meant.writes) moments settings_after own_after)
 
 -- what a call read at its moment, and what those behind it read
 abbrev pub reads_then : List PlainRow → (Meant → List Read) → Option Meant → List Read
@@ -34,12 +37,17 @@ reads_then committed behind (Some meant) = reads_at committed meant.reads ++ beh
 abbrev pub reads_of : Shape → NamedValues → List Write → List CallAt → List Read
 reads_of shape settings own [] = []
 reads_of shape settings own (moment ∷ moments) =
-    reads_then moment.committed (λ meant. reads_of shape meant.settings (own ++ meant.writes) moments) (mean shape (with_writes moment.committed own) settings moment.piece.call moment.piece.draws)
+    reads_then moment.committed (λ meant. reads_of shape meant.settings (own ++ meant.writes)
+    moments) (mean shape (with_writes moment.committed own) settings moment.piece.call
+    moment.piece.draws)
 
 -- all at one moment
 abbrev pub at_once : List PlainRow → List CallAt → List CallAt
 at_once now [] = []
-at_once now (moment ∷ moments) = record { committed = now; piece = moment.piece } ∷ at_once now moments
+at_once now (moment ∷ moments) = record {
+  committed = now;
+  piece = moment.piece;
+} ∷ at_once now moments
 
 abbrev pub AreOrdered : List CallAt → Type 0
 AreOrdered [] = Unit {0}

@@ -10,10 +10,13 @@ use Rattle.svc_values.specs.meaning.SettingsList.{NamedValues}
 use Rattle.stmt_meaning.specs.meaning.Serial.{Replays}
 
 -- Pieces run whole, one after the other.
-abbrev pub RunWhole : Shape → List PlainRow → NamedValues → List Piece → NamedValues → List PlainRow → Type 0
-RunWhole shape before settings [] settings_after after = (settings_after ≡ settings) × (after ≡ before)
+abbrev pub RunWhole : Shape → List PlainRow → NamedValues → List Piece → NamedValues → List PlainRow
+    → Type 0
+RunWhole shape before settings [] settings_after after = (settings_after ≡ settings)
+    × (after ≡ before)
 RunWhole shape before settings (piece ∷ pieces) settings_after after =
-    (meant : Meant) × (Replays shape before settings piece meant × RunWhole shape meant.tables meant.settings pieces settings_after after)
+    (meant : Meant) × (Replays shape before settings piece meant
+    × RunWhole shape meant.tables meant.settings pieces settings_after after)
 
 -- the last one commits, and none before it does
 abbrev pub CommitLast : List Piece → Type 0

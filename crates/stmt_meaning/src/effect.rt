@@ -95,7 +95,8 @@ fn added(
     row: &Row,
     number: i64,
 ) -> Result<Effect, NoMemory>
-    ensures { IfOk result (λ effect. effect ≡ added_def table key column row.now (number_at_def row.now column +ℤ number)) }
+    ensures { IfOk result (λ effect. effect
+        ≡ added_def table key column row.now (number_at_def row.now column +ℤ number)) }
 {
     match number_at(row, column).checked_add(number) {
         None => Ok(refused(StatementFault::SumRange)),
@@ -131,7 +132,8 @@ pub fn row_effect(
     work: RowWork,
     row: Option<&Row>,
 ) -> Result<Effect, NoMemory>
-    ensures { IfOk result (λ effect. effect ≡ row_effect_def table key work (option_copied row.entry)) }
+    ensures { IfOk result (λ effect. effect
+        ≡ row_effect_def table key work (option_copied row.entry)) }
 {
     let Some(row) = row else {
         return Ok(match work {

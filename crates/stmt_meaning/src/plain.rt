@@ -70,7 +70,10 @@ fn finished(
     commit: bool,
     worked: Worked,
 ) -> Result<PlainRun, NoMemory>
-    ensures { IfOk result (λ run. (all : Option AllDone) (draws : List Draw) → DidAll all tables.now draws worked.answers.items worked.rows.items (length worked.drawn.items) worked.is_refused → IsMeaning (worked_def tables.now settings.now commit all) draws run) }
+    ensures { IfOk result (λ run. (all : Option AllDone) (draws : List Draw)
+        → DidAll all tables.now draws worked.answers.items worked.rows.items
+        (length worked.drawn.items) worked.is_refused
+        → IsMeaning (worked_def tables.now settings.now commit all) draws run) }
 {
     let Worked {
         answers,
@@ -115,8 +118,11 @@ fn run_work(
     commit: bool,
     draws: &[Draw],
 ) -> Result<PlainRun, PlainFault>
-    ensures ok { IfOk result (IsMeaning (worked_def tables.now settings.now commit (statements_done shape.now tables.now settings.now statements.now draws.now)) draws.now) }
-    ensures differ { IsErrOf result PlainFault.DrawsDiffer → worked_def tables.now settings.now commit (statements_done shape.now tables.now settings.now statements.now draws.now) ≡ None }
+    ensures ok { IfOk result (IsMeaning (worked_def tables.now settings.now commit
+        (statements_done shape.now tables.now settings.now statements.now draws.now)) draws.now) }
+    ensures differ { IsErrOf result PlainFault.DrawsDiffer
+        → worked_def tables.now settings.now commit
+        (statements_done shape.now tables.now settings.now statements.now draws.now) ≡ None }
 {
     let mut source = source_of(alloc, &shape.sequences, draws)?;
     let schemas = shape.schemas.as_slice();
@@ -134,7 +140,13 @@ fn run_alone(
     settings: Settings,
     answer: Answer,
 ) -> Result<PlainRun, NoMemory>
-    ensures { IfOk result (λ run. run ≡ record { answers = answer ∷ []; tables = tables.now; settings = settings; used = 0 }) }
+    ensures { IfOk result (λ run. run ≡ record {
+      answers = answer ∷ [];
+      tables =
+          tables.now;
+      settings = settings;
+      used = 0;
+    }) }
 {
     let answers = Vec::from_array(alloc, [answer])?;
     Ok(PlainRun {
@@ -172,8 +184,10 @@ pub fn plain_call(
     call: &Call,
     draws: &[Draw],
 ) -> Result<PlainRun, PlainFault>
-    ensures ok { IfOk result (IsMeaning (mean shape.now tables.now settings.now call.now draws.now) draws.now) }
-    ensures differ { IsErrOf result PlainFault.DrawsDiffer → mean shape.now tables.now settings.now call.now draws.now ≡ None }
+    ensures ok { IfOk result (IsMeaning (mean shape.now tables.now settings.now call.now draws.now)
+        draws.now) }
+    ensures differ { IsErrOf result PlainFault.DrawsDiffer
+        → mean shape.now tables.now settings.now call.now draws.now ≡ None }
     ensures base { IfOk result (λ run. IsBase shape.now tables.now → IsBase shape.now run.tables) }
 {
     match call {

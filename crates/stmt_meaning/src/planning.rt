@@ -50,7 +50,8 @@ fn key_plan(
     work: RowWork,
     key: Option<&Value>,
 ) -> Result<Plan, PlanFault>
-    ensures { IsPlanned result (key_plan_def (aim target.now) table.now work (option_copied key.entry)) }
+    ensures { IsPlanned result (key_plan_def (aim target.now) table.now work
+        (option_copied key.entry)) }
 {
     match key {
         Some(key) if is_column_kind(target.columns, 0, key.kind()) => Ok(Plan::AtRow {
@@ -69,7 +70,8 @@ fn set_plan(
     key: Option<&Value>,
     to: Option<&Value>,
 ) -> Result<Plan, PlanFault>
-    ensures { IsPlanned result (set_plan_def (aim target.now) table.now (option_copied key.entry) (option_copied to.entry)) }
+    ensures { IsPlanned result (set_plan_def (aim target.now) table.now (option_copied key.entry)
+        (option_copied to.entry)) }
 {
     let column = target.at;
     match to {
@@ -88,7 +90,8 @@ fn add_plan(
     key: Option<&Value>,
     by: Option<&Value>,
 ) -> Result<Plan, PlanFault>
-    ensures { IsPlanned result (add_plan_def (aim target.now) table.now (option_copied key.entry) (option_copied by.entry)) }
+    ensures { IsPlanned result (add_plan_def (aim target.now) table.now (option_copied key.entry)
+        (option_copied by.entry)) }
 {
     let column = target.at;
     match by {
@@ -107,7 +110,8 @@ fn change_plan(
     change: &Change,
     values: &Row,
 ) -> Result<Plan, PlanFault>
-    ensures { IsPlanned result (change_plan_def (aim target.now) table.now change.now (slice_get values.now 0) (slice_get values.now 1)) }
+    ensures { IsPlanned result (change_plan_def (aim target.now) table.now change.now
+        (slice_get values.now 0) (slice_get values.now 1)) }
 {
     match change {
         Change::To(_) => set_plan(alloc, target, table, values.get(0), values.get(1)),
@@ -122,7 +126,8 @@ fn select_plan(
     test: Test,
     than: Option<&Value>,
 ) -> Result<Plan, PlanFault>
-    ensures { IsPlanned result (select_plan_def (aim target.now) table.now test (option_copied than.entry)) }
+    ensures { IsPlanned result (select_plan_def (aim target.now) table.now test
+        (option_copied than.entry)) }
 {
     let column = target.at;
     match than {
@@ -142,7 +147,8 @@ fn select_plan(
 }
 
 fn insert_plan(alloc: Global, target: &Target, table: &Name, values: Row) -> Result<Plan, PlanFault>
-    ensures { IsPlanned result (if_kinds_fit (row_fits (aim target.now).columns values) (Plan.AtRow table.now (key_of values) (RowWork.Insert values))) }
+    ensures { IsPlanned result (if_kinds_fit (row_fits (aim target.now).columns values)
+        (Plan.AtRow table.now (key_of values) (RowWork.Insert values))) }
 {
     if !values_fit(target.columns, values.as_slice()) {
         return Err(PlanFault::Refused(StatementFault::KindDiffers));
@@ -170,7 +176,9 @@ fn show_plan(alloc: Global, shown: Option<&Value>) -> Result<Plan, PlanFault>
 }
 
 fn sum_plan(target: &Target, table: &Name) -> Result<Plan, PlanFault>
-    ensures { IsPlanned result (if_kinds_fit (is_column_kind_def (aim target.now).columns target.now.at Kind.Int) (Plan.InTable table.now (TableWork.Sum target.now.at))) }
+    ensures { IsPlanned result (if_kinds_fit
+        (is_column_kind_def (aim target.now).columns target.now.at Kind.Int)
+        (Plan.InTable table.now (TableWork.Sum target.now.at))) }
 {
     let column = target.at;
     if !is_column_kind(target.columns, column, Kind::Int) {

@@ -24,7 +24,8 @@ fn draw_value<F: DrawFrom>(
     drawn: &mut Vec<Draw>,
 ) -> Result<Value, Stop>
     requires { F.is_ready source.old }
-    ensures read { HasRead F.drew (λ given. taken (wanted_draw (F.names source.old) kind.now) given) source.old drawn.old.items result source.new drawn.new.items }
+    ensures read { HasRead F.drew (λ given. taken (wanted_draw (F.names source.old) kind.now) given)
+        source.old drawn.old.items result source.new drawn.new.items }
     ensures names { F.names source.new ≡ F.names source.old }
     ensures ready { F.is_ready source.new }
 {
@@ -43,7 +44,8 @@ fn value_of<F: DrawFrom>(
     drawn: &mut Vec<Draw>,
 ) -> Result<Value, Stop>
     requires { F.is_ready source.old }
-    ensures read { HasRead F.drew (λ given. value_of_def (F.names source.old) settings.now operand.now given) source.old drawn.old.items result source.new drawn.new.items }
+    ensures read { HasRead F.drew (λ given. value_of_def (F.names source.old) settings.now
+        operand.now given) source.old drawn.old.items result source.new drawn.new.items }
     ensures names { F.names source.new ≡ F.names source.old }
     ensures ready { F.is_ready source.new }
 {
@@ -66,7 +68,9 @@ fn values_of<F: DrawFrom>(
     drawn: &mut Vec<Draw>,
 ) -> Result<Row, Stop>
     requires { F.is_ready source.old }
-    ensures read { HasRead F.drew (λ given. values_of_def (F.names source.old) settings.now (operands_of statement.now) given) source.old drawn.old.items result source.new drawn.new.items }
+    ensures read { HasRead F.drew (λ given. values_of_def (F.names source.old) settings.now
+        (operands_of statement.now) given) source.old drawn.old.items result source.new
+        drawn.new.items }
     ensures names { F.names source.new ≡ F.names source.old }
     ensures ready { F.is_ready source.new }
 {
@@ -89,7 +93,9 @@ pub fn plan_of<F: DrawFrom>(
     drawn: &mut Vec<Draw>,
 ) -> Result<Plan, Stop>
     requires { F.is_ready source.old }
-    ensures read { HasRead F.drew (λ given. plan_of_def (record { schemas = schemas.now; sequences = F.names source.old }) settings.now statement.now given) source.old drawn.old.items result source.new drawn.new.items }
+    ensures read { HasRead F.drew (λ given.
+        plan_of_def (record { schemas = schemas.now; sequences = F.names source.old }) settings.now
+        statement.now given) source.old drawn.old.items result source.new drawn.new.items }
     ensures names { F.names source.new ≡ F.names source.old }
     ensures ready { F.is_ready source.new }
 {

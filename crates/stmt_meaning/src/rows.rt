@@ -24,7 +24,8 @@ use svc_values::{
 
 /// The row of a table and key. Linear in the rows.
 fn row_at<'a>(rows: &'a [PlainRow], table: &Name, key: &Value) -> Option<&'a Row>
-    ensures { option_copied result ≡ first_of (seen_at rows.now (Some (Place.Row table.now key.now))) }
+    ensures { option_copied result ≡ first_of
+        (seen_at rows.now (Some (Place.Row table.now key.now))) }
 {
     for row in rows {
         if stands_at(row, table, key) {
@@ -41,7 +42,8 @@ fn scan_table(
     table: &Name,
     work: TableWork,
 ) -> Result<Answer, NoMemory>
-    ensures { IfOk result (λ answer. answer ≡ table_answer work (seen_at rows.now (Some (Place.Table table.now)))) }
+    ensures { IfOk result (λ answer. answer
+        ≡ table_answer work (seen_at rows.now (Some (Place.Table table.now)))) }
 {
     let mut scan = Scan::new(alloc, work);
     for row in rows {
@@ -85,8 +87,12 @@ fn run_statement(
     source: &mut ListDraws,
     drawn: &mut Vec<Draw>,
 ) -> Result<Effect, TxnFault>
-    ensures done { IfOk result (λ effect. HadEffect (record { schemas = schemas.now; sequences = source.old.names }) rows.now settings.now statement.now source.old drawn.old.items effect source.new drawn.new.items) }
-    ensures ended { IfErr result (λ ended. Ends TakesFirst (one_left (record { schemas = schemas.now; sequences = source.old.names }) rows.now settings.now statement.now) source.old ended source.new) }
+    ensures done { IfOk result (λ effect.
+        HadEffect (record { schemas = schemas.now; sequences = source.old.names }) rows.now
+        settings.now statement.now source.old drawn.old.items effect source.new drawn.new.items) }
+    ensures ended { IfErr result (λ ended.
+        Ends TakesFirst (one_left (record { schemas = schemas.now; sequences = source.old.names })
+        rows.now settings.now statement.now) source.old ended source.new) }
     ensures names { source.new.names ≡ source.old.names }
 {
     match plan_of(alloc, schemas, settings, statement, source, drawn) {
@@ -118,8 +124,15 @@ fn run_next(
     source: &mut ListDraws,
     worked: &mut Worked,
 ) -> Result<(), TxnFault>
-    ensures done { OnOk result (RanNext (record { schemas = schemas.now; sequences = source.old.names }) settings.now statement.now source.old worked.old source.new worked.new) }
-    ensures ended { IfErr result (λ ended. Ends TakesFirst (one_left (record { schemas = schemas.now; sequences = source.old.names }) worked.old.rows.items settings.now statement.now) source.old ended source.new) }
+    ensures done { OnOk result (RanNext (record {
+      schemas = schemas.now;
+      sequences =
+          source.old.names;
+    }) settings.now statement.now source.old worked.old source.new
+        worked.new) }
+    ensures ended { IfErr result (λ ended.
+        Ends TakesFirst (one_left (record { schemas = schemas.now; sequences = source.old.names })
+        worked.old.rows.items settings.now statement.now) source.old ended source.new) }
     ensures names { source.new.names ≡ source.old.names }
 {
     let rows = worked.rows.as_slice();
@@ -141,8 +154,13 @@ pub(crate) fn run_statements(
     statements: &[Statement],
     source: &mut ListDraws,
 ) -> Result<Worked, TxnFault>
-    ensures done { IfOk result (λ worked. DidAll (statements_done (record { schemas = schemas.now; sequences = source.old.names }) tables.now settings.now statements.now source.old.draws) tables.now source.old.draws worked.answers.items worked.rows.items (length worked.drawn.items) worked.is_refused) }
-    ensures ended { IfErr result (λ ended. Ends TakesFirst (all_left (record { schemas = schemas.now; sequences = source.old.names }) tables.now settings.now statements.now) source.old ended source.new) }
+    ensures done { IfOk result (λ worked.
+        DidAll (statements_done (record { schemas = schemas.now; sequences = source.old.names })
+        tables.now settings.now statements.now source.old.draws) tables.now source.old.draws
+        worked.answers.items worked.rows.items (length worked.drawn.items) worked.is_refused) }
+    ensures ended { IfErr result (λ ended.
+        Ends TakesFirst (all_left (record { schemas = schemas.now; sequences = source.old.names })
+        tables.now settings.now statements.now) source.old ended source.new) }
 {
     let rows = copies(alloc, tables.as_slice())?;
     let mut worked = Worked {

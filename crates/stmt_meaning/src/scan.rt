@@ -56,7 +56,8 @@ fn selected(
     mut is_over: bool,
     row: &Row,
 ) -> Result<Scan, NoMemory>
-    ensures { IfOk result (λ scan. scan ≡ next_scan (Scan.Select column test value met is_over) row.now) }
+    ensures { IfOk result (λ scan. scan ≡ next_scan (Scan.Select column test value met is_over)
+        row.now) }
 {
     if value_meets(test, &value, row.get(column)) {
         if met.len() < 32 {
@@ -135,7 +136,8 @@ impl Scan {
     /// Whether no further row can change the answer: a select that 33 rows met is refused.
     pub fn is_settled(&self) -> bool
         ensures test { result ≡ is_settled_def self.now }
-        ensures settled { IsTrue result → (rows : List (List Kept)) → last_answer (fold next_scan self.now rows) ≡ last_answer self.now }
+        ensures settled { IsTrue result → (rows : List (List Kept))
+            → last_answer (fold next_scan self.now rows) ≡ last_answer self.now }
     {
         match self {
             Scan::Select { is_over, .. } => *is_over,

@@ -38,7 +38,8 @@ fn in_column<'a>(
     table: &Name,
     column: &Name,
 ) -> Result<Target<'a>, StatementFault>
-    ensures { aim_seen result ≡ in_table_def (schema_of_def schemas.now table.now) (in_column_def column.now) }
+    ensures { aim_seen result ≡ in_table_def (schema_of_def schemas.now table.now)
+        (in_column_def column.now) }
 {
     let Some(schema) = schema_of(schemas, table) else {
         return Err(StatementFault::NoTable);

@@ -35,13 +35,15 @@ abbrev pub marks_of : Kept → Marks
 marks_of k = record { completed = completed_of k.entries; blocked = is_blocked k.blocked }
 
 abbrev pub has_entry : Option Bool → Outcome → Bool
-has_entry mark outcome = same_bool outcome.committed (is_some mark) && option_map_or (same_bool outcome.completed) mark true
+has_entry mark outcome = same_bool outcome.committed (is_some mark)
+    && option_map_or (same_bool outcome.completed) mark true
 
 abbrev pub has_block : Bool → Outcome → Bool
 has_block blocked outcome = outcome.committed || (not outcome.completed && blocked)
 
 abbrev pub is_stored : Marks → Outcome → Bool
-is_stored marks outcome = has_entry (marks.completed outcome.ltxid) outcome && has_block (marks.blocked outcome.ltxid) outcome
+is_stored marks outcome = has_entry (marks.completed outcome.ltxid) outcome
+    && has_block (marks.blocked outcome.ltxid) outcome
 
 abbrev pub are_stored : Marks → RequestReport → Bool
 are_stored marks request = list_all (is_stored marks) request.outcomes
@@ -75,10 +77,12 @@ is_answer marks timing event x answer =
 
 abbrev pub is_rightly_forgotten : ℕ → Ltxid → AskResult → Bool
 is_rightly_forgotten horizon x answer =
-    same_bool (is_forgotten answer) (nat_lt x.incarnation horizon) && (not (is_forgotten answer) || says_forgotten answer horizon)
+    same_bool (is_forgotten answer) (nat_lt x.incarnation horizon)
+    && (not (is_forgotten answer) || says_forgotten answer horizon)
 
 abbrev pub is_item_right : Marks → Timing → ℕ → Item → Bool
-is_item_right marks timing event (item.Outcome x answer) = is_answer marks timing event x answer && is_rightly_forgotten (timing.horizon event) x answer
+is_item_right marks timing event (item.Outcome x answer) =
+    is_answer marks timing event x answer && is_rightly_forgotten (timing.horizon event) x answer
 is_item_right marks timing event _ = true
 
 abbrev pub is_right_at : Marks → Timing → ℕ → Happened → Bool

@@ -18,10 +18,12 @@ is_told_right marks timing report all =
 
 -- the answers and the order of blocks
 abbrev pub are_blocks : List Ltxid → List Ltxid → List HappenedAt → Bool
-are_blocks before blocked all = blocks_answered (answered_in all) blocked && blocks_in_order before (answered_in all) blocked
+are_blocks before blocked all = blocks_answered (answered_in all) blocked
+    && blocks_in_order before (answered_in all) blocked
 
 -- all lines but that of the image
 abbrev pub is_stored_right : Document → Report → Bool
 is_stored_right document report =
     let k = kept_by document report in
-    outcomes_stored k report && (answers_right k report && (forgotten_fits document report && (blocked_or_entry k && blocks_fit document report)))
+    outcomes_stored k report && (answers_right k report
+    && (forgotten_fits document report && (blocked_or_entry k && blocks_fit document report)))

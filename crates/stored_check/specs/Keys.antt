@@ -22,4 +22,5 @@ or_else (Some a) other = Some a
 
 -- the mark of an identifier, and else that of this entry where it has the identifier
 abbrev pub first_of : Option Bool → Entry → Ltxid → Option Bool
-first_of mark entry x = or_else mark (if same_ltxid entry.ltxid x then Some entry.completed else None)
+first_of mark entry x = or_else mark (if same_ltxid entry.ltxid x then Some entry.completed else
+    None)

@@ -11,7 +11,8 @@ use Rattle.svc_values.specs.meaning.Fitting.{is_row_of}
 
 -- each row stands in a table that is declared, fits its columns and has its key first
 abbrev pub tables_fit : List Schema → List PlainRow → Bool
-tables_fit schemas tables = list_all (λ one. is_row_of (schema_of schemas one.table) one.key one.row) tables
+tables_fit schemas tables = list_all (λ one. is_row_of (schema_of schemas one.table) one.key
+    one.row) tables
 
 -- tables of this shape: in order, and each row fits
 pub record IsBase (shape : Shape) (tables : List PlainRow) : Type 0 where

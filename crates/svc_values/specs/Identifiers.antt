@@ -9,4 +9,5 @@ IsLtxid x = (x.incarnation ≤ 2 ^ 63) × (x.session ≤ 2 ^ 63) × (x.number �
 
 -- the same as a test
 abbrev pub is_ltxid : Ltxid → Bool
-is_ltxid x = nat_le x.incarnation (2 ^ 63) && (nat_le x.session (2 ^ 63) && nat_le x.number (2 ^ 63))
+is_ltxid x = nat_le x.incarnation (2 ^ 63)
+    && (nat_le x.session (2 ^ 63) && nat_le x.number (2 ^ 63))

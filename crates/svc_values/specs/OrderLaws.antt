@@ -86,10 +86,12 @@ bytes_of (value.Text text) = text
 bytes_of (value.Bytes bytes) = bytes
 
 abbrev cmp_by_parts : Value → Value → Ordering
-cmp_by_parts = then_cmp (on place_of_kind nat_cmp) (then_cmp (on number_of int_cmp) (on bytes_of (slice_cmp nat_cmp)))
+cmp_by_parts = then_cmp (on place_of_kind nat_cmp)
+    (then_cmp (on number_of int_cmp) (on bytes_of (slice_cmp nat_cmp)))
 
 cmp_by_parts_total : IsTotalOrder cmp_by_parts
-cmp_by_parts_total = then_total (on_total place_of_kind nat_cmp_total) (then_total (on_total number_of int_cmp_total) (on_total bytes_of nat_list_cmp_total))
+cmp_by_parts_total = then_total (on_total place_of_kind nat_cmp_total)
+    (then_total (on_total number_of int_cmp_total) (on_total bytes_of nat_list_cmp_total))
 
 then_equal : (o : Ordering) → o ≡ ordering_then o Equal
 then_equal Less = refl
@@ -110,9 +112,12 @@ by_parts (value.Bytes a) (value.Bytes b) = refl
 -- the order is total
 pub value_cmp_total : IsTotalOrder value_cmp
 value_cmp_total = record {
-  antisymm = λ x y. by_parts x y ∙ (cmp_by_parts_total.antisymm x y ∙ ap ordering_reverse (sym (by_parts y x)));
-  trans = λ x y z h k. by_parts x z ∙ cmp_by_parts_total.trans x y z (sym (by_parts x y) ∙ h) (sym (by_parts y z) ∙ k);
-  congr = λ x y z h. by_parts x z ∙ (cmp_by_parts_total.congr x y z (sym (by_parts x y) ∙ h) ∙ sym (by_parts y z));
+  antisymm = λ x y. by_parts x y ∙ (cmp_by_parts_total.antisymm x y ∙ ap ordering_reverse
+      (sym (by_parts y x)));
+  trans = λ x y z h k. by_parts x z ∙ cmp_by_parts_total.trans x y z (sym (by_parts x y) ∙ h)
+      (sym (by_parts y z) ∙ k);
+  congr = λ x y z h. by_parts x z ∙ (cmp_by_parts_total.congr x y z (sym (by_parts x y) ∙ h) ∙
+      sym (by_parts y z));
 }
 
 -- ---- places
@@ -130,10 +135,12 @@ table_of (place.Row table key) = table
 table_of (place.Table table) = table
 
 abbrev place_by_parts : Place → Place → Ordering
-place_by_parts = then_cmp (on rank_of nat_cmp) (then_cmp (on key_of value_cmp) (on table_of (slice_cmp nat_cmp)))
+place_by_parts = then_cmp (on rank_of nat_cmp)
+    (then_cmp (on key_of value_cmp) (on table_of (slice_cmp nat_cmp)))
 
 place_by_parts_total : IsTotalOrder place_by_parts
-place_by_parts_total = then_total (on_total rank_of nat_cmp_total) (then_total (on_total key_of value_cmp_total) (on_total table_of nat_list_cmp_total))
+place_by_parts_total = then_total (on_total rank_of nat_cmp_total)
+    (then_total (on_total key_of value_cmp_total) (on_total table_of nat_list_cmp_total))
 
 by_rank : (a b : Place) → place_cmp a b ≡ place_by_parts a b
 by_rank (place.Row t k) (place.Row u l) = refl
@@ -143,9 +150,12 @@ by_rank (place.Table t) (place.Table u) = refl
 
 pub place_cmp_total : IsTotalOrder place_cmp
 place_cmp_total = record {
-  antisymm = λ x y. by_rank x y ∙ (place_by_parts_total.antisymm x y ∙ ap ordering_reverse (sym (by_rank y x)));
-  trans = λ x y z h k. by_rank x z ∙ place_by_parts_total.trans x y z (sym (by_rank x y) ∙ h) (sym (by_rank y z) ∙ k);
-  congr = λ x y z h. by_rank x z ∙ (place_by_parts_total.congr x y z (sym (by_rank x y) ∙ h) ∙ sym (by_rank y z));
+  antisymm = λ x y. by_rank x y ∙ (place_by_parts_total.antisymm x y ∙ ap ordering_reverse
+      (sym (by_rank y x)));
+  trans = λ x y z h k. by_rank x z ∙ place_by_parts_total.trans x y z (sym (by_rank x y) ∙ h)
+      (sym (by_rank y z) ∙ k);
+  congr = λ x y z h. by_rank x z ∙ (place_by_parts_total.congr x y z (sym (by_rank x y) ∙ h) ∙
+      sym (by_rank y z));
 }
 
 and_flipped : (a b : Bool) → (a && b) ≡ (b && a)
@@ -155,13 +165,17 @@ and_flipped false true = refl
 and_flipped false false = refl
 
 value_tied : (a b : Value) → same_value a b ≡ is_eq (value_cmp a b)
-value_tied a b = one_answer (same_value a b) (is_eq (value_cmp a b)) (same_value_decides a b) (λ h. exact_values a b ((Equal-is (value_cmp a b)).0 h), λ e. ap is_eq (sym (ap (value_cmp a) e) ∙ tied_itself value_cmp_total a))
+value_tied a b = one_answer (same_value a b) (is_eq (value_cmp a b)) (same_value_decides a b) (
+  λ h. exact_values a b ((Equal-is (value_cmp a b)).0 h),
+  λ e. ap is_eq (sym (ap (value_cmp a) e) ∙ tied_itself value_cmp_total a),
+)
 
 -- two places are equal in the order exactly where they are the same
 pub place_tied : (a b : Place) → same_place a b ≡ is_eq (place_cmp a b)
 place_tied (place.Row t k) (place.Row u l) =
     and_flipped (bytes_eq t u) (same_value k l)
-    ∙ both_tied (same_value k l) (bytes_eq t u) (value_cmp k l) (slice_cmp nat_cmp t u) (value_tied k l) (sym (is_eq-slice_cmp t u))
+    ∙ both_tied (same_value k l) (bytes_eq t u) (value_cmp k l) (slice_cmp nat_cmp t u)
+    (value_tied k l) (sym (is_eq-slice_cmp t u))
 place_tied (place.Row t k) (place.Table u) = refl
 place_tied (place.Table t) (place.Row u l) = refl
 place_tied (place.Table t) (place.Table u) = sym (is_eq-slice_cmp t u)
@@ -180,4 +194,5 @@ pub place_cmp_agrees : Agrees (as_partial_cmp place_cmp) place_cmp
 place_cmp_agrees a b = refl
 
 pub place_cmp_partial : IsPartialOrder eq-place.it (as_partial_cmp place_cmp)
-place_cmp_partial = partial_order_from_agreeing_total place_cmp place_cmp_total place_cmp_agrees place_ties
+place_cmp_partial = partial_order_from_agreeing_total place_cmp place_cmp_total place_cmp_agrees
+    place_ties

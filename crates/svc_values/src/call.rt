@@ -48,8 +48,10 @@ impl Call {
     /// eight statements and a commit. It takes no memory.
     pub fn work(statements: Statements, commit: bool) -> Result<Call, CallFault>
         ensures made { IfOk result (λ call. call ≡ Call.Work statements commit) }
-        ensures empty { IsErrOf result CallFault.Empty ↔ (length statements ≡ 0) × (commit ≡ false) }
-        ensures many { IsErrOf result CallFault.TooMany ↔ (8 ≤ length statements) × (commit ≡ true) }
+        ensures empty { IsErrOf result CallFault.Empty ↔ (length statements ≡ 0)
+            × (commit ≡ false) }
+        ensures many { IsErrOf result CallFault.TooMany ↔ (8 ≤ length statements)
+            × (commit ≡ true) }
         ensures is_made { IfOk result IsMade }
     {
         if statements.is_empty() && !commit {

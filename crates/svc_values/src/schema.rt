@@ -102,7 +102,8 @@ impl Schema {
     pub fn new(name: Name, columns: Columns) -> Result<Schema, SchemaFault>
         ensures made { IfOk result (λ schema. schema ≡ record { name = name; columns = columns }) }
         ensures empty { IsErrOf result SchemaFault.Empty ↔ (columns ≡ []) }
-        ensures same_name { IsErrOf result SchemaFault.SameName ↔ (have_distinct_names columns ≡ false) }
+        ensures same_name { IsErrOf result SchemaFault.SameName
+            ↔ (have_distinct_names columns ≡ false) }
         ensures declared { IfOk result IsDeclared }
     {
         if columns.is_empty() {

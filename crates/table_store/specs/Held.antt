@@ -41,14 +41,17 @@ is_up_to key row = not (is_lt (value_cmp key (key_of row)))
 
 -- the rows before the place are outside a start, and the others inside
 abbrev pub StartsAt : Bound Value → List (List Value) → ℕ → Type 0
-StartsAt lo rows at = IsPartitionPoint (λ row. is_from_start value_cmp lo (key_of row) ≡ false) (λ row. is_from_start value_cmp lo (key_of row) ≡ true) rows at
+StartsAt lo rows at = IsPartitionPoint (λ row. is_from_start value_cmp lo (key_of row) ≡ false)
+    (λ row. is_from_start value_cmp lo (key_of row) ≡ true) rows at
 
 -- the rows before the place are inside an end, and the others past it
 abbrev pub EndsAt : Bound Value → List (List Value) → ℕ → Type 0
-EndsAt hi rows at = IsPartitionPoint (λ row. is_past_end value_cmp hi (key_of row) ≡ false) (λ row. is_past_end value_cmp hi (key_of row) ≡ true) rows at
+EndsAt hi rows at = IsPartitionPoint (λ row. is_past_end value_cmp hi (key_of row) ≡ false)
+    (λ row. is_past_end value_cmp hi (key_of row) ≡ true) rows at
 
 -- a row was put at its key, or is given back and nothing has changed
-abbrev pub PutsRow : List (List Value) → Value → List Value → Option (List Value) → List (List Value) → Type 0
+abbrev pub PutsRow : List (List Value) → Value → List Value → Option (List Value)
+    → List (List Value) → Type 0
 PutsRow old key row None new = map keyed new ≡ insert_entry value_cmp (map keyed old) key row
 PutsRow old key row (Some left) new = (left ≡ row) × (new ≡ old)
 

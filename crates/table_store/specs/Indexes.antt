@@ -52,7 +52,8 @@ is_value (Some w) v = is_eq (value_cmp w v)
 
 -- the index has the key of each row at its value in the column, and nothing else
 abbrev pub IsIndexOf : (Value → Option (List Value)) → ColumnIndex → Type 0
-IsIndexOf row_of index = (v k : Value) → has_pair index.pairs.keys v k ≡ is_value (value_in (row_of k) index.column) v
+IsIndexOf row_of index = (v k : Value) → has_pair index.pairs.keys v k
+    ≡ is_value (value_in (row_of k) index.column) v
 
 abbrev pub AreIndexesOf : (Value → Option (List Value)) → List ColumnIndex → Type 0
 AreIndexesOf row_of indexes = AllByRecursion (IsIndexOf row_of) indexes
@@ -64,11 +65,18 @@ is_spot_of (spot.At k) q = is_eq (value_cmp k q)
 is_spot_of spot.Behind q = false
 
 -- the rows with this one, or none, at one key
-abbrev pub with_row : (Value → Option (List Value)) → Value → Option (List Value) → Value → Option (List Value)
+abbrev pub with_row : (Value → Option (List Value)) → Value → Option (List Value) → Value
+    → Option (List Value)
 with_row row_of key row k = if is_eq (value_cmp key k) then row else row_of k
 
 -- where the pairs begin and end whose values meet a test
 abbrev pub ends : Test → Value → Bound Pair × Bound Pair
-ends test.Eq than = (Included (record { value = than; spot = spot.Before }), Included (record { value = than; spot = spot.Behind }))
+ends test.Eq than = (
+  Included (record {
+    value = than;
+    spot = spot.Before;
+  }),
+  Included (record { value = than; spot = spot.Behind }),
+)
 ends test.Lt than = (Unbounded, Excluded (record { value = than; spot = spot.Before }))
 ends test.Ge than = (Included (record { value = than; spot = spot.Before }), Unbounded)

@@ -33,7 +33,8 @@ Shelves = List (List ℕ × Keyed)
 
 -- in order of name, none twice, and each in order of key
 abbrev pub IsShelved : Shelves → Type 0
-IsShelved shelves = IsStrictlySortedBy (slice_cmp nat_cmp) (keys_of shelves) × AllByRecursion (λ one. KeysRise one.1) shelves
+IsShelved shelves = IsStrictlySortedBy (slice_cmp nat_cmp) (keys_of shelves)
+    × AllByRecursion (λ one. KeysRise one.1) shelves
 
 -- the rows of the table of a name
 abbrev pub shelf_of : Shelves → List ℕ → Option Keyed

@@ -18,7 +18,8 @@ at_most_32 rows = if nat_lt 32 (length rows) then None else Some rows
 
 -- the rows whose value in the column meets the test, each with its key
 abbrev pub meeting : ℕ → Test → Value → Keyed → Keyed
-meeting column compared than rows = filter (λ entry. value_meets compared than (slice_get entry.1 column)) rows
+meeting column compared than rows = filter (λ entry. value_meets compared than
+    (slice_get entry.1 column)) rows
 
 -- where the values begin and end that meet a test
 abbrev pub values_between : Test → Value → Bound Value × Bound Value

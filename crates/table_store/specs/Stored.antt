@@ -32,4 +32,7 @@ pub record IsStored (schemas : List Schema) (shelves : Shelves) : Type 0 where
 
 -- the tables after the first few of the writes
 abbrev pub HasSome : Stored → List Write → Stored → Type 0
-HasSome old writes new = (n : ℕ) × (new ≡ record { schemas = old.schemas; rows = with_writes old.rows (take n writes) })
+HasSome old writes new = (n : ℕ) × (new ≡ record {
+  schemas = old.schemas;
+  rows = with_writes old.rows (take n writes);
+})

@@ -107,7 +107,10 @@ impl ColumnIndex {
     /// Puts a key in at its value, if there is one: the logarithm of the number of pairs.
     pub(crate) fn put(&mut self, value: Option<&Value>, key: &Value) -> Result<(), NoMemory>
         ensures column { self.new.column ≡ self.old.column }
-        ensures ok { OnOk result ((v k : ValueSeen) → has_pair self.new.pairs.keys v k ≡ (if is_value (option_copied value.entry) v && is_eq (value_cmp key.now k) then true else has_pair self.old.pairs.keys v k)) }
+        ensures ok { OnOk result ((v k : ValueSeen)
+            → has_pair self.new.pairs.keys v k
+            ≡ (if is_value (option_copied value.entry) v && is_eq (value_cmp key.now k) then
+            true else has_pair self.old.pairs.keys v k)) }
     {
         match value {
             None => Ok(()),
@@ -122,7 +125,10 @@ impl ColumnIndex {
     /// Takes a key away at its value, if there is one: the logarithm of the number of pairs.
     fn take_away(&mut self, value: Option<&Value>, key: &Value) -> Result<(), NoMemory>
         ensures column { self.new.column ≡ self.old.column }
-        ensures ok { OnOk result ((v k : ValueSeen) → has_pair self.new.pairs.keys v k ≡ (if is_value (option_copied value.entry) v && is_eq (value_cmp key.now k) then false else has_pair self.old.pairs.keys v k)) }
+        ensures ok { OnOk result ((v k : ValueSeen)
+            → has_pair self.new.pairs.keys v k
+            ≡ (if is_value (option_copied value.entry) v && is_eq (value_cmp key.now k) then
+            false else has_pair self.old.pairs.keys v k)) }
     {
         match value {
             None => Ok(()),
@@ -142,9 +148,14 @@ impl ColumnIndex {
         before: Option<&Row>,
         after: Option<&Row>,
     ) -> Result<(), NoMemory>
-        requires { (v : ValueSeen) → has_pair self.old.pairs.keys v key.now ≡ is_value (value_in_def (option_copied before) self.old.column) v }
+        requires { (v : ValueSeen) → has_pair self.old.pairs.keys v key.now
+            ≡ is_value (value_in_def (option_copied before) self.old.column) v }
         ensures column { self.new.column ≡ self.old.column }
-        ensures ok { OnOk result ((v k : ValueSeen) → has_pair self.new.pairs.keys v k ≡ (if is_eq (value_cmp key.now k) then is_value (value_in_def (option_copied after.entry) self.old.column) v else has_pair self.old.pairs.keys v k)) }
+        ensures ok { OnOk result ((v k : ValueSeen)
+            → has_pair self.new.pairs.keys v k
+            ≡ (if is_eq (value_cmp key.now k) then
+            is_value (value_in_def (option_copied after.entry) self.old.column) v else
+            has_pair self.old.pairs.keys v k)) }
     {
         let was = value_in(before, self.column);
         let is = value_in(after, self.column);

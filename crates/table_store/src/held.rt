@@ -102,7 +102,9 @@ impl Held {
     /// is linear.
     pub(crate) fn put(&mut self, alloc: Global, key: Value, row: Row) -> Result<(), NoMemory>
         requires { KeysRise (held_entries self.old) }
-        ensures ok { OnOk result ((q : ValueSeen) → keyed_of (held_entries self.new) q ≡ (if is_eq (value_cmp key q) then Some row else keyed_of (held_entries self.old) q)) }
+        ensures ok { OnOk result ((q : ValueSeen)
+            → keyed_of (held_entries self.new) q
+            ≡ (if is_eq (value_cmp key q) then Some row else keyed_of (held_entries self.old) q)) }
         ensures err { OnErr result (held_entries self.new ≡ held_entries self.old) }
         ensures rising { KeysRise (held_entries self.new) }
     {
@@ -127,7 +129,9 @@ impl Held {
     /// row that is taken turns a vector into a map, which is linear.
     pub(crate) fn take_away(&mut self, alloc: Global, key: &Value) -> Result<(), NoMemory>
         requires { KeysRise (held_entries self.old) }
-        ensures ok { OnOk result ((q : ValueSeen) → keyed_of (held_entries self.new) q ≡ (if is_eq (value_cmp key.now q) then None else keyed_of (held_entries self.old) q)) }
+        ensures ok { OnOk result ((q : ValueSeen)
+            → keyed_of (held_entries self.new) q
+            ≡ (if is_eq (value_cmp key.now q) then None else keyed_of (held_entries self.old) q)) }
         ensures err { OnErr result (held_entries self.new ≡ held_entries self.old) }
         ensures rising { KeysRise (held_entries self.new) }
     {
@@ -152,7 +156,9 @@ impl Held {
 /// Holds rows, the last one of each key. They are moved. Rows whose keys rise are held in a vector,
 /// and others in a map: n log n for n rows, and linear for those in order of key.
 pub(crate) fn filled(alloc: Global, rows: Vec<Row>) -> Result<Held, NoMemory>
-    ensures by_key { IfOk result (λ made. (q : ValueSeen) → keyed_of (held_entries made) q ≡ update_all (eq_by_cmp value_cmp) (λ _. None) (map keyed rows.items) q) }
+    ensures by_key { IfOk result (λ made. (q : ValueSeen)
+        → keyed_of (held_entries made) q
+        ≡ update_all (eq_by_cmp value_cmp) (λ _. None) (map keyed rows.items) q) }
     ensures rising { IfOk result (λ made. KeysRise (held_entries made)) }
 {
     if rise(rows.as_slice()) {
@@ -179,7 +185,8 @@ pub(crate) fn is_same(one: Form<'_>, other: Form<'_>) -> bool
 
 /// Whether the row that is held has this key and is this one.
 fn is_entry(held: &Row, key: &Value, row: &Row) -> bool
-    ensures { result ≡ (same_value (key_of_def held.now) key.now && pointwise same_value held.now row.now) }
+    ensures { result ≡ (same_value (key_of_def held.now) key.now
+        && pointwise same_value held.now row.now) }
 {
     is_key_of(key, held) && *held == *row
 }
@@ -246,7 +253,9 @@ fn entries_of(alloc: Global, rows: Vec<Row>) -> Result<Vec<(Value, Row)>, NoMemo
 
 /// The rows by their keys, the last one of each key.
 fn map_of(alloc: Global, rows: Vec<Row>) -> Result<BTreeMap<Value, Row>, NoMemory>
-    ensures by_key { IfOk result (λ made. (q : ValueSeen) → keyed_of made.entries q ≡ update_all (eq_by_cmp value_cmp) (λ _. None) (map keyed rows.items) q) }
+    ensures by_key { IfOk result (λ made. (q : ValueSeen)
+        → keyed_of made.entries q ≡ update_all (eq_by_cmp value_cmp) (λ _. None)
+        (map keyed rows.items) q) }
     ensures rising { IfOk result (λ made. KeysRise made.entries) }
 {
     let entries = entries_of(alloc, rows)?;
@@ -256,7 +265,8 @@ fn map_of(alloc: Global, rows: Vec<Row>) -> Result<BTreeMap<Value, Row>, NoMemor
 /// Copies of rows whose keys rise, by their keys. Linear.
 fn mapped(alloc: Global, rows: &[Row]) -> Result<BTreeMap<Value, Row>, NoMemory>
     requires { KeysRise (map keyed rows.now) }
-    ensures same { IfOk result (λ made. (q : ValueSeen) → keyed_of made.entries q ≡ keyed_of (map keyed rows.now) q) }
+    ensures same { IfOk result (λ made. (q : ValueSeen)
+        → keyed_of made.entries q ≡ keyed_of (map keyed rows.now) q) }
     ensures rising { IfOk result (λ made. KeysRise made.entries) }
 {
     map_of(alloc, copied_rows(alloc, rows)?)

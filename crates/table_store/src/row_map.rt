@@ -110,7 +110,9 @@ impl RowMap {
     /// rows where they are not shared, and else copies them first. Once for a table it is linear:
     /// at the first row that is neither put in the place of another nor behind all others.
     pub fn put(&mut self, key: Value, row: Row) -> Result<(), NoMemory>
-        ensures ok { OnOk result ((q : ValueSeen) → keyed_of self.new q ≡ (if is_eq (value_cmp key q) then Some row else keyed_of self.old q)) }
+        ensures ok { OnOk result ((q : ValueSeen)
+            → keyed_of self.new q ≡ (if is_eq (value_cmp key q) then Some row else keyed_of
+            self.old q)) }
         ensures err { OnErr result (self.new ≡ self.old) }
         ensures rising { KeysRise self.new }
     {
@@ -130,7 +132,9 @@ impl RowMap {
     /// moved. Where there are none yet, it is linear in rows in order of key, and else n log n for
     /// n rows. After a refusal some of the rows are in.
     pub(crate) fn put_all(&mut self, rows: Vec<Row>) -> Result<(), NoMemory>
-        ensures ok { OnOk result ((q : ValueSeen) → keyed_of self.new q ≡ update_all (eq_by_cmp value_cmp) (keyed_of self.old) (map keyed rows.items) q) }
+        ensures ok { OnOk result ((q : ValueSeen)
+            → keyed_of self.new q ≡ update_all (eq_by_cmp value_cmp) (keyed_of self.old)
+            (map keyed rows.items) q) }
         ensures rising { KeysRise self.new }
     {
         if self.len() == 0 {
@@ -145,7 +149,9 @@ impl RowMap {
 
     /// The same where there are none.
     fn fill(&mut self, rows: Vec<Row>) -> Result<(), NoMemory>
-        ensures ok { OnOk result ((q : ValueSeen) → keyed_of self.new q ≡ update_all (eq_by_cmp value_cmp) (λ _. None) (map keyed rows.items) q) }
+        ensures ok { OnOk result ((q : ValueSeen)
+            → keyed_of self.new q ≡ update_all (eq_by_cmp value_cmp) (λ _. None)
+            (map keyed rows.items) q) }
         ensures rising { KeysRise self.new }
     {
         let held = filled(self.alloc, rows)?;
@@ -155,7 +161,9 @@ impl RowMap {
 
     /// Takes the row of a key away, if there is one. It costs what `put` does.
     pub(crate) fn take_away(&mut self, key: &Value) -> Result<(), NoMemory>
-        ensures ok { OnOk result ((q : ValueSeen) → keyed_of self.new q ≡ (if is_eq (value_cmp key.now q) then None else keyed_of self.old q)) }
+        ensures ok { OnOk result ((q : ValueSeen)
+            → keyed_of self.new q ≡ (if is_eq (value_cmp key.now q) then None else keyed_of
+            self.old q)) }
         ensures err { OnErr result (self.new ≡ self.old) }
         ensures rising { KeysRise self.new }
     {

@@ -51,7 +51,8 @@ pub(crate) fn found_in(
     but: &BTreeMap<Value, usize>,
 ) -> Result<Option<BTreeMap<Value, Row>>, NoMemory>
     requires { KeysFirst rows.now }
-    ensures found { IfOk result (λ found. option_map (λ rows. rows.entries) found ≡ at_most_32 (apart_from but.now (meeting column test value.now rows.now))) }
+    ensures found { IfOk result (λ found. option_map (λ rows. rows.entries) found
+        ≡ at_most_32 (apart_from but.now (meeting column test value.now rows.now))) }
     ensures rising { KeysRise rows.now }
 {
     match rows.form() {
@@ -70,7 +71,8 @@ fn found_sorted(
     but: &BTreeMap<Value, usize>,
 ) -> Result<Option<BTreeMap<Value, Row>>, NoMemory>
     requires { KeysRise (map keyed rows.now) }
-    ensures { IfOk result (λ found. option_map (λ rows. rows.entries) found ≡ at_most_32 (apart_from but.now (meeting column test value.now (map keyed rows.now)))) }
+    ensures { IfOk result (λ found. option_map (λ rows. rows.entries) found
+        ≡ at_most_32 (apart_from but.now (meeting column test value.now (map keyed rows.now)))) }
 {
     let mut found = BTreeMap::new(alloc);
     let (from, to) = keys_sought(column, test, value);
@@ -101,7 +103,8 @@ fn found_mapped(
 ) -> Result<Option<BTreeMap<Value, Row>>, NoMemory>
     requires first { KeysFirst rows.now.entries }
     requires rising { KeysRise rows.now.entries }
-    ensures { IfOk result (λ found. option_map (λ rows. rows.entries) found ≡ at_most_32 (apart_from but.now (meeting column test value.now rows.now.entries))) }
+    ensures { IfOk result (λ found. option_map (λ rows. rows.entries) found
+        ≡ at_most_32 (apart_from but.now (meeting column test value.now rows.now.entries))) }
 {
     let mut found = BTreeMap::new(alloc);
     for (key, row) in rows.range(keys_sought(column, test, value)) {
@@ -123,7 +126,11 @@ fn take_row(
     pair: &Pair,
     found: &mut BTreeMap<Value, Row>,
 ) -> Result<(), NoMemory>
-    ensures { OnOk result ((q : ValueSeen) → keyed_of found.new.entries q ≡ (if is_spot_of pair.now.spot q && not (is_among but.now q) then option_or (keyed_of rows.now q) (keyed_of found.old.entries q) else keyed_of found.old.entries q)) }
+    ensures { OnOk result ((q : ValueSeen)
+        → keyed_of found.new.entries q ≡ (if is_spot_of pair.now.spot q
+        && not (is_among but.now q) then
+        option_or (keyed_of rows.now q) (keyed_of found.old.entries q) else keyed_of
+        found.old.entries q)) }
 {
     let Spot::At(key) = &pair.spot else {
         return Ok(());
@@ -149,7 +156,8 @@ pub(crate) fn found_by(
     but: &BTreeMap<Value, usize>,
 ) -> Result<Option<BTreeMap<Value, Row>>, NoMemory>
     requires { IsIndexOf (keyed_of rows.now) index.now }
-    ensures { IfOk result (λ found. option_map (λ rows. rows.entries) found ≡ at_most_32 (apart_from but.now (meeting index.now.column test value.now rows.now))) }
+    ensures { IfOk result (λ found. option_map (λ rows. rows.entries) found
+        ≡ at_most_32 (apart_from but.now (meeting index.now.column test value.now rows.now))) }
 {
     let _ = rows.form();
     let mut found = BTreeMap::new(alloc);

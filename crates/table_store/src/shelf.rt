@@ -57,7 +57,11 @@ fn index_of(alloc: Global, rows: &RowMap, column: usize) -> Result<ColumnIndex, 
 /// Puts the key of a row in at its value in the column.
 fn put_key(made: &mut ColumnIndex, row: &Row) -> Result<(), NoMemory>
     ensures column { made.new.column ≡ made.old.column }
-    ensures ok { OnOk result ((v k : ValueSeen) → has_pair made.new.pairs.keys v k ≡ (if is_value (slice_get row.now made.old.column) v && is_eq (value_cmp (key_of_def row.now) k) then true else has_pair made.old.pairs.keys v k)) }
+    ensures ok { OnOk result ((v k : ValueSeen)
+        → has_pair made.new.pairs.keys v k
+        ≡ (if is_value (slice_get row.now made.old.column) v
+        && is_eq (value_cmp (key_of_def row.now) k) then true else
+        has_pair made.old.pairs.keys v k)) }
 {
     let column = made.column;
     match row.get(0) {
@@ -102,7 +106,8 @@ fn changed(
     after: Option<&Row>,
 ) -> Result<Vec<ColumnIndex>, NoMemory>
     requires { AreIndexesOf (keyed_of rows.now) indexes.items }
-    ensures made { IfOk result (λ made. AreIndexesOf (with_row (keyed_of rows.now) key.now (option_copied after.entry)) made.items) }
+    ensures made { IfOk result (λ made. AreIndexesOf
+        (with_row (keyed_of rows.now) key.now (option_copied after.entry)) made.items) }
     ensures rising { KeysRise rows.now }
 {
     let _ = rows.form();
@@ -162,7 +167,9 @@ impl Shelf {
     /// moved. Where there are none yet, it is linear in rows in order of key, and else n log n for
     /// n rows. The indexes are dropped. After a refusal some of the rows are in.
     pub(crate) fn put_all(&mut self, rows: Vec<Row>) -> Result<(), NoMemory>
-        ensures ok { OnOk result ((q : ValueSeen) → keyed_of self.new q ≡ update_all (eq_by_cmp value_cmp) (keyed_of self.old) (map keyed rows.items) q) }
+        ensures ok { OnOk result ((q : ValueSeen)
+            → keyed_of self.new q ≡ update_all (eq_by_cmp value_cmp) (keyed_of self.old)
+            (map keyed rows.items) q) }
         ensures rising { KeysRise self.new }
     {
         self.indexes = Vec::new(self.alloc);
@@ -172,7 +179,9 @@ impl Shelf {
     /// Puts a row in the place of that of its key, if any. It takes the logarithm of the number of
     /// rows for the rows and for each index. Where the rows are shared they are copied first.
     pub(crate) fn put(&mut self, key: Value, row: Row) -> Result<(), NoMemory>
-        ensures ok { OnOk result ((q : ValueSeen) → keyed_of self.new q ≡ (if is_eq (value_cmp key q) then Some row else keyed_of self.old q)) }
+        ensures ok { OnOk result ((q : ValueSeen)
+            → keyed_of self.new q ≡ (if is_eq (value_cmp key q) then Some row else keyed_of
+            self.old q)) }
         ensures err { OnErr result (self.new ≡ self.old) }
         ensures rising { KeysRise self.new }
     {
@@ -185,7 +194,9 @@ impl Shelf {
 
     /// Takes the row of a key away, if there is one. It costs what `put` does.
     pub(crate) fn take_away(&mut self, key: &Value) -> Result<(), NoMemory>
-        ensures ok { OnOk result ((q : ValueSeen) → keyed_of self.new q ≡ (if is_eq (value_cmp key.now q) then None else keyed_of self.old q)) }
+        ensures ok { OnOk result ((q : ValueSeen)
+            → keyed_of self.new q ≡ (if is_eq (value_cmp key.now q) then None else keyed_of
+            self.old q)) }
         ensures err { OnErr result (self.new ≡ self.old) }
         ensures rising { KeysRise self.new }
     {
@@ -198,7 +209,8 @@ impl Shelf {
 
     /// The index of a column, if it has one. Linear in the indexes, which are at most eight.
     fn index(&self, column: usize) -> Option<&ColumnIndex>
-        ensures { (index : IndexSeen) → option_copied result ≡ Some index → IsIndexOf (keyed_of self.now) index × (index.column ≡ column) }
+        ensures { (index : IndexSeen) → option_copied result ≡ Some index
+            → IsIndexOf (keyed_of self.now) index × (index.column ≡ column) }
     {
         for index in &self.indexes {
             if index.column == column {
@@ -220,7 +232,8 @@ impl Shelf {
         but: &BTreeMap<Value, usize>,
     ) -> Result<Option<BTreeMap<Value, Row>>, NoMemory>
         requires { KeysFirst self.now }
-        ensures { IfOk result (λ found. option_map (λ rows. rows.entries) found ≡ at_most_32 (apart_from but.now (meeting column test value.now self.now))) }
+        ensures { IfOk result (λ found. option_map (λ rows. rows.entries) found
+            ≡ at_most_32 (apart_from but.now (meeting column test value.now self.now))) }
     {
         match self.index(column) {
             None => found_in(self.alloc, &self.rows, column, test, value, but),
@@ -237,7 +250,8 @@ impl Shelf {
         value: &Value,
     ) -> Result<Option<Vec<Row>>, NoMemory>
         requires { KeysFirst self.now }
-        ensures { IfOk result (λ found. option_map (λ rows. rows.items) found ≡ at_most_32 (selected_def column test value.now (values_of self.now))) }
+        ensures { IfOk result (λ found. option_map (λ rows. rows.items) found
+            ≡ at_most_32 (selected_def column test value.now (values_of self.now))) }
     {
         let none = BTreeMap::new(self.alloc);
         match self.found(column, test, value, &none)? {
@@ -255,7 +269,8 @@ impl Shelf {
         but: &BTreeMap<Value, usize>,
     ) -> Result<Option<RowMap>, NoMemory>
         requires { KeysFirst self.now }
-        ensures { IfOk result (λ found. found ≡ at_most_32 (apart_from but.now (meeting column test value.now self.now))) }
+        ensures { IfOk result (λ found. found
+            ≡ at_most_32 (apart_from but.now (meeting column test value.now self.now))) }
     {
         match self.found(column, test, value, but)? {
             None => Ok(None),

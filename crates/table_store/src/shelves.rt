@@ -51,7 +51,8 @@ pub(crate) type Shelves = BTreeMap<Name, Shelf>;
 pub(crate) fn filled(alloc: Global, tables: Vec<TableRows>) -> Result<Shelves, NoMemory>
     requires { AreApart (plain tables.items) }
     ensures shelved { IfOk result (λ shelves. IsShelved shelves.entries) }
-    ensures rows { IfOk result (λ shelves. all_rows shelves.entries ≡ in_order (plain tables.items)) }
+    ensures rows { IfOk result (λ shelves. all_rows shelves.entries
+        ≡ in_order (plain tables.items)) }
 {
     let mut shelves = BTreeMap::new(alloc);
     for one in tables {
@@ -68,7 +69,8 @@ pub(crate) fn emptied(
     shelves: &mut Shelves,
     schemas: &[Schema],
 ) -> Result<Vec<TableRows>, NoMemory>
-    ensures { IfOk result (λ all. map named all.items ≡ map (shelf_named shelves.old.entries) schemas.now) }
+    ensures { IfOk result (λ all. map named all.items
+        ≡ map (shelf_named shelves.old.entries) schemas.now) }
 {
     let mut all = Vec::new(alloc);
     for at in 0..schemas.len() {
@@ -91,8 +93,10 @@ fn taken(
     table: &Name,
     later: &[Schema],
 ) -> Result<Vec<Row>, NoMemory>
-    ensures rows { IfOk result (λ rows. rows.items ≡ shelf_rows (shelf_of shelves.old.entries table.now)) }
-    ensures later { map (shelf_named shelves.new.entries) later.now ≡ map (shelf_named shelves.old.entries) later.now }
+    ensures rows { IfOk result (λ rows. rows.items
+        ≡ shelf_rows (shelf_of shelves.old.entries table.now)) }
+    ensures later { map (shelf_named shelves.new.entries) later.now
+        ≡ map (shelf_named shelves.old.entries) later.now }
 {
     if schema_of(later, table).is_some() {
         return match shelves.get(table) {
@@ -154,7 +158,8 @@ fn put_all(
     rows: Vec<Row>,
 ) -> Result<(), NoMemory>
     requires { IsShelved shelves.old.entries }
-    ensures ok { OnOk result (ChangesAll shelves.old.entries table (map keyed rows.items) shelves.new.entries) }
+    ensures ok { OnOk result (ChangesAll shelves.old.entries table (map keyed rows.items)
+        shelves.new.entries) }
     ensures shelved { IsShelved shelves.new.entries }
 {
     match shelves.get_mut(&table) {
@@ -177,7 +182,8 @@ pub(crate) fn put(
     row: Row,
 ) -> Result<(), NoMemory>
     requires { IsShelved shelves.old.entries }
-    ensures ok { OnOk result (Changes shelves.old.entries table.now key (Some row) shelves.new.entries) }
+    ensures ok { OnOk result (Changes shelves.old.entries table.now key (Some row)
+        shelves.new.entries) }
     ensures err { OnErr result (shelves.new.entries ≡ shelves.old.entries) }
     ensures shelved { IsShelved shelves.new.entries }
 {
@@ -195,7 +201,8 @@ pub(crate) fn put(
 /// Takes the row of a key away, if there is one.
 pub(crate) fn take_away(shelves: &mut Shelves, table: &Name, key: &Value) -> Result<(), NoMemory>
     requires { IsShelved shelves.old.entries }
-    ensures ok { OnOk result (Changes shelves.old.entries table.now key.now None shelves.new.entries) }
+    ensures ok { OnOk result (Changes shelves.old.entries table.now key.now None
+        shelves.new.entries) }
     ensures err { OnErr result (shelves.new.entries ≡ shelves.old.entries) }
     ensures shelved { IsShelved shelves.new.entries }
 {

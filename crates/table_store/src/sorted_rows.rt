@@ -49,7 +49,8 @@ fn is_up_to(row: &Row, key: &Value) -> bool
 /// How many rows have keys below this one.
 fn count_below(rows: &[Row], key: &Value) -> usize
     requires { KeysRise (map keyed rows.now) }
-    ensures point { IsPartitionPoint (λ row. is_below_def key.now row ≡ true) (λ row. is_below_def key.now row ≡ false) rows.now result }
+    ensures point { IsPartitionPoint (λ row. is_below_def key.now row ≡ true)
+        (λ row. is_below_def key.now row ≡ false) rows.now result }
     ensures within { result ≤ length rows.now }
 {
     rows.partition_point(|row| is_below(row, key))
@@ -58,7 +59,8 @@ fn count_below(rows: &[Row], key: &Value) -> usize
 /// How many rows have this key or keys below it.
 fn count_up_to(rows: &[Row], key: &Value) -> usize
     requires { KeysRise (map keyed rows.now) }
-    ensures point { IsPartitionPoint (λ row. is_up_to_def key.now row ≡ true) (λ row. is_up_to_def key.now row ≡ false) rows.now result }
+    ensures point { IsPartitionPoint (λ row. is_up_to_def key.now row ≡ true)
+        (λ row. is_up_to_def key.now row ≡ false) rows.now result }
     ensures within { result ≤ length rows.now }
 {
     rows.partition_point(|row| is_up_to(row, key))
@@ -93,7 +95,8 @@ fn end_of(rows: &[Row], to: Bound<&Value>) -> usize
 /// The rows whose keys are between two ends. It takes the logarithm of the number of rows.
 pub fn part_between<'a>(rows: &'a [Row], from: Bound<&Value>, to: Bound<&Value>) -> &'a [Row]
     requires { KeysRise (map keyed rows.now) }
-    ensures { map keyed result.now ≡ entries_between value_cmp (bound_map (λ x. x.now) from.entry) (bound_map (λ x. x.now) to.entry) (map keyed rows.now) }
+    ensures { map keyed result.now ≡ entries_between value_cmp (bound_map (λ x. x.now) from.entry)
+        (bound_map (λ x. x.now) to.entry) (map keyed rows.now) }
 {
     let start = start_of(rows, from);
     let end = end_of(rows, to);

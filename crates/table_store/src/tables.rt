@@ -50,7 +50,11 @@ impl Tables {
     pub fn new(alloc: Global, schemas: Schemas, tables: Vec<TableRows>) -> Result<Tables, NoMemory>
         requires fitting { IsTrue (tables_fit schemas (plain tables.items)) }
         requires apart { AreApart (plain tables.items) }
-        ensures made { IfOk result (λ made. made ≡ record { schemas = schemas; rows = in_order (plain tables.items) }) }
+        ensures made { IfOk result (λ made. made ≡ record {
+          schemas = schemas;
+          rows =
+              in_order (plain tables.items);
+        }) }
         ensures kept { IfOk result (λ made. AreKept made) }
     {
         Tables::indexed(alloc, schemas, tables, &[])
@@ -68,7 +72,11 @@ impl Tables {
         requires fitting { IsTrue (tables_fit schemas (plain tables.items)) }
         requires apart { AreApart (plain tables.items) }
         requires indexes { IsTrue (list_all (is_index_of schemas) indexes.now) }
-        ensures made { IfOk result (λ made. made ≡ record { schemas = schemas; rows = in_order (plain tables.items) }) }
+        ensures made { IfOk result (λ made. made ≡ record {
+          schemas = schemas;
+          rows =
+              in_order (plain tables.items);
+        }) }
         ensures kept { IfOk result (λ made. AreKept made) }
     {
         let shelves = shelves::filled(alloc, tables)?;
@@ -116,7 +124,8 @@ impl Tables {
 
     /// The rows of a table that has had any or is indexed.
     pub fn row_map(&self, table: &Name) -> Option<&RowMap>
-        ensures rows { rows_at self.now.rows (place.Table table.now) ≡ rows_if_any table.now (option_copied result) }
+        ensures rows { rows_at self.now.rows (place.Table table.now)
+            ≡ rows_if_any table.now (option_copied result) }
         ensures kept { AreKept self.now }
     {
         match self.shelf(table) {
@@ -127,7 +136,8 @@ impl Tables {
 
     /// The rows of a table that has had any or is indexed, with its indexes.
     fn shelf(&self, table: &Name) -> Option<&Shelf>
-        ensures rows { rows_at self.now.rows (place.Table table.now) ≡ rows_if_any table.now (option_copied result) }
+        ensures rows { rows_at self.now.rows (place.Table table.now)
+            ≡ rows_if_any table.now (option_copied result) }
         ensures kept { AreKept self.now }
     {
         self.shelves.get(table)
@@ -136,7 +146,8 @@ impl Tables {
     /// The row of a key of a table, `None` exactly where none stands there. It takes the logarithm
     /// of the number of rows, and no memory.
     pub fn get(&self, table: &Name, key: &Value) -> Option<&Row>
-        ensures { rows_at self.now.rows (place.Row table.now key.now) ≡ row_if_any table.now key.now (option_copied result) }
+        ensures { rows_at self.now.rows (place.Row table.now key.now)
+            ≡ row_if_any table.now key.now (option_copied result) }
     {
         match self.shelves.get(table) {
             None => None,
@@ -155,7 +166,9 @@ impl Tables {
         test: Test,
         value: &Value,
     ) -> Result<Option<Vec<Row>>, NoMemory>
-        ensures { IfOk result (λ found. option_map (λ rows. rows.items) found ≡ at_most_32 (selected_def column test value.now (map (λ one. one.row) (rows_at self.now.rows (place.Table table.now))))) }
+        ensures { IfOk result (λ found. option_map (λ rows. rows.items) found
+            ≡ at_most_32 (selected_def column test value.now
+            (map (λ one. one.row) (rows_at self.now.rows (place.Table table.now))))) }
     {
         match self.shelf(table) {
             None => Ok(Some(Vec::new(self.alloc))),
@@ -173,7 +186,9 @@ impl Tables {
         value: &Value,
         but: &BTreeMap<Value, usize>,
     ) -> Result<Option<RowMap>, NoMemory>
-        ensures { IfOk result (λ found. found ≡ at_most_32 (apart_from but.now (meeting column test value.now (keyed_rows self.now.rows table.now)))) }
+        ensures { IfOk result (λ found. found
+            ≡ at_most_32 (apart_from but.now
+            (meeting column test value.now (keyed_rows self.now.rows table.now)))) }
     {
         match self.shelf(table) {
             None => Ok(Some(RowMap::new(self.alloc)?)),
@@ -200,7 +215,11 @@ impl Tables {
     /// writes are in.
     pub fn apply(&mut self, writes: &Writes) -> Result<(), NoMemory>
         requires { IsTrue (writes_fit self.old.schemas writes.now) }
-        ensures ok { OnOk result (self.new ≡ record { schemas = self.old.schemas; rows = with_writes self.old.rows writes.now }) }
+        ensures ok { OnOk result (self.new ≡ record {
+          schemas = self.old.schemas;
+          rows =
+              with_writes self.old.rows writes.now;
+        }) }
         ensures err { OnErr result (HasSome self.old writes.now self.new) }
         ensures kept { AreKept self.new }
     {
@@ -213,7 +232,11 @@ impl Tables {
 
     fn write(&mut self, write: &Write) -> Result<(), NoMemory>
         requires { IsTrue (write_fits self.old.schemas write.now) }
-        ensures ok { OnOk result (self.new ≡ record { schemas = self.old.schemas; rows = with_write self.old.rows write.now }) }
+        ensures ok { OnOk result (self.new ≡ record {
+          schemas = self.old.schemas;
+          rows =
+              with_write self.old.rows write.now;
+        }) }
         ensures err { OnErr result (self.new ≡ self.old) }
         ensures kept { AreKept self.new }
     {
@@ -230,7 +253,11 @@ impl Tables {
     /// Puts a row in the place of that of its key, if any.
     fn put(&mut self, table: &Name, key: Value, row: Row) -> Result<(), NoMemory>
         requires { IsTrue (is_row_of (schema_of_def self.old.schemas table.now) key row) }
-        ensures ok { OnOk result (self.new ≡ record { schemas = self.old.schemas; rows = with_write self.old.rows (record { table = table.now; key = key; row = Some row }) }) }
+        ensures ok { OnOk result (self.new ≡ record {
+          schemas = self.old.schemas;
+          rows =
+              with_write self.old.rows (record { table = table.now; key = key; row = Some row });
+        }) }
         ensures err { OnErr result (self.new ≡ self.old) }
         ensures kept { AreKept self.new }
     {
@@ -239,7 +266,11 @@ impl Tables {
 
     /// Takes the row of a key away, if there is one.
     fn take_away(&mut self, table: &Name, key: &Value) -> Result<(), NoMemory>
-        ensures ok { OnOk result (self.new ≡ record { schemas = self.old.schemas; rows = with_write self.old.rows (record { table = table.now; key = key.now; row = None }) }) }
+        ensures ok { OnOk result (self.new ≡ record {
+          schemas = self.old.schemas;
+          rows =
+              with_write self.old.rows (record { table = table.now; key = key.now; row = None });
+        }) }
         ensures err { OnErr result (self.new ≡ self.old) }
         ensures kept { AreKept self.new }
     {

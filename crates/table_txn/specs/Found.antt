@@ -57,7 +57,11 @@ pub record IsFoundAt (rows : List PlainRow) (at : Place) (what : Found) : Type 0
 
 -- readings as they are kept, by place
 abbrev pub reading : Place × ReadPlace → Reading
-reading entry = record { at = entry.0; found = found_rows entry.0 entry.1.found; is_torn = entry.1.is_torn }
+reading entry = record {
+  at = entry.0;
+  found = found_rows entry.0 entry.1.found;
+  is_torn = entry.1.is_torn;
+}
 
 abbrev pub readings_of : List (Place × ReadPlace) → List Reading
 readings_of entries = map reading entries
@@ -67,15 +71,18 @@ abbrev pub are_for : List (Place × ReadPlace) → Bool
 are_for entries = list_all (λ entry. is_for entry.0 entry.1.found) entries
 
 -- the readings after one more read of a place, which found this
-pub record IsRead (old : List (Place × ReadPlace)) (at : Place) (what : Found) (new : List (Place × ReadPlace)) : Type 0 where
+pub record IsRead (old : List (Place × ReadPlace)) (at : Place) (what : Found)
+    (new : List (Place × ReadPlace)) : Type 0 where
   pub has : HasRead (readings_of old) at (found_rows at what) (readings_of new)
   pub kinds : are_for new ≡ true
 
 -- a place that was not read, or has what it had at each of its reads
 abbrev pub HasBefore : Found → Place → List (Place × ReadPlace) → Type 0
-HasBefore what at entries = IfSome (reading_of (readings_of entries) at) (λ before. (before.is_torn ≡ false) × (before.found ≡ found_rows at what))
+HasBefore what at entries = IfSome (reading_of (readings_of entries) at)
+    (λ before. (before.is_torn ≡ false) × (before.found ≡ found_rows at what))
 
 -- a place without a reading, and nothing has changed
-pub record IsNotRead (old : List (Place × ReadPlace)) (at : Place) (new : List (Place × ReadPlace)) : Type 0 where
+pub record IsNotRead (old : List (Place × ReadPlace)) (at : Place)
+    (new : List (Place × ReadPlace)) : Type 0 where
   pub absent : reading_of (readings_of old) at ≡ None
   pub same : new ≡ old

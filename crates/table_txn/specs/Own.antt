@@ -16,7 +16,9 @@ or_else (Some x) other = Some x
 -- where the last write of a table and key stands, counted from this place on
 abbrev pub last_from : ℕ → List Write → List ℕ → Value → Option ℕ
 last_from at [] table key = None
-last_from at (write ∷ writes) table key = or_else (last_from (at + 1) writes table key) (if is_place write.table write.key table key then Some at else None)
+last_from at (write ∷ writes) table key =
+    or_else (last_from (at + 1) writes table key)
+    (if is_place write.table write.key table key then Some at else None)
 
 -- where the last write of a table and key stands, from 0
 abbrev pub last_at : List Write → List ℕ → Value → Option ℕ
@@ -46,14 +48,16 @@ place_kept latest table key = place_in (keys_kept latest table) key
 
 -- the map has the place of the last write of each table and key
 abbrev pub AreLatest : List Write → Latest → Type 0
-AreLatest writes latest = (table : List ℕ) (key : Value) → place_kept latest table key ≡ last_at writes table key
+AreLatest writes latest = (table : List ℕ) (key : Value)
+    → place_kept latest table key ≡ last_at writes table key
 
 -- beside each of the writes behind the first ones stands the place of the one before it of its
 -- table and key
 abbrev pub AreBeforeFrom : List Write → List Write → List (Option ℕ) → Type 0
 AreBeforeFrom first [] before = Unit {0}
 AreBeforeFrom first (write ∷ writes) [] = ⊥
-AreBeforeFrom first (write ∷ writes) (at ∷ before) = (at ≡ last_at first write.table write.key) × AreBeforeFrom (first ++ write ∷ []) writes before
+AreBeforeFrom first (write ∷ writes) (at ∷ before) = (at ≡ last_at first write.table write.key)
+    × AreBeforeFrom (first ++ write ∷ []) writes before
 
 abbrev pub AreBefore : List Write → List (Option ℕ) → Type 0
 AreBefore writes before = AreBeforeFrom [] writes before
@@ -65,7 +69,8 @@ pub record AreOwn (writes : List Write) (before : List (Option ℕ)) (latest : L
 
 -- one table and key has this place, or none, and each other has what it had
 abbrev pub HasPlace : Latest → List ℕ → Value → Option ℕ → Latest → Type 0
-HasPlace old table key at new = (t : List ℕ) (k : Value) → place_kept new t k ≡ (if is_place table key t k then at else place_kept old t k)
+HasPlace old table key at new = (t : List ℕ) (k : Value)
+    → place_kept new t k ≡ (if is_place table key t k then at else place_kept old t k)
 
 -- each table and key has what it had
 abbrev pub HasSamePlaces : Latest → Latest → Type 0
@@ -73,7 +78,8 @@ HasSamePlaces old new = (t : List ℕ) (k : Value) → place_kept new t k ≡ pl
 
 -- the same in one table
 abbrev pub HasKey : Keys → Value → Option ℕ → Keys → Type 0
-HasKey old key at new = (k : Value) → place_in (Some new) k ≡ (if is_at (value_cmp key) k then at else place_in (Some old) k)
+HasKey old key at new = (k : Value) → place_in (Some new) k
+    ≡ (if is_at (value_cmp key) k then at else place_in (Some old) k)
 
 -- the last write is taken off, if it is behind the first few
 abbrev pub PopsBehind : List Write → ℕ → Option Write → List Write → Type 0

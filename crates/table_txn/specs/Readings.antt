@@ -27,7 +27,8 @@ abbrev pub IsReadingOf : Option Reading → List (List PlainRow) → Type 0
 IsReadingOf None [] = Unit {0}
 IsReadingOf None (first ∷ later) = ⊥
 IsReadingOf (Some reading) [] = ⊥
-IsReadingOf (Some reading) (first ∷ later) = (reading.found ≡ first) × ((reading.is_torn ≡ false) ↔ All (λ found. found ≡ first) later)
+IsReadingOf (Some reading) (first ∷ later) = (reading.found ≡ first)
+    × ((reading.is_torn ≡ false) ↔ All (λ found. found ≡ first) later)
 
 -- the readings are those of these reads
 abbrev pub AreReadings : List Reading → List Read → Type 0
@@ -36,11 +37,16 @@ AreReadings readings reads = (at : Place) → IsReadingOf (reading_of readings a
 -- the reading of a place after one more read of it
 abbrev pub read_more : Option Reading → Place → List PlainRow → Reading
 read_more None at found = record { at = at; found = found; is_torn = false }
-read_more (Some reading) at found = record { at = reading.at; found = reading.found; is_torn = reading.is_torn || not (same_rows reading.found found) }
+read_more (Some reading) at found = record {
+  at = reading.at;
+  found = reading.found;
+  is_torn = reading.is_torn || not (same_rows reading.found found);
+}
 
 -- the readings after one more read: that of its place is changed, and each other one stays
 abbrev pub HasRead : List Reading → Place → List PlainRow → List Reading → Type 0
-HasRead old at found new = (q : Place) → reading_of new q ≡ (if same_place at q then Some (read_more (reading_of old at) at found) else reading_of old q)
+HasRead old at found new = (q : Place) → reading_of new q
+    ≡ (if same_place at q then Some (read_more (reading_of old at) at found) else reading_of old q)
 
 -- after one more read, if there was one
 abbrev pub HasReadIfAny : List PlainRow → List Reading → Option Place → List Reading → Type 0
@@ -49,7 +55,9 @@ HasReadIfAny committed old (Some at) new = HasRead old at (rows_at committed at)
 
 -- each place that was read has what it had at each of its reads
 abbrev pub AreUnchanged : List PlainRow → List Reading → Type 0
-AreUnchanged now readings = (at : Place) → IfSome (reading_of readings at) (λ reading. (reading.is_torn ≡ false) × (reading.found ≡ rows_at now at))
+AreUnchanged now readings = (at : Place)
+    → IfSome (reading_of readings at) (λ reading. (reading.is_torn ≡ false)
+    × (reading.found ≡ rows_at now at))
 
 -- where that was so, it is so with the later readings
 abbrev pub StayUnchanged : List PlainRow → List Reading → List Reading → Type 0
@@ -58,7 +66,9 @@ StayUnchanged now old new = AreUnchanged now old → AreUnchanged now new
 -- the first place whose reading is torn, or which has other rows now
 abbrev pub first_changed : List PlainRow → List Reading → Option Place
 first_changed now [] = None
-first_changed now (reading ∷ readings) = if reading.is_torn || not (same_rows reading.found (rows_at now reading.at)) then Some reading.at else first_changed now readings
+first_changed now (reading ∷ readings) =
+    if reading.is_torn || not (same_rows reading.found (rows_at now reading.at)) then
+    Some reading.at else first_changed now readings
 
 -- no place has two readings
 abbrev pub AreApart : List Reading → Type 0

@@ -18,8 +18,11 @@ select_answer (Some rows) = answer.Rows rows
 -- the row, if there is one and it meets the test
 abbrev pub if_met : ℕ → Test → Value → Option (List Value) → Option (List Value)
 if_met column compared than None = None
-if_met column compared than (Some row) = if value_meets compared than (slice_get row column) then Some row else None
+if_met column compared than (Some row) =
+    if value_meets compared than (slice_get row column) then Some row else None
 
 -- what is found at q, once a row that meets the test was put in at the key
-abbrev pub with_own : ℕ → Test → Value → Option (List Value) → Value → Option (List Value) → Value → Option (List Value)
-with_own column compared than row key found q = if is_eq (value_cmp key q) then option_or (if_met column compared than row) found else found
+abbrev pub with_own : ℕ → Test → Value → Option (List Value) → Value → Option (List Value) → Value
+    → Option (List Value)
+with_own column compared than row key found q =
+    if is_eq (value_cmp key q) then option_or (if_met column compared than row) found else found

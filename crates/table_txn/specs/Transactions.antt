@@ -31,21 +31,30 @@ shape_of tables names = record { schemas = tables.schemas; sequences = names }
 
 -- What statements mean in a transaction: on the committed tables with its writes over them, without
 -- a commit.
-abbrev pub meaning : Stored → List (List ℕ) → NamedValues → Transaction → List Statement → List Draw → Option Meant
-meaning tables names settings old statements draws = mean (shape_of tables names) (with_writes tables.rows old.writes) settings (call.Work statements false) draws
+abbrev pub meaning : Stored → List (List ℕ) → NamedValues → Transaction → List Statement → List Draw
+    → Option Meant
+meaning tables names settings old statements draws =
+    mean (shape_of tables names) (with_writes tables.rows old.writes) settings
+    (call.Work statements false) draws
 
 -- Statements that ran: they used exactly these draws; the answers are those of their meaning, the
 -- writes are behind those before, and what they read is kept. The pieces are as before.
-pub record HasRun (tables : Stored) (names : List (List ℕ)) (settings : NamedValues) (old : Transaction) (statements : List Statement) (answers : List Answer) (draws : List Draw) (new : Transaction) : Type 0 where
+pub record HasRun (tables : Stored) (names : List (List ℕ)) (settings : NamedValues)
+    (old : Transaction) (statements : List Statement) (answers : List Answer) (draws : List Draw)
+    (new : Transaction) : Type 0 where
   pub meant : Meant
   pub means : meaning tables names settings old statements draws ≡ Some meant
   pub used : meant.rest ≡ []
   pub answered : answers ≡ meant.answers
   pub wrote : new.writes ≡ old.writes ++ meant.writes
-  pub was_read : (reads : List Read) → AreReadings old.readings reads → AreReadings new.readings (reads ++ reads_at tables.rows meant.reads)
+  pub was_read : (reads : List Read) → AreReadings old.readings reads
+      → AreReadings new.readings (reads ++ reads_at tables.rows meant.reads)
   pub same_pieces : new.pieces ≡ old.pieces
 
 -- A run that was ended by a fault: some draws were given, which begin those that the statements ask
 -- for, and then it ended.
-abbrev pub HasEnded : {S : Type 0} → Stored → List (List ℕ) → NamedValues → Transaction → List Statement → (S → Drew → S → Type 0) → S → TxnFault → S → Type 0
-HasEnded tables names settings old statements drew before ended after = Ends drew (λ draws. option_map (λ meant. meant.rest) (meaning tables names settings old statements draws)) before ended after
+abbrev pub HasEnded : {S : Type 0} → Stored → List (List ℕ) → NamedValues → Transaction
+    → List Statement → (S → Drew → S → Type 0) → S → TxnFault → S → Type 0
+HasEnded tables names settings old statements drew before ended after =
+    Ends drew (λ draws. option_map (λ meant. meant.rest)
+    (meaning tables names settings old statements draws)) before ended after

@@ -18,7 +18,8 @@ use table_store::Tables;
 /// The row of a key, as the transaction sees it: the logarithm of the rows and of its own writes.
 fn row_at<'a>(tables: &'a Tables, own: &'a OwnWrites, table: &Name, key: &Value) -> Option<&'a Row>
     requires { AreTables tables.now.rows }
-    ensures { option_copied result ≡ first_of (seen_at (with_writes tables.now.rows own.now) (Some (Place.Row table.now key.now))) }
+    ensures { option_copied result ≡ first_of
+        (seen_at (with_writes tables.now.rows own.now) (Some (Place.Row table.now key.now))) }
 {
     match own.last(table, key) {
         None => tables.get(table, key),
@@ -35,7 +36,8 @@ pub(crate) fn effect_on(
 ) -> Result<Effect, NoMemory>
     requires ordered { AreTables tables.now.rows }
     requires fits { IsTrue (tables_fit tables.now.schemas (with_writes tables.now.rows own.now)) }
-    ensures { IfOk result (λ effect. effect ≡ effect_def plan (seen_at (with_writes tables.now.rows own.now) (place_of plan))) }
+    ensures { IfOk result (λ effect. effect
+        ≡ effect_def plan (seen_at (with_writes tables.now.rows own.now) (place_of plan))) }
 {
     match plan {
         Plan::AtRow { table, key, work } => {

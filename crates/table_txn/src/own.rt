@@ -61,8 +61,11 @@ fn index(
     latest: &mut Latest,
     at: usize,
 ) -> Result<Option<usize>, NoMemory>
-    ensures before { IfOk result (λ before. (write : OneWrite) → slice_get writes.now at ≡ Some write → before ≡ place_kept latest.old write.table write.key) }
-    ensures ok { OnOk result ((write : OneWrite) → slice_get writes.now at ≡ Some write → HasPlace latest.old write.table write.key (Some at) latest.new) }
+    ensures before { IfOk result (λ before. (write : OneWrite)
+        → slice_get writes.now at ≡ Some write
+        → before ≡ place_kept latest.old write.table write.key) }
+    ensures ok { OnOk result ((write : OneWrite) → slice_get writes.now at ≡ Some write
+        → HasPlace latest.old write.table write.key (Some at) latest.new) }
     ensures err { OnErr result (HasSamePlaces latest.old latest.new) }
 {
     match writes.get(at) {
@@ -127,7 +130,8 @@ impl OwnWrites {
 
     /// The keys of a table that were written, each with the place of its last write.
     pub(crate) fn keys(&self, table: &Name) -> Option<&Keys>
-        ensures { (key : Key) → place_in (option_copied result) key ≡ last_at self.now table.now key }
+        ensures { (key : Key) → place_in (option_copied result) key
+            ≡ last_at self.now table.now key }
     {
         self.latest.get(table)
     }

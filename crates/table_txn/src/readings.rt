@@ -22,7 +22,8 @@ pub(crate) struct ReadPlace {
 impl ReadPlace {
     /// Whether something else was found at a later read, or is committed now.
     fn has_changed(&self, committed: Committed) -> bool
-        ensures { result ≡ (self.now.is_torn || not (same_found self.now.found (kept committed.entry))) }
+        ensures { result ≡ (self.now.is_torn
+            || not (same_found self.now.found (kept committed.entry))) }
     {
         self.is_torn || !self.found.is(committed)
     }
@@ -54,7 +55,8 @@ impl Model for Readings {
 fn read_again(places: &mut ReadPlaces, at: &Place, committed: Committed) -> bool
     requires kind { is_for at.now (kept committed) ≡ true }
     requires kinds { are_for places.old.entries ≡ true }
-    ensures { MatchBool result (IsRead places.old.entries at.now (kept committed.entry) places.new.entries) (IsNotRead places.old.entries at.now places.new.entries) }
+    ensures { MatchBool result (IsRead places.old.entries at.now (kept committed.entry)
+        places.new.entries) (IsNotRead places.old.entries at.now places.new.entries) }
 {
     let Some(there) = places.get_mut(at) else {
         return false;
@@ -73,7 +75,8 @@ fn read_as_before(
     requires kind { is_for at (kept committed) ≡ true }
     requires before { HasBefore (kept committed) at places.old.entries }
     requires kinds { are_for places.old.entries ≡ true }
-    ensures ok { OnOk result (IsRead places.old.entries at (kept committed.entry) places.new.entries) }
+    ensures ok { OnOk result (IsRead places.old.entries at (kept committed.entry)
+        places.new.entries) }
     ensures err { OnErr result (places.new.entries ≡ places.old.entries) }
 {
     let found = Found::new(alloc, committed)?;

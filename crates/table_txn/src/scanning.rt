@@ -49,8 +49,11 @@ fn show_mapped(
     from: Bound<&Value>,
     to: Bound<&Value>,
 ) -> Result<Scan, NoMemory>
-    requires { IsForward (IsLeBy value_cmp) (IsLtBy value_cmp) (bound_map (λ x. x.now) from) (bound_map (λ x. x.now) to) }
-    ensures { IfOk result (λ after. AnswersAs after scan (values_of (entries_between value_cmp (bound_map (λ x. x.now) from.entry) (bound_map (λ x. x.now) to.entry) rows.now.entries))) }
+    requires { IsForward (IsLeBy value_cmp) (IsLtBy value_cmp) (bound_map (λ x. x.now) from)
+        (bound_map (λ x. x.now) to) }
+    ensures { IfOk result (λ after. AnswersAs after scan
+        (values_of (entries_between value_cmp (bound_map (λ x. x.now) from.entry)
+        (bound_map (λ x. x.now) to.entry) rows.now.entries))) }
 {
     for (_, row) in rows.range((from, to)) {
         if scan.is_settled() {
@@ -70,8 +73,11 @@ fn show_between(
     from: Bound<&Value>,
     to: Bound<&Value>,
 ) -> Result<Scan, NoMemory>
-    requires { IsForward (IsLeBy value_cmp) (IsLtBy value_cmp) (bound_map (λ x. x.now) from) (bound_map (λ x. x.now) to) }
-    ensures { IfOk result (λ after. AnswersAs after scan (values_of (entries_between value_cmp (bound_map (λ x. x.now) from.entry) (bound_map (λ x. x.now) to.entry) (keyed_or_none (option_copied rows.entry))))) }
+    requires { IsForward (IsLeBy value_cmp) (IsLtBy value_cmp) (bound_map (λ x. x.now) from)
+        (bound_map (λ x. x.now) to) }
+    ensures { IfOk result (λ after. AnswersAs after scan
+        (values_of (entries_between value_cmp (bound_map (λ x. x.now) from.entry)
+        (bound_map (λ x. x.now) to.entry) (keyed_or_none (option_copied rows.entry))))) }
 {
     let Some(rows) = rows else {
         return Ok(scan);
@@ -84,7 +90,9 @@ fn show_between(
 
 /// Shows a scan the row of a write, if there is one and it has one.
 fn show_written(alloc: Global, scan: Scan, write: Option<&Write>) -> Result<Scan, NoMemory>
-    ensures { IfOk result (λ after. after ≡ fold next_scan scan (option_to_list (option_and_then (λ write. write.row) (option_copied write.entry)))) }
+    ensures { IfOk result (λ after. after
+        ≡ fold next_scan scan (option_to_list
+        (option_and_then (λ write. write.row) (option_copied write.entry)))) }
 {
     match write {
         None => Ok(scan),
@@ -107,7 +115,9 @@ fn show_over(
 ) -> Result<Scan, NoMemory>
     requires ordered { AreTables tables.now.rows }
     requires keys { (key : Key) → place_in (Some keys.now) key ≡ last_at own.now table.now key }
-    ensures { IfOk result (λ after. last_answer after ≡ last_answer (fold next_scan scan (seen_at (with_writes tables.now.rows own.now) (Some (place.Table table.now))))) }
+    ensures { IfOk result (λ after. last_answer after
+        ≡ last_answer (fold next_scan scan
+        (seen_at (with_writes tables.now.rows own.now) (Some (place.Table table.now))))) }
 {
     let rows = tables.row_map(table);
     let writes = own.writes();
@@ -132,7 +142,9 @@ fn show_committed(
     table: &Name,
 ) -> Result<Scan, NoMemory>
     requires { (key : Key) → last_at own.now table.now key ≡ None }
-    ensures { IfOk result (λ after. last_answer after ≡ last_answer (fold next_scan scan (seen_at (with_writes tables.now.rows own.now) (Some (place.Table table.now))))) }
+    ensures { IfOk result (λ after. last_answer after
+        ≡ last_answer (fold next_scan scan
+        (seen_at (with_writes tables.now.rows own.now) (Some (place.Table table.now))))) }
 {
     show_between(
         alloc,
@@ -163,7 +175,9 @@ fn committed_answer(
     work: TableWork,
 ) -> Result<Answer, NoMemory>
     requires { (key : Key) → last_at own.now table.now key ≡ None }
-    ensures { IfOk result (λ answer. answer ≡ table_answer work (seen_at (with_writes tables.now.rows own.now) (Some (place.Table table.now)))) }
+    ensures { IfOk result (λ answer. answer
+        ≡ table_answer work (seen_at (with_writes tables.now.rows own.now)
+        (Some (place.Table table.now)))) }
 {
     match work {
         TableWork::Count => Ok(counted(tables.row_map(table))),
@@ -198,7 +212,9 @@ fn answer_over(
     requires ordered { AreTables tables.now.rows }
     requires fits { IsTrue (tables_fit tables.now.schemas (with_writes tables.now.rows own.now)) }
     requires keys { (key : Key) → place_in (Some keys.now) key ≡ last_at own.now table.now key }
-    ensures { IfOk result (λ answer. answer ≡ table_answer work (seen_at (with_writes tables.now.rows own.now) (Some (place.Table table.now)))) }
+    ensures { IfOk result (λ answer. answer
+        ≡ table_answer work (seen_at (with_writes tables.now.rows own.now)
+        (Some (place.Table table.now)))) }
 {
     match work {
         TableWork::Select {
@@ -232,7 +248,9 @@ pub(crate) fn scan_table(
 ) -> Result<Answer, NoMemory>
     requires ordered { AreTables tables.now.rows }
     requires fits { IsTrue (tables_fit tables.now.schemas (with_writes tables.now.rows own.now)) }
-    ensures { IfOk result (λ answer. answer ≡ table_answer work (seen_at (with_writes tables.now.rows own.now) (Some (place.Table table.now)))) }
+    ensures { IfOk result (λ answer. answer
+        ≡ table_answer work (seen_at (with_writes tables.now.rows own.now)
+        (Some (place.Table table.now)))) }
 {
     match own.keys(table) {
         None => committed_answer(alloc, tables, own, table, work),

@@ -37,7 +37,8 @@ pub(crate) struct Sought {
 /// The answer of a select that found these rows, or more than it may answer.
 fn answer_of(alloc: Global, found: Option<Vec<Row>>) -> Result<Answer, NoMemory>
     requires { IfSome found (λ rows. length rows.items ≤ 32) }
-    ensures { IfOk result (λ answer. answer ≡ select_answer (option_map (λ rows. rows.items) found)) }
+    ensures { IfOk result (λ answer. answer
+        ≡ select_answer (option_map (λ rows. rows.items) found)) }
 {
     Ok(match found {
         None => Answer::Refused(StatementFault::TooManyRows),
@@ -54,7 +55,9 @@ pub(crate) fn select_committed(
     sought: &Sought,
 ) -> Result<Answer, NoMemory>
     requires { (key : Key) → last_at own.now table.now key ≡ None }
-    ensures { IfOk result (λ answer. answer ≡ limited (selected sought.now.column sought.now.test sought.now.value (seen_at (with_writes tables.now.rows own.now) (Some (place.Table table.now))))) }
+    ensures { IfOk result (λ answer. answer
+        ≡ limited (selected sought.now.column sought.now.test sought.now.value
+        (seen_at (with_writes tables.now.rows own.now) (Some (place.Table table.now))))) }
 {
     let found = tables.select(table, sought.column, sought.test, &sought.value)?;
     answer_of(alloc, found)
@@ -62,7 +65,8 @@ pub(crate) fn select_committed(
 
 /// The row of a write, if there is one and it has one.
 fn row_of(write: Option<&Write>) -> Option<&Row>
-    ensures { option_copied result ≡ option_and_then (λ write. write.row) (option_copied write.entry) }
+    ensures { option_copied result ≡ option_and_then
+        (λ write. write.row) (option_copied write.entry) }
 {
     match write {
         None => None,
@@ -78,7 +82,10 @@ fn put_own(
     write: Option<&Write>,
     sought: &Sought,
 ) -> Result<(), NoMemory>
-    ensures { OnOk result ((q : Key) → keyed_of found.new q ≡ with_own sought.now.column sought.now.test sought.now.value (option_and_then (λ write. write.row) (option_copied write.entry)) key.now (keyed_of found.old q) q) }
+    ensures { OnOk result ((q : Key) → keyed_of found.new q
+        ≡ with_own sought.now.column sought.now.test sought.now.value
+        (option_and_then (λ write. write.row) (option_copied write.entry)) key.now
+        (keyed_of found.old q) q) }
 {
     let Some(row) = row_of(write) else {
         return Ok(());
@@ -112,7 +119,9 @@ pub(crate) fn select_over(
     requires ordered { AreTables tables.now.rows }
     requires fits { IsTrue (tables_fit tables.now.schemas (with_writes tables.now.rows own.now)) }
     requires keys { (key : Key) → place_in (Some keys.now) key ≡ last_at own.now table.now key }
-    ensures { IfOk result (λ answer. answer ≡ limited (selected sought.now.column sought.now.test sought.now.value (seen_at (with_writes tables.now.rows own.now) (Some (place.Table table.now))))) }
+    ensures { IfOk result (λ answer. answer
+        ≡ limited (selected sought.now.column sought.now.test sought.now.value
+        (seen_at (with_writes tables.now.rows own.now) (Some (place.Table table.now))))) }
 {
     let found = tables.select_but(table, sought.column, sought.test, &sought.value, keys)?;
     let Some(mut found) = found else {

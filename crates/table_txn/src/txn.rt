@@ -69,7 +69,12 @@ impl Txn {
     /// A transaction with the same writes in which nothing was called or read, so that a call can
     /// be tried in it. The writes are copied: n log n for n writes.
     pub fn probe(&self, alloc: Global) -> Result<Txn, NoMemory>
-        ensures probe { IfOk result (λ made. made ≡ record { pieces = []; writes = self.now.writes; readings = [] }) }
+        ensures probe { IfOk result (λ made. made ≡ record {
+          pieces = [];
+          writes =
+              self.now.writes;
+          readings = [];
+        }) }
         ensures no_reads { AreReadings [] [] }
     {
         Ok(Txn {
@@ -82,7 +87,8 @@ impl Txn {
 
     /// Keeps a call with its answers and draws. Where memory is refused nothing changes.
     pub fn note(&mut self, piece: Piece) -> Result<(), NoMemory>
-        ensures ok { OnOk result (self.new ≡ record self.old { pieces = self.old.pieces ++ piece ∷ [] }) }
+        ensures ok { OnOk result (self.new
+            ≡ record self.old { pieces = self.old.pieces ++ piece ∷ [] }) }
         ensures err { OnErr result (self.new ≡ self.old) }
     {
         match self.pieces.push(piece) {
@@ -127,7 +133,8 @@ impl Txn {
     /// places that were read, and in the rows of the tables that were read whole. No memory is
     /// taken.
     pub fn conflicts(&self, tables: &Tables) -> Option<&Place>
-        ensures { (reads : List Read) → AreReadings self.now.readings reads → IsConflict reads tables.now.rows (option_copied result) }
+        ensures { (reads : List Read) → AreReadings self.now.readings reads
+            → IsConflict reads tables.now.rows (option_copied result) }
     {
         self.readings.first_changed(tables)
     }
@@ -147,10 +154,14 @@ impl Txn {
     ) -> Result<Ran, TxnFault>
         requires fits { IsTrue (writes_fit tables.now.schemas self.old.writes) }
         requires ready { F.is_ready draws.old }
-        ensures ran { IfOk result (λ ran. HasRun tables.now (F.names draws.old) settings.now self.old statements.now ran.answers ran.draws self.new × DrewAll F.drew draws.old ran.draws draws.new) }
-        ensures ended { IfErr result (λ ended. HasEnded tables.now (F.names draws.old) settings.now self.old statements.now F.drew draws.old ended draws.new) }
+        ensures ran { IfOk result (λ ran. HasRun tables.now (F.names draws.old) settings.now
+            self.old statements.now ran.answers ran.draws self.new
+            × DrewAll F.drew draws.old ran.draws draws.new) }
+        ensures ended { IfErr result (λ ended. HasEnded tables.now (F.names draws.old) settings.now
+            self.old statements.now F.drew draws.old ended draws.new) }
         ensures fits { OnOk result (IsTrue (writes_fit tables.now.schemas self.new.writes)) }
-        ensures unchanged { OnOk result (StayUnchanged tables.now.rows self.old.readings self.new.readings) }
+        ensures unchanged { OnOk result (StayUnchanged tables.now.rows self.old.readings
+            self.new.readings) }
         ensures names { F.names draws.new ≡ F.names draws.old }
         ensures ready { F.is_ready draws.new }
     {
@@ -169,10 +180,14 @@ impl Txn {
         requires fits { IsTrue (writes_fit tables.now.schemas self.old.writes) }
         requires unchanged { AreUnchanged tables.now.rows self.old.readings }
         requires ready { F.is_ready draws.old }
-        ensures ran { IfOk result (λ ran. HasRun tables.now (F.names draws.old) settings.now self.old statements.now ran.answers ran.draws self.new × DrewAll F.drew draws.old ran.draws draws.new) }
-        ensures ended { IfErr result (λ ended. HasEnded tables.now (F.names draws.old) settings.now self.old statements.now F.drew draws.old ended draws.new) }
+        ensures ran { IfOk result (λ ran. HasRun tables.now (F.names draws.old) settings.now
+            self.old statements.now ran.answers ran.draws self.new
+            × DrewAll F.drew draws.old ran.draws draws.new) }
+        ensures ended { IfErr result (λ ended. HasEnded tables.now (F.names draws.old) settings.now
+            self.old statements.now F.drew draws.old ended draws.new) }
         ensures fits { OnOk result (IsTrue (writes_fit tables.now.schemas self.new.writes)) }
-        ensures unchanged { OnOk result (StayUnchanged tables.now.rows self.old.readings self.new.readings) }
+        ensures unchanged { OnOk result (StayUnchanged tables.now.rows self.old.readings
+            self.new.readings) }
         ensures names { F.names draws.new ≡ F.names draws.old }
         ensures ready { F.is_ready draws.new }
     {
@@ -192,10 +207,14 @@ impl Txn {
         requires fits { IsTrue (writes_fit tables.now.schemas self.old.writes) }
         requires unchanged { IsTrue is_unchanged → AreUnchanged tables.now.rows self.old.readings }
         requires ready { F.is_ready draws.old }
-        ensures ran { IfOk result (λ ran. HasRun tables.now (F.names draws.old) settings.now self.old statements.now ran.answers ran.draws self.new × DrewAll F.drew draws.old ran.draws draws.new) }
-        ensures ended { IfErr result (λ ended. HasEnded tables.now (F.names draws.old) settings.now self.old statements.now F.drew draws.old ended draws.new) }
+        ensures ran { IfOk result (λ ran. HasRun tables.now (F.names draws.old) settings.now
+            self.old statements.now ran.answers ran.draws self.new
+            × DrewAll F.drew draws.old ran.draws draws.new) }
+        ensures ended { IfErr result (λ ended. HasEnded tables.now (F.names draws.old) settings.now
+            self.old statements.now F.drew draws.old ended draws.new) }
         ensures fits { OnOk result (IsTrue (writes_fit tables.now.schemas self.new.writes)) }
-        ensures unchanged { OnOk result (StayUnchanged tables.now.rows self.old.readings self.new.readings) }
+        ensures unchanged { OnOk result (StayUnchanged tables.now.rows self.old.readings
+            self.new.readings) }
         ensures names { F.names draws.new ≡ F.names draws.old }
         ensures ready { F.is_ready draws.new }
     {
@@ -248,12 +267,19 @@ impl Txn {
         drawn: &mut Vec<Draw>,
     ) -> Result<bool, TxnFault>
         requires ordered { AreTables tables.now.rows }
-        requires fits { IsTrue (tables_fit tables.now.schemas (with_writes tables.now.rows self.old.writes)) }
+        requires fits { IsTrue (tables_fit tables.now.schemas
+            (with_writes tables.now.rows self.old.writes)) }
         requires unchanged { IsTrue is_unchanged → AreUnchanged tables.now.rows self.old.readings }
         requires ready { F.is_ready source.old }
-        ensures done { IfOk result (λ is_refused. HasNext F.drew tables.now (F.names source.old) settings.now self.old statement.now source.old answers.old.items drawn.old.items is_refused self.new source.new answers.new.items drawn.new.items) }
-        ensures unchanged { OnOk result (StayUnchanged tables.now.rows self.old.readings self.new.readings) }
-        ensures ended { IfErr result (λ ended. Ends F.drew (one_left (shape_of tables.now (F.names source.old)) (with_writes tables.now.rows self.old.writes) settings.now statement.now) source.old ended source.new) }
+        ensures done { IfOk result (λ is_refused. HasNext F.drew tables.now (F.names source.old)
+            settings.now self.old statement.now source.old answers.old.items drawn.old.items
+            is_refused self.new source.new answers.new.items drawn.new.items) }
+        ensures unchanged { OnOk result (StayUnchanged tables.now.rows self.old.readings
+            self.new.readings) }
+        ensures ended { IfErr result (λ ended.
+            Ends F.drew (one_left (shape_of tables.now (F.names source.old))
+            (with_writes tables.now.rows self.old.writes) settings.now statement.now) source.old
+            ended source.new) }
         ensures names { F.names source.new ≡ F.names source.old }
         ensures ready { F.is_ready source.new }
     {
@@ -274,12 +300,20 @@ impl Txn {
         drawn: &mut Vec<Draw>,
     ) -> Result<Answer, TxnFault>
         requires ordered { AreTables tables.now.rows }
-        requires fits { IsTrue (tables_fit tables.now.schemas (with_writes tables.now.rows self.old.writes)) }
+        requires fits { IsTrue (tables_fit tables.now.schemas
+            (with_writes tables.now.rows self.old.writes)) }
         requires unchanged { IsTrue is_unchanged → AreUnchanged tables.now.rows self.old.readings }
         requires ready { F.is_ready source.old }
-        ensures done { IfOk result (λ answer. (one : OneDone) × ((answer ≡ one.answer) × HasDone F.drew tables.now (F.names source.old) settings.now self.old statement.now source.old drawn.old.items one self.new source.new drawn.new.items)) }
-        ensures unchanged { OnOk result (StayUnchanged tables.now.rows self.old.readings self.new.readings) }
-        ensures ended { IfErr result (λ ended. Ends F.drew (one_left (shape_of tables.now (F.names source.old)) (with_writes tables.now.rows self.old.writes) settings.now statement.now) source.old ended source.new) }
+        ensures done { IfOk result (λ answer. (one : OneDone)
+            × ((answer ≡ one.answer) × HasDone F.drew tables.now (F.names source.old) settings.now
+            self.old statement.now source.old drawn.old.items one self.new source.new
+            drawn.new.items)) }
+        ensures unchanged { OnOk result (StayUnchanged tables.now.rows self.old.readings
+            self.new.readings) }
+        ensures ended { IfErr result (λ ended.
+            Ends F.drew (one_left (shape_of tables.now (F.names source.old))
+            (with_writes tables.now.rows self.old.writes) settings.now statement.now) source.old
+            ended source.new) }
         ensures names { F.names source.new ≡ F.names source.old }
         ensures ready { F.is_ready source.new }
     {
@@ -294,10 +328,13 @@ impl Txn {
     /// Reads the place of a plan, and does it.
     fn work(&mut self, tables: &Tables, plan: Plan, is_unchanged: bool) -> Result<Answer, NoMemory>
         requires ordered { AreTables tables.now.rows }
-        requires fits { IsTrue (tables_fit tables.now.schemas (with_writes tables.now.rows self.old.writes)) }
+        requires fits { IsTrue (tables_fit tables.now.schemas
+            (with_writes tables.now.rows self.old.writes)) }
         requires unchanged { IsTrue is_unchanged → AreUnchanged tables.now.rows self.old.readings }
-        ensures worked { IfOk result (λ answer. HasWorked tables.now self.old plan answer self.new) }
-        ensures unchanged { OnOk result (StayUnchanged tables.now.rows self.old.readings self.new.readings) }
+        ensures worked { IfOk result (λ answer. HasWorked tables.now self.old plan answer
+            self.new) }
+        ensures unchanged { OnOk result (StayUnchanged tables.now.rows self.old.readings
+            self.new.readings) }
     {
         self.read_place(tables, &plan, is_unchanged)?;
         self.do_plan(tables, plan)
@@ -311,7 +348,8 @@ impl Txn {
         is_unchanged: bool,
     ) -> Result<(), NoMemory>
         requires { IsTrue is_unchanged → AreUnchanged tables.now.rows self.old.readings }
-        ensures read { OnOk result (HasReadIfAny tables.now.rows self.old.readings (place_of plan.now) self.new.readings) }
+        ensures read { OnOk result (HasReadIfAny tables.now.rows self.old.readings
+            (place_of plan.now) self.new.readings) }
         ensures writes { self.new.writes ≡ self.old.writes }
         ensures pieces { self.new.pieces ≡ self.old.pieces }
     {
@@ -322,7 +360,8 @@ impl Txn {
     /// Does a plan, on the committed tables with the transaction's own writes over them.
     fn do_plan(&mut self, tables: &Tables, plan: Plan) -> Result<Answer, NoMemory>
         requires ordered { AreTables tables.now.rows }
-        requires fits { IsTrue (tables_fit tables.now.schemas (with_writes tables.now.rows self.old.writes)) }
+        requires fits { IsTrue (tables_fit tables.now.schemas
+            (with_writes tables.now.rows self.old.writes)) }
         ensures { IfOk result (λ answer. HasWritten tables.now self.old plan answer self.new) }
     {
         let effect = effect_on(self.alloc, tables, &self.own, plan)?;

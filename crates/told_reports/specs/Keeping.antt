@@ -42,7 +42,8 @@ is_item _ = true
 
 -- settings rise, and the calls can be made
 abbrev pub is_entry : Entry → Bool
-is_entry entry = names_rise None entry.settings && list_all (λ piece. is_made piece.call) entry.pieces
+is_entry entry = names_rise None entry.settings
+    && list_all (λ piece. is_made piece.call) entry.pieces
 
 pub record IsTold (report : Report) : Type 0 where
   pub events : IsTrue (events_fit report.notes 0 report.served)

@@ -29,16 +29,21 @@ none_yet = record { over = []; now = []; held = None; last = None }
 
 -- an identifier stands once, where it was tried first
 abbrev pub put_once : List Ltxid → Ltxid → List Ltxid
-put_once found ltxid = if list_any (λ other. same_ltxid other ltxid) found then found else found ++ ltxid ∷ []
+put_once found ltxid = if list_any (λ other. same_ltxid other ltxid) found then found else found
+    ++ ltxid ∷ []
 
 -- tried in the transaction of this number
 abbrev pub put_in : Attempts → ℕ → Ltxid → Attempts
 put_in kept transaction ltxid =
-    if nat_lt transaction (length kept.over) then record kept { over = slice_set kept.over transaction (put_once (get_or kept.over transaction []) ltxid) }
+    if nat_lt transaction (length kept.over) then record kept {
+      over =
+          slice_set kept.over transaction (put_once (get_or kept.over transaction []) ltxid);
+    }
     else record kept { now = put_once kept.now ltxid }
 
 abbrev pub put_tried : Attempts → Attempt → Attempts
-put_tried kept attempt = if attempt.tried then put_in kept attempt.transaction attempt.ltxid else kept
+put_tried kept attempt = if attempt.tried then put_in kept attempt.transaction attempt.ltxid else
+    kept
 
 -- No reply to the last call is to come any more.
 abbrev pub settled_with : Attempts → Option Attempt → Attempts
@@ -63,7 +68,11 @@ told_ltxid (tells.Reply ltxid committed) (Some shown) = Some ltxid
 told_ltxid _ _ = None
 
 abbrev pub told_by : Attempts → Heard → Option Shown → Attempts
-told_by kept heard shown = record kept { held = option_or (told_ltxid heard shown) kept.held; last = answered_by heard shown kept.last }
+told_by kept heard shown = record kept {
+  held = option_or (told_ltxid heard shown) kept.held;
+  last =
+      answered_by heard shown kept.last;
+}
 
 -- the next transaction begins
 abbrev pub next_transaction : Attempts → Attempts
@@ -79,7 +88,14 @@ hears kept heard shown = ended_by (told_by kept heard shown) shown
 
 -- an unmarked call goes out, which is a try until its reply says otherwise
 abbrev pub submitted : Attempts → Ltxid → Call → Attempts
-submitted kept ltxid call = record (settled kept) { last = Some (record { transaction = length kept.over; ltxid = ltxid; commits = has_commit call; tried = has_commit call }) }
+submitted kept ltxid call = record (settled kept) {
+  last = Some (record {
+    transaction = length kept.over;
+    ltxid = ltxid;
+    commits = has_commit call;
+    tried = has_commit call;
+  });
+}
 
 -- it goes out under the identifier that is held
 abbrev pub sent_under : Attempts → Option Ltxid → Up → Attempts
@@ -97,7 +113,12 @@ lists_of kept = kept.over ++ kept.now ∷ []
 
 -- a call that went out
 abbrev pub attempt_of : Sending → Attempt
-attempt_of sending = record { transaction = sending.transaction; ltxid = sending.ltxid; commits = has_commit sending.call; tried = is_try sending }
+attempt_of sending = record {
+  transaction = sending.transaction;
+  ltxid = sending.ltxid;
+  commits = has_commit sending.call;
+  tried = is_try sending;
+}
 
 pub record AreAttempts (trying : Trying) (kept : Attempts) : Type 0 where
   pub over : kept.over ≡ tried_upto trying.over 0 (drop 1 trying.sendings)

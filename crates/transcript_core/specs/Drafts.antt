@@ -37,7 +37,15 @@ pub record Draft : Type 0 where
   pub attempts : Attempts
 
 abbrev pub blank : ℕ → Draft
-blank limit = record { limit = limit; calls = []; failed = None; outcomes = []; asked = None; sessions = []; attempts = none_yet }
+blank limit = record {
+  limit = limit;
+  calls = [];
+  failed = None;
+  outcomes = [];
+  asked = None;
+  sessions = [];
+  attempts = none_yet;
+}
 
 -- one more, if there is one
 abbrev pub one_more : {A : Type 0} → List A → Option A → List A
@@ -46,7 +54,11 @@ one_more list (Some item) = list ++ item ∷ []
 
 -- an outcome is that of the identifier that was asked
 abbrev pub told_of : Heard → Option Ltxid → Option Outcome
-told_of (tells.Outcome committed completed) (Some ltxid) = Some (record { ltxid = ltxid; committed = committed; completed = completed })
+told_of (tells.Outcome committed completed) (Some ltxid) = Some (record {
+  ltxid = ltxid;
+  committed = committed;
+  completed = completed;
+})
 told_of _ _ = None
 
 -- the session that was lent, or whose Hello was taken
@@ -55,12 +67,18 @@ reached (tells.Session ltxid) = Some (session_of ltxid)
 reached _ = None
 
 abbrev pub hears : Draft → Heard → Draft
-hears draft heard = record draft { outcomes = one_more draft.outcomes (told_of heard draft.asked); sessions = one_more draft.sessions (reached heard) }
+hears draft heard = record draft {
+  outcomes = one_more draft.outcomes (told_of heard draft.asked);
+  sessions = one_more draft.sessions (reached heard);
+}
 
 -- no more calls are shown than the request has
 abbrev pub shows : Draft → Option Shown → Draft
 shows draft None = draft
-shows draft (Some shown) = if nat_lt (length draft.calls) draft.limit then record draft { calls = draft.calls ++ shown_call shown ∷ [] } else draft
+shows draft (Some shown) = if nat_lt (length draft.calls) draft.limit then record draft {
+  calls =
+      draft.calls ++ shown_call shown ∷ [];
+} else draft
 
 -- the identifier whose outcome a frame asks for
 abbrev pub asked_by : Up → Option Ltxid
@@ -68,17 +86,31 @@ asked_by (up.Outcome ltxid) = Some ltxid
 asked_by _ = None
 
 abbrev pub sends : Draft → Up → Draft
-sends draft frame = record draft { asked = asked_by frame; attempts = attempts.sends draft.attempts frame }
+sends draft frame = record draft {
+  asked = asked_by frame;
+  attempts =
+      attempts.sends draft.attempts frame;
+}
 
 -- before frames go out
 abbrev pub noted : Draft → Heard → Option Shown → Option Failed → Draft
-noted draft heard shown failed = shows (record (hears draft heard) { failed = option_and_then failure_of failed; attempts = attempts.hears draft.attempts heard shown }) shown
+noted draft heard shown failed = shows (record (hears draft heard) {
+  failed =
+      option_and_then failure_of failed;
+  attempts = attempts.hears draft.attempts heard shown;
+}) shown
 
 abbrev pub notes : Draft → Heard → List Up → Option Shown → Option Failed → Draft
 notes draft heard send shown failed = fold sends (noted draft heard shown failed) send
 
 abbrev pub drafted : Draft → RequestReport
-drafted draft = record { calls = draft.calls; failed = draft.failed; outcomes = draft.outcomes; sessions = draft.sessions; tried = lists_of (settled draft.attempts) }
+drafted draft = record {
+  calls = draft.calls;
+  failed = draft.failed;
+  outcomes = draft.outcomes;
+  sessions = draft.sessions;
+  tried = lists_of (settled draft.attempts);
+}
 
 -- ---- how it stands for the steps
 
@@ -92,7 +124,8 @@ pub record IsOf (account : Account) (draft : Draft) : Type 0 where
   pub asked : draft.asked ≡ asked_in account.last
 
 -- the draft of the request's report after these steps
-pub record IsDraft (terms : Terms) (request : Request) (steps : List Done) (draft : Draft) : Type 0 where
+pub record IsDraft (terms : Terms) (request : Request) (steps : List Done)
+    (draft : Draft) : Type 0 where
   pub limit : draft.limit ≡ length request.calls
   pub told : IsOf (account_of terms request.calls steps) draft
   pub failed : draft.failed ≡ option_and_then failure_of (failed_in steps)
@@ -101,4 +134,8 @@ pub record IsDraft (terms : Terms) (request : Request) (steps : List Done) (draf
 
 -- a step, at any tick and with whatever becomes of the connection
 abbrev pub done_so : Input → ℕ → List Up → Option Shown → Option Failed → Hold → Done
-done_so input now send shown failed hold = record { input = input; now = now; act = record { send = send; shown = shown; failed = failed; hold = hold } }
+done_so input now send shown failed hold = record {
+  input = input;
+  now = now;
+  act = record { send = send; shown = shown; failed = failed; hold = hold };
+}

@@ -8,7 +8,10 @@ use Rattle.transcript_core.specs.declared.next_request.NextRequest.{NextRequest}
 
 -- the first copy of the request at a place, with the further ones that it allows
 abbrev pub at_place : List Request → ℕ → NextRequest
-at_place script place = record { place = place; left = option_map_or (λ request. request.again) (slice_get script place) 0 }
+at_place script place = record {
+  place = place;
+  left = option_map_or (λ request. request.again) (slice_get script place) 0;
+}
 
 -- the place behind this one, up to the end
 abbrev pub place_behind : List Request → ℕ → ℕ
@@ -16,7 +19,10 @@ place_behind script place = if nat_lt place (length script) then place + 1 else 
 
 -- a further copy, or the first copy of the request behind
 abbrev pub follows : List Request → NextRequest → RequestReport → NextRequest
-follows script next report = if is_repeated next.left report then record next { left = next.left - 1 } else at_place script (place_behind script next.place)
+follows script next report = if is_repeated next.left report then record next {
+  left =
+      next.left - 1;
+} else at_place script (place_behind script next.place)
 
 -- the next one after these reports
 abbrev pub IsNext : List Request → List RequestReport → NextRequest → Type 0

@@ -19,7 +19,8 @@ use Rattle.continuity_run.specs.meaning.Headline.{Headline}
 
 -- no clause that is judged is false of what is shown of such a report
 abbrev pub RunsAreRight : Type 0
-RunsAreRight = (document : Document) (r : Report) → Headline document r → IsTrue (no_clash document r) → first_false document (shown_report r) ≡ None
+RunsAreRight = (document : Document) (r : Report) → Headline document r
+    → IsTrue (no_clash document r) → first_false document (shown_report r) ≡ None
 
 -- {"document":document,"report":report}
 abbrev pub pair_value : Data → Data → Data
@@ -38,10 +39,13 @@ pub record IsPairOf (first text bytes : List ℕ) : Type 0 where
 -- where no two answers that were compared have one digest by chance.
 abbrev pub RunsAreNeverDenied : Type 0
 RunsAreNeverDenied =
-    (first text bytes : List ℕ) (answer : IsAnswer telling.Report first text) → IsPairOf first text bytes → IsTrue (no_clash answer.document answer.told.report)
+    (first text bytes : List ℕ) (answer : IsAnswer telling.Report first text)
+    → IsPairOf first text bytes → IsTrue (no_clash answer.document answer.told.report)
     → (one : Clause) (path : List ℕ) → IsWrong bytes one path → ⊥
 
 -- It is right, where no two answers that were compared have one digest by chance.
 abbrev pub RunsAreCheckedRight : Type 0
 RunsAreCheckedRight =
-    (first text bytes : List ℕ) (answer : IsAnswer telling.Report first text) → IsPairOf first text bytes → IsTrue (no_clash answer.document answer.told.report) → IsRight bytes
+    (first text bytes : List ℕ) (answer : IsAnswer telling.Report first text)
+    → IsPairOf first text bytes → IsTrue (no_clash answer.document answer.told.report)
+    → IsRight bytes

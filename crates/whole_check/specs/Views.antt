@@ -12,7 +12,12 @@ abbrev pub owned_as : OwnedAt → Owned
 owned_as one = record { event = one.event; turn = one.turn.now }
 
 abbrev pub shown_as : ShownAt → Shown
-shown_as one = record { call = one.call.now; tried = one.tried.now; shown = one.shown.now; showing = one.showing.now }
+shown_as one = record {
+  call = one.call.now;
+  tried = one.tried.now;
+  shown = one.shown.now;
+  showing = one.showing.now;
+}
 
 -- all of a client
 abbrev pub submissions_as : Submissions → List Submission

@@ -48,7 +48,8 @@ fn showing_of<'a>(step: &Step<'a>) -> Option<&'a Served>
 
 /// The replies by which these steps show calls, in order.
 pub(crate) fn showings<'a>(alloc: Global, steps: &[Step<'a>]) -> Result<Vec<&'a Served>, NoMemory>
-    ensures { IfOk result (λ all. map (λ one. one.now) all.items ≡ showings_def (map step_as steps.now)) }
+    ensures { IfOk result (λ all. map (λ one. one.now) all.items
+        ≡ showings_def (map step_as steps.now)) }
 {
     let mut all = Vec::new(alloc);
     for step in steps {
@@ -61,7 +62,8 @@ pub(crate) fn showings<'a>(alloc: Global, steps: &[Step<'a>]) -> Result<Vec<&'a 
 
 /// The sessions that these steps acquired, in order.
 pub(crate) fn sessions_of(alloc: Global, steps: &[Step<'_>]) -> Result<Vec<SessionId>, NoMemory>
-    ensures { IfOk result (λ all. all.items ≡ filter_map (λ step. step.session) (map step_as steps.now)) }
+    ensures { IfOk result (λ all. all.items
+        ≡ filter_map (λ step. step.session) (map step_as steps.now)) }
 {
     let mut all = Vec::new(alloc);
     for step in steps {

@@ -25,21 +25,28 @@ use Rattle.world_core.specs.Beside.{StandsFor}
 
 -- Each client that is held stands for the machine's of its number, by its own script, and the
 -- machine has no further ones.
-pub record StandEach (R : Type 0) (rules : R → Rules) (held : List (Held R)) (t : Traced) : Type 0 where
+pub record StandEach (R : Type 0) (rules : R → Rules) (held : List (Held R))
+    (t : Traced) : Type 0 where
   pub many : length held ≡ length t.setting.scripts
-  pub each : (index : ℕ) (one : Held R) → slice_get held index ≡ Some one → (client : Client) × StandsFor R rules (script_at t.setting (suc index)) (suc index) one t client
-  pub none : (index : ℕ) → slice_get held index ≡ None → client_at t.machine.clients (suc index) ≡ None
+  pub each : (index : ℕ) (one : Held R) → slice_get held index ≡ Some one
+      → (client : Client) × StandsFor R rules (script_at t.setting (suc index))
+      (suc index) one t client
+  pub none : (index : ℕ) → slice_get held index ≡ None
+      → client_at t.machine.clients (suc index) ≡ None
 
 -- so they do behind an event that is no step of a client
 abbrev pub StayEach : (R : Type 0) → (R → Rules) → Type 0
 StayEach R rules =
-    (seen later : Seen) (t next : Traced) (event : Event) (note : Note) (items left : List Served) (held : List (Held R)) → OneEvent seen t event note items left later next → is_go event ≡ false → StandEach R rules held t → StandEach R rules held next
+    (seen later : Seen) (t next : Traced) (event : Event) (note : Note) (items left : List Served)
+    (held : List (Held R)) → OneEvent seen t event note items left later next
+    → is_go event ≡ false → StandEach R rules held t → StandEach R rules held next
 
 abbrev pub scripts_of : List Script → List (List Request)
 scripts_of clients = map (λ client. client.requests) clients
 
 -- service and traffic stand somewhere, with clients of these scripts beside them
-pub record SomeAmong (R : Type 0) (rules : R → Rules) (sees : Seen → Type 0) (scripts : List Script) (traffic : Traffic) (held : List (Held R)) : Type 0 where
+pub record SomeAmong (R : Type 0) (rules : R → Rules) (sees : Seen → Type 0) (scripts : List Script)
+    (traffic : Traffic) (held : List (Held R)) : Type 0 where
   pub seen : Seen
   pub traced : Traced
   pub place : IsAt sees traffic seen traced
@@ -47,7 +54,8 @@ pub record SomeAmong (R : Type 0) (rules : R → Rules) (sees : Seen → Type 0)
   pub stand : StandEach R rules held traced
 
 -- the step of the client of this number was made, and all stand for what the machine has then
-pub record StepAmong (R : Type 0) (rules : R → Rules) (sees_later : Seen → Type 0) (number : ℕ) (after : Traffic) (held : List (Held R)) (seen : Seen) (t : Traced) (note : Note) : Type 0 where
+pub record StepAmong (R : Type 0) (rules : R → Rules) (sees_later : Seen → Type 0) (number : ℕ)
+    (after : Traffic) (held : List (Held R)) (seen : Seen) (t : Traced) (note : Note) : Type 0 where
   pub seen_later : Seen
   pub later : Traced
   pub made : OneEvent seen t (event.Go number) note [] [] seen_later later
@@ -55,9 +63,11 @@ pub record StepAmong (R : Type 0) (rules : R → Rules) (sees_later : Seen → T
   pub place : IsAt sees_later after seen_later later
   pub stand : StandEach R rules held later
 
-abbrev pub MakesAmong : (R : Type 0) → (R → Rules) → (Seen → Type 0) → Traffic → (Seen → Type 0) → Traffic → List Script → ℕ → List (Held R) → List (Held R) → Note → Type 0
+abbrev pub MakesAmong : (R : Type 0) → (R → Rules) → (Seen → Type 0) → Traffic → (Seen → Type 0)
+    → Traffic → List Script → ℕ → List (Held R) → List (Held R) → Note → Type 0
 MakesAmong R rules sees before sees_later after scripts number old new note =
-    (seen : Seen) (t : Traced) → IsAt sees before seen t → t.setting.scripts ≡ scripts_of scripts → StandEach R rules old t → StepAmong R rules sees_later number after new seen t note
+    (seen : Seen) (t : Traced) → IsAt sees before seen t → t.setting.scripts ≡ scripts_of scripts
+    → StandEach R rules old t → StepAmong R rules sees_later number after new seen t note
 
 -- each request of a script is fit
 abbrev pub IsFitScript : Script → Type 0
@@ -65,4 +75,5 @@ IsFitScript script = AllByRecursion IsFit script.requests
 
 -- before the first event, where drivers go by the terms of the run
 abbrev pub BeginEach : (R : Type 0) → (R → Rules) → Terms → List Script → List (Held R) → Type 0
-BeginEach R rules terms scripts held = (document : Document) → scripts ≡ document.clients → terms ≡ terms_of document.service → StandEach R rules held (traced_start document)
+BeginEach R rules terms scripts held = (document : Document) → scripts ≡ document.clients
+    → terms ≡ terms_of document.service → StandEach R rules held (traced_start document)

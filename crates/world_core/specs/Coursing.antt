@@ -62,7 +62,8 @@ IsNow _ _ _ _ = ⊥
 -- beside the request in course: the driver goes by the terms of the run, the reports are those of
 -- the past requests, and the next request follows them; `is_lost` where the loss of its connection
 -- is the next thing that is heard
-pub record IsBeside (R : Type 0) (rules : R → Rules) (setting : Setting) (number tick : ℕ) (is_lost : Bool) (held : Held R) (client : Client) : Type 0 where
+pub record IsBeside (R : Type 0) (rules : R → Rules) (setting : Setting) (number tick : ℕ)
+    (is_lost : Bool) (held : Held R) (client : Client) : Type 0 where
   pub terms : terms_in R rules held ≡ setting.terms
   pub past : held.past ≡ reports_of client.past
   pub following : IsNext (script_at setting number) (reports_of client.past) held.next
@@ -70,7 +71,8 @@ pub record IsBeside (R : Type 0) (rules : R → Rules) (setting : Setting) (numb
   pub ticks : ArePast held.driver.talk tick
   pub gone : held.driver.gone_next ≡ is_lost
 
-pub record IsClient (R : Type 0) (rules : R → Rules) (setting : Setting) (number tick : ℕ) (is_lost : Bool) (held : Held R) (client : Client) : Type 0 where
+pub record IsClient (R : Type 0) (rules : R → Rules) (setting : Setting) (number tick : ℕ)
+    (is_lost : Bool) (held : Held R) (client : Client) : Type 0 where
   pub beside : IsBeside R rules setting number tick is_lost held client
   pub now : IsNow setting.terms held.driver.talk held.course client.now
 
@@ -80,23 +82,31 @@ IsSettled talk is_lost Keep = Unit {0}
 IsSettled talk is_lost _ = (talk.phase ≡ Idle) × (is_lost ≡ false)
 
 -- one report more, and the request that follows it
-pub record Closes (R : Type 0) (script : List Request) (report : RequestReport) (before after : Held R) : Type 0 where
+pub record Closes (R : Type 0) (script : List Request) (report : RequestReport)
+    (before after : Held R) : Type 0 where
   pub driver : after.driver ≡ before.driver
   pub course : after.course ≡ before.course
   pub past : after.past ≡ before.past ++ report ∷ []
-  pub next : (reports : List RequestReport) → IsNext script reports before.next → IsNext script (reports ++ report ∷ []) after.next
+  pub next : (reports : List RequestReport) → IsNext script reports before.next
+      → IsNext script (reports ++ report ∷ []) after.next
 
 -- the request in course heard the input at this event: what is to be sent, what becomes of its
 -- connection, and the client then
-pub record Hears (R : Type 0) (rules : R → Rules) (setting : Setting) (number event tick : ℕ) (client : Client) (doing : Doing) (input : Input) (frames : List Up) (kept : Hold) (after : Held R) : Type 0 where
+pub record Hears (R : Type 0) (rules : R → Rules) (setting : Setting) (number event tick : ℕ)
+    (client : Client) (doing : Doing) (input : Input) (frames : List Up) (kept : Hold)
+    (after : Held R) : Type 0 where
   pub send : frames ≡ (step_at setting.terms event tick doing input).done.act.send
   pub hold : kept ≡ (step_at setting.terms event tick doing input).done.act.hold
-  pub stands : IsClient R rules setting number tick (is_gone_next input kept) after (after_hold setting number client (heard setting.terms event tick doing input) kept)
+  pub stands : IsClient R rules setting number tick (is_gone_next input kept) after
+      (after_hold setting number client (heard setting.terms event tick doing input) kept)
 
 -- a request is in course now, or there is none
-abbrev pub Begins : (R : Type 0) → (R → Rules) → Setting → ℕ → ℕ → Client → Option Doing → Bool → Held R → Type 0
-Begins R rules setting number tick client None there after = (there ≡ false) × IsClient R rules setting number tick false after client
-Begins R rules setting number tick client (Some doing) there after = (there ≡ true) × IsClient R rules setting number tick false after (record client { now = Some doing })
+abbrev pub Begins : (R : Type 0) → (R → Rules) → Setting → ℕ → ℕ → Client → Option Doing → Bool
+    → Held R → Type 0
+Begins R rules setting number tick client None there after = (there ≡ false)
+    × IsClient R rules setting number tick false after client
+Begins R rules setting number tick client (Some doing) there after = (there ≡ true)
+    × IsClient R rules setting number tick false after (record client { now = Some doing })
 
 -- with this connection
 abbrev pub with_connection : Option Course → Option ℕ → Option Course

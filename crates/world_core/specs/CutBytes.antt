@@ -14,9 +14,12 @@ pub record KeepsFirst (up down : ℕ) (held later : Connection) : Type 0 where
 -- on the connection of this number, if it was open
 abbrev pub KeepsFirstAt : ℕ → ℕ → ℕ → List Connection → List Connection → Type 0
 KeepsFirstAt number up down before after =
-    (held : Connection) → connection_at before number ≡ Some held → held.ended ≡ None → (later : Connection) × ((connection_at after number ≡ Some later) × KeepsFirst up down held later)
+    (held : Connection) → connection_at before number ≡ Some held → held.ended ≡ None
+    → (later : Connection) × ((connection_at after number ≡ Some later)
+    × KeepsFirst up down held later)
 
 -- no other event cuts one
 abbrev pub CutsFirst : Event → Traffic → Traffic → Type 0
-CutsFirst (event.Cut number up down) before after = KeepsFirstAt number up down before.connections.all.items after.connections.all.items
+CutsFirst (event.Cut number up down) before after =
+    KeepsFirstAt number up down before.connections.all.items after.connections.all.items
 CutsFirst _ before after = Unit {0}

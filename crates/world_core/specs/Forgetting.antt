@@ -30,16 +30,23 @@ settled held = record held { ending = None; ended = held.ended ++ ended_now held
 -- the first of these, where it may be forgotten from the next tick on, is passed
 abbrev pub passed_first : Held → List EndedAt → Held
 passed_first held [] = held
-passed_first held (first ∷ others) = if first.tick + held.retention == held.tick then record held { passed = held.passed + 1; wanted = max (first.incarnation + 1) held.wanted } else held
+passed_first held (first ∷ others) = if first.tick + held.retention == held.tick then
+    record held { passed = held.passed + 1; wanted = max (first.incarnation + 1) held.wanted } else
+    held
 
 -- one tick later
 abbrev pub ticked : Held → Held
-ticked held = record (passed_first (settled held) (drop held.passed (held.ended ++ ended_now held))) { tick = held.tick + 1 }
+ticked held = record (passed_first (settled held) (drop held.passed (held.ended ++ ended_now held)))
+    { tick = held.tick + 1 }
 
 -- the incarnation that goes on ends, if one does; of two that end in one tick the greater is held
 abbrev pub ends : Held → Option ℕ → Held
 ends held None = held
-ends held (Some incarnation) = record held { running = None; ending = Some (option_map_or (max incarnation) held.ending incarnation) }
+ends held (Some incarnation) = record held {
+  running = None;
+  ending =
+      Some (option_map_or (max incarnation) held.ending incarnation);
+}
 
 abbrev pub ends_unless : Bool → Held → Held
 ends_unless true held = held
@@ -48,10 +55,12 @@ ends_unless false held = ends held held.running
 -- its sums are numbers of 64 bits
 abbrev pub FirstFits : Held → List EndedAt → Type 0
 FirstFits held [] = Unit {0}
-FirstFits held (first ∷ others) = (first.tick + held.retention < 2 ^ 64) × (first.incarnation ≤ 2 ^ 63)
+FirstFits held (first ∷ others) = (first.tick + held.retention < 2 ^ 64)
+    × (first.incarnation ≤ 2 ^ 63)
 
 abbrev pub MayTick : Held → Type 0
-MayTick held = (held.tick < 2 ^ 48) × FirstFits (settled held) (drop held.passed (held.ended ++ ended_now held))
+MayTick held = (held.tick < 2 ^ 48) × FirstFits (settled held)
+    (drop held.passed (held.ended ++ ended_now held))
 
 -- those that were not passed, the earliest first
 abbrev pub waiting : Held → List EndedAt
@@ -62,12 +71,17 @@ ended_of one = record { incarnation = one.incarnation; tick = one.tick }
 
 -- the horizon that these ask for at a tick
 abbrev pub horizon_by : ℕ → ℕ → List EndedAt → ℕ
-horizon_by retention tick ended = wanted_horizon retention (record { tick = tick; running = None; ended = map ended_of ended })
+horizon_by retention tick ended = wanted_horizon retention (record {
+  tick = tick;
+  running = None;
+  ended = map ended_of ended;
+})
 
 -- each ended in a tick of its own before this one, and is kept until this tick or longer
 abbrev pub Wait : ℕ → ℕ → ℕ → List EndedAt → Type 0
 Wait retention tick least [] = least ≤ tick + retention
-Wait retention tick least (one ∷ ended) = (least ≤ one.tick + retention) × (one.tick < tick) × (one.incarnation ≤ 2 ^ 63) × Wait retention tick (one.tick + retention + 1) ended
+Wait retention tick least (one ∷ ended) = (least ≤ one.tick + retention) × (one.tick < tick)
+    × (one.incarnation ≤ 2 ^ 63) × Wait retention tick (one.tick + retention + 1) ended
 
 -- What is held is what the notes of a run told: whatever tick comes, those that were passed and
 -- those that were not ask for the horizon that is wanted then.
@@ -77,7 +91,9 @@ pub record Tracks (retention : ℕ) (held : Held) (told : Openings) : Type 0 whe
   pub running : told.running ≡ held.running
   pub numbered : (incarnation : ℕ) → held.running ≡ Some incarnation → incarnation ≤ 2 ^ 63
   pub ends : (incarnation : ℕ) → held.ending ≡ Some incarnation → incarnation ≤ 2 ^ 63
-  pub wanted : (tick : ℕ) → held.tick ≤ tick → wanted_horizon retention (record told { tick = tick }) ≡ max held.wanted (horizon_by retention tick (waiting held))
+  pub wanted : (tick : ℕ) → held.tick ≤ tick
+      → wanted_horizon retention (record told { tick = tick }) ≡ max held.wanted
+      (horizon_by retention tick (waiting held))
   pub passed : held.passed ≤ length held.ended
   pub wait : Wait retention held.tick held.tick (drop held.passed held.ended)
 

@@ -64,12 +64,14 @@ may_be_served held = held.is_living && is_some (first_payload held.up.bytes)
 -- the frame that is served next was taken off, where one may be served
 abbrev pub GivesFront : Link → Option Front → Option Up → Connection → Type 0
 GivesFront link None frame after = (frame ≡ None) × IsLink after link
-GivesFront link (Some front) frame after = (frame ≡ Some front.first.frame) × IsLink after (record front.link { up = front.later })
+GivesFront link (Some front) frame after = (frame ≡ Some front.first.frame)
+    × IsLink after (record front.link { up = front.later })
 
 -- the reply that stands first was taken, where one stands there
 abbrev pub GivesReply : Link → List Reply → Option Down → Connection → Type 0
 GivesReply link [] frame after = (frame ≡ None) × IsLink after link
-GivesReply link (reply ∷ left) frame after = (frame ≡ Some reply.frame) × IsLink after (takes (Took reply.frame link.is_open) reply left link)
+GivesReply link (reply ∷ left) frame after = (frame ≡ Some reply.frame)
+    × IsLink after (takes (Took reply.frame link.is_open) reply left link)
 
 -- the connections are those of the machine, in order of opening
 abbrev pub AreLinks : List Connection → List Link → Type 0
@@ -95,7 +97,8 @@ HaveFallen (suc many) (link ∷ links) = HasFallen link × HaveFallen many links
 
 -- the number of each whose session lives is among these
 abbrev pub HasLiving : BTreeSet ℕ → List Link → Type 0
-HasLiving living links = (number : ℕ) (link : Link) → link_at links number ≡ Some link → link.is_living ≡ true → contains nat_cmp living number ≡ true
+HasLiving living links = (number : ℕ) (link : Link) → link_at links number ≡ Some link
+    → link.is_living ≡ true → contains nat_cmp living number ≡ true
 
 pub record Stand (held : Connections) (links : List Link) : Type 0 where
   pub are : AreLinks held.all.items links
@@ -134,14 +137,18 @@ IsFound _ _ = ⊥
 -- served
 abbrev pub GivesFrontAt : List Link → ℕ → Option Front → Option Up → Connections → Type 0
 GivesFrontAt links number None frame after = (frame ≡ None) × Stand after links
-GivesFrontAt links number (Some front) frame after = (frame ≡ Some front.first.frame) × Stand after (with_link links number (record front.link { up = front.later }))
+GivesFrontAt links number (Some front) frame after = (frame ≡ Some front.first.frame)
+    × Stand after (with_link links number (record front.link { up = front.later }))
 
 -- the reply that stands first on it was taken, where one stands there
 abbrev pub GivesReplyAt : List Link → ℕ → Link → List Reply → Option Down → Connections → Type 0
 GivesReplyAt links number link [] frame after = (frame ≡ None) × Stand after links
-GivesReplyAt links number link (reply ∷ left) frame after = (frame ≡ Some reply.frame) × Stand after (with_link links number (takes (Took reply.frame link.is_open) reply left link))
+GivesReplyAt links number link (reply ∷ left) frame after = (frame ≡ Some reply.frame)
+    × Stand after (with_link links number (takes (Took reply.frame link.is_open) reply left link))
 
 -- it was cut, where it was open
 abbrev pub CutsAt : List Link → ℕ → ℕ → ℕ → ℕ → Option Link → Option Reached → Connections → Type 0
 CutsAt links number event up down None reached after = (reached ≡ None) × Stand after links
-CutsAt links number event up down (Some link) reached after = (reached ≡ Some (reached_of link up down)) × Stand after (with_link links number (cut_link event up down link))
+CutsAt links number event up down (Some link) reached after =
+    (reached ≡ Some (reached_of link up down))
+    × Stand after (with_link links number (cut_link event up down link))

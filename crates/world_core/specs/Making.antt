@@ -38,7 +38,8 @@ IsSomewhere sees traffic = (seen : Seen) × ((t : Traced) × IsAt sees traffic s
 
 -- The event was made with this note and these items, and machine and service stand behind it. An
 -- opening asked for this horizon.
-pub record Made (below : ℕ) (seen : Seen) (t : Traced) (sees_later : Seen → Type 0) (after : Traffic) (event : Event) (note : Note) (items : List Served) : Type 0 where
+pub record Made (below : ℕ) (seen : Seen) (t : Traced) (sees_later : Seen → Type 0)
+    (after : Traffic) (event : Event) (note : Note) (items : List Served) : Type 0 where
   pub seen_later : Seen
   pub later : Traced
   pub made : OneEvent seen t event note items [] seen_later later
@@ -47,9 +48,13 @@ pub record Made (below : ℕ) (seen : Seen) (t : Traced) (sees_later : Seen → 
 
 -- whatever was seen and wherever the machine stood, the event was made, and an opening asked for
 -- this horizon
-abbrev pub MakesBelow : ℕ → (Seen → Type 0) → Traffic → (Seen → Type 0) → Traffic → Event → Note → List Served → Type 0
-MakesBelow below sees before sees_later after event note items = (seen : Seen) (t : Traced) → IsAt sees before seen t → Made below seen t sees_later after event note items
+abbrev pub MakesBelow : ℕ → (Seen → Type 0) → Traffic → (Seen → Type 0) → Traffic → Event → Note
+    → List Served → Type 0
+MakesBelow below sees before sees_later after event note items = (seen : Seen) (t : Traced)
+    → IsAt sees before seen t → Made below seen t sees_later after event note items
 
 -- an event that opens nothing, whichever horizon is wanted
-abbrev pub Makes : (Seen → Type 0) → Traffic → (Seen → Type 0) → Traffic → Event → Note → List Served → Type 0
-Makes sees before sees_later after event note items = (below : ℕ) → MakesBelow below sees before sees_later after event note items
+abbrev pub Makes : (Seen → Type 0) → Traffic → (Seen → Type 0) → Traffic → Event → Note
+    → List Served → Type 0
+Makes sees before sees_later after event note items = (below : ℕ)
+    → MakesBelow below sees before sees_later after event note items

@@ -114,7 +114,8 @@ pub(crate) fn served_item(frame: Up, reply: Option<Down>) -> Item
 
 /// Whether a session ends with a call that is answered so.
 fn ends_by_call(reply: &Option<Down>) -> bool
-    ensures { (replay : Bool) (call : Called) → result ≡ is_last_def (call_item_def replay call reply.now) }
+    ensures { (replay : Bool) (call : Called)
+        → result ≡ is_last_def (call_item_def replay call reply.now) }
 {
     match reply {
         Some(Down::Reply { .. }) => false,

@@ -24,7 +24,8 @@ living_of (Some link) = if link.is_living then Some link.session else None
 
 -- how many of the entries are of this session
 abbrev pub entries_in : List Entry → SessionId → ℕ
-entries_in entries session = count_by (λ entry. same_session (session_of entry.ltxid) session) entries
+entries_in entries session = count_by (λ entry. same_session (session_of entry.ltxid) session)
+    entries
 
 -- a session that lives has stored what it answered Committed, and no more
 abbrev pub HasStored : List Entry → Option (Option SessionId) → ℕ → Type 0
@@ -48,15 +49,18 @@ HasLived history None life = Unit {0}
 
 -- the session is made later: in an incarnation to come, or in this one behind those that were made
 abbrev pub IsLater : Server → SessionId → Type 0
-IsLater server session = (server.incarnation < session.incarnation) ⊎ ((server.is_up ≡ true) × ((session.incarnation ≡ server.incarnation) × (server.sessions < session.session)))
+IsLater server session = (server.incarnation < session.incarnation) ⊎ ((server.is_up ≡ true)
+    × ((session.incarnation ≡ server.incarnation) × (server.sessions < session.session)))
 
 -- The incarnation is that of the store. While the server is down openings may have been stopped
 -- that stored theirs.
 pub record SameServer (server : Server) (seen : Seen) : Type 0 where
   pub is_up : server.is_up ≡ seen.state.is_up
   pub per_record : server.per_record ≡ seen.state.per_record
-  pub opened : seen.state.is_up ≡ true → (server.incarnation ≡ seen.state.store.incarnation) × ((server.sessions ≡ seen.state.sessions) × (server.stopped ≡ 0))
-  pub closed : seen.state.is_up ≡ false → (server.incarnation ≤ seen.state.store.incarnation) × (seen.state.store.incarnation ≤ server.incarnation + server.stopped)
+  pub opened : seen.state.is_up ≡ true → (server.incarnation ≡ seen.state.store.incarnation)
+      × ((server.sessions ≡ seen.state.sessions) × (server.stopped ≡ 0))
+  pub closed : seen.state.is_up ≡ false → (server.incarnation ≤ seen.state.store.incarnation)
+      × (seen.state.store.incarnation ≤ server.incarnation + server.stopped)
 
 pub record Coupled (seen : Seen) (t : Traced) : Type 0 where
   pub history : IsHistory seen
@@ -66,14 +70,18 @@ pub record Coupled (seen : Seen) (t : Traced) : Type 0 where
   pub server : SameServer t.machine.server seen
   -- the connections that live, with their sessions
   pub living : (number : ℕ) → seen.state.living number ≡ living_of (link_at t.machine.links number)
-  pub stored : (number : ℕ) (link : Link) → link_at t.machine.links number ≡ Some link → HasStored seen.state.store.entries (living_of (Some link)) link.commits
+  pub stored : (number : ℕ) (link : Link) → link_at t.machine.links number ≡ Some link
+      → HasStored seen.state.store.entries (living_of (Some link)) link.commits
   -- each session that lives is where its frames led it, and one that is made later is not in the
   -- history
-  pub lives : (number : ℕ) (link : Link) → link_at t.machine.links number ≡ Some link → HasLived seen.history (living_of (Some link)) (life_of link.served)
-  pub later : (session : SessionId) → IsLater t.machine.server session → life_by seen.history session ≡ New
+  pub lives : (number : ℕ) (link : Link) → link_at t.machine.links number ≡ Some link
+      → HasLived seen.history (living_of (Some link)) (life_of link.served)
+  pub later : (session : SessionId) → IsLater t.machine.server session
+      → life_by seen.history session ≡ New
   -- the journal
   pub entries : t.entries ≡ seen.state.store.entries
   pub blocked : t.blocked ≡ seen.state.store.blocked
   pub image : t.image ≡ length seen.start.entries
   -- a block was told, or a stopped frame asked for it
-  pub blocks : (x : Ltxid) → is_blocked t.blocked x ≡ true → (is_blocked t.machine.server.blocked x || is_blocked t.machine.server.doubtful x) ≡ true
+  pub blocks : (x : Ltxid) → is_blocked t.blocked x ≡ true
+      → (is_blocked t.machine.server.blocked x || is_blocked t.machine.server.doubtful x) ≡ true

@@ -20,6 +20,8 @@ StoppedAt after (served ∷ items) state = state.last_stop ≡ Some after
 -- A crash is counted where the server was up, and behind an opening that was begun under a stop. No
 -- other event counts one.
 abbrev pub CountsCrash : Event → Note → List Served → ServiceState → ServiceState → Type 0
-CountsCrash (event.Crash connection after pick) (note.Crash named false) items before later = Counted pick before later × StoppedAt after items later
-CountsCrash (event.UpCrash after pick) (note.UpCrash true) items before later = Counted pick before later × (later.last_stop ≡ Some after)
+CountsCrash (event.Crash connection after pick) (note.Crash named false) items before later =
+    Counted pick before later × StoppedAt after items later
+CountsCrash (event.UpCrash after pick) (note.UpCrash true) items before later =
+    Counted pick before later × (later.last_stop ≡ Some after)
 CountsCrash _ _ items before later = later.crashes ≡ before.crashes

@@ -23,15 +23,19 @@ pub record CanFinish (t : Traced) (place : Place) : Type 0 where
 -- each event of the finish leaves less of it
 abbrev pub FinishFalls : Type 0
 FinishFalls =
-    (before after : Seen) (old new : Traced) (event : Event) (note : Note) (items left : List Served) (place next : Place)
-    → OneEvent before old event note items left after new → CanFinish old place → next_finish old.machine place ≡ Some (event, next)
+    (before after : Seen) (old new : Traced) (event : Event) (note : Note)
+    (items left : List Served) (place next : Place)
+    → OneEvent before old event note items left after new → CanFinish old place
+    → next_finish old.machine place ≡ Some (event, next)
     → remaining new.setting new.machine next < remaining old.setting old.machine place
 
 -- and the next one may follow it
 abbrev pub FinishGoesOn : Type 0
 FinishGoesOn =
-    (before after : Seen) (old new : Traced) (event : Event) (note : Note) (items left : List Served) (place next : Place)
-    → OneEvent before old event note items left after new → CanFinish old place → next_finish old.machine place ≡ Some (event, next) → CanFinish new next
+    (before after : Seen) (old new : Traced) (event : Event) (note : Note)
+    (items left : List Served) (place next : Place)
+    → OneEvent before old event note items left after new → CanFinish old place
+    → next_finish old.machine place ≡ Some (event, next) → CanFinish new next
 
 -- it may begin wherever the state is orderly: behind the schedule it is
 abbrev pub FinishBegins : Type 0

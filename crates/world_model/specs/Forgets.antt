@@ -12,7 +12,8 @@ use Rattle.server_model.specs.Seen.{Store}
 -- stopped did so, or left it as it was; every other event leaves it.
 abbrev pub Forgets : ℕ → Note → Store → Store → Type 0
 Forgets below (note.Up (Some incarnation)) old new = new.horizon ≡ max old.horizon below
-Forgets below (note.UpCrash true) old new = (new.horizon ≡ old.horizon) ⊎ (new.horizon ≡ max old.horizon below)
+Forgets below (note.UpCrash true) old new =
+    (new.horizon ≡ old.horizon) ⊎ (new.horizon ≡ max old.horizon below)
 Forgets below _ old new = new.horizon ≡ old.horizon
 
 -- the openings that the notes of a run tell
@@ -25,4 +26,5 @@ first_of document = first_opening (was_opened document) (journal_before document
 
 -- the horizon that is wanted behind these notes
 abbrev pub wanted_behind : Document → List Note → ℕ
-wanted_behind document notes = wanted_horizon document.service.retention (openings_of (first_of document) notes)
+wanted_behind document notes = wanted_horizon document.service.retention
+    (openings_of (first_of document) notes)

@@ -33,7 +33,8 @@ drawn_outside _ = []
 -- it held: entries come from what happened, and blocks were asked for in it. The crashes that the
 -- service counts are those of the events, each with its pick and its stop. What was told of
 -- identifiers is told by the table on what the store held before.
-pub record OneEvent (before : Seen) (old : Traced) (event : Event) (note : Note) (items left : List Served) (after : Seen) (new : Traced) : Type 0 where
+pub record OneEvent (before : Seen) (old : Traced) (event : Event) (note : Note)
+    (items left : List Served) (after : Seen) (new : Traced) : Type 0 where
   pub follows : follow old.setting old.machine event note items ≡ Some (new.machine, left)
   pub happened : List Happened
   pub did : ServiceDid old.machine event note items happened

@@ -87,7 +87,10 @@ pub record Numbered : Type 0 where
 
 abbrev pub numbered_from : ℕ → List Link → List Numbered
 numbered_from number [] = []
-numbered_from number (link ∷ links) = record { number = number; link = link } ∷ numbered_from (number + 1) links
+numbered_from number (link ∷ links) = record {
+  number = number;
+  link = link;
+} ∷ numbered_from (number + 1) links
 
 abbrev pub links_of : Traced → List Numbered
 links_of t = numbered_from 1 t.machine.links
@@ -118,11 +121,19 @@ with_taken answers [] = []
 with_taken answers (sending ∷ earlier) = record sending { taken = Some answers } ∷ earlier
 
 abbrev pub answered : Input → Option Shown → List Sending → List Sending
-answered (Took (down.Reply answers draws x) alive) (Some shown) sendings = with_taken answers sendings
+answered (Took (down.Reply answers draws x) alive) (Some shown) sendings =
+    with_taken answers sendings
 answered _ _ sendings = sendings
 
 abbrev pub sent_on : Scan → List Sending → Up → List Sending
-sent_on scan sendings (up.Call false kept call) = option_map_or (λ x. record { owner = scan.owner; connection = scan.connection; ltxid = x; at = scan.shown; call = call; taken = None } ∷ sendings) scan.held sendings
+sent_on scan sendings (up.Call false kept call) = option_map_or (λ x. record {
+  owner = scan.owner;
+  connection = scan.connection;
+  ltxid = x;
+  at = scan.shown;
+  call = call;
+  taken = None;
+} ∷ sendings) scan.held sendings
 sent_on scan sendings _ = sendings
 
 abbrev pub scanned : Scan → Step → Scan
@@ -137,7 +148,13 @@ scanned scan step =
     record now { sendings = fold (sent_on now) now.sendings step.done.act.send }
 
 abbrev pub scan_of : Course → Scan
-scan_of course = fold scanned (record { owner = course.owner; connection = 0; held = None; shown = 0; sendings = [] }) course.steps
+scan_of course = fold scanned (record {
+  owner = course.owner;
+  connection = 0;
+  held = None;
+  shown = 0;
+  sendings = [];
+}) course.steps
 
 -- the last one first
 abbrev pub sendings_of : Course → List Sending

@@ -26,7 +26,8 @@ calls_in (request ∷ script) = length request.calls + calls_in script
 
 -- the most rounds of one request of the script
 abbrev pub rounds_of_one : Terms → List Request → ℕ
-rounds_of_one terms script = (calls_in script + terms.limits.replays) * attempt terms + (terms.limits.delay + (terms.limits.wait + 8))
+rounds_of_one terms script = (calls_in script + terms.limits.replays) * attempt terms
+    + (terms.limits.delay + (terms.limits.wait + 8))
 
 -- how many copies of a request may still be submitted
 abbrev pub copies_left : Copies → ℕ
@@ -45,7 +46,8 @@ requests_left script past = all_left (copies_of script (reports_of past))
 
 -- The connection of a request is open, or it has none.
 abbrev pub on_open : List Link → Option ℕ → Bool
-on_open links connection = option_map_or (λ link. link.is_open) (option_and_then (link_at links) connection) true
+on_open links connection = option_map_or (λ link. link.is_open)
+    (option_and_then (link_at links) connection) true
 
 -- a frame on it may be served
 abbrev pub may_serve : List Link → Option ℕ → Bool
@@ -56,16 +58,21 @@ may_serve links connection = is_some (option_and_then (front_at links) connectio
 abbrev pub doing_rounds : Setting → Machine → Bool → Doing → ℕ
 doing_rounds setting m stepped doing =
     talk_rounds setting.terms m.tick (on_open m.links doing.connection) doing.talk
-    + once_if (not (awaits_tick setting.terms m.tick doing.talk doing.talk.phase) && (stepped || may_serve m.links doing.connection))
+    + once_if (not (awaits_tick setting.terms m.tick doing.talk doing.talk.phase)
+    && (stepped || may_serve m.links doing.connection))
 
-abbrev pub rounds_with : Setting → Machine → Bool → List Request → ℕ → Option Doing → Option Request → ℕ
+abbrev pub rounds_with : Setting → Machine → Bool → List Request → ℕ → Option Doing → Option Request
+    → ℕ
 rounds_with setting m stepped script left None None = 0
-rounds_with setting m stepped script left None (Some next) = left * rounds_of_one setting.terms script + once_if stepped
-rounds_with setting m stepped script left (Some doing) next = (left - 1) * rounds_of_one setting.terms script + doing_rounds setting m stepped doing
+rounds_with setting m stepped script left None (Some next) =
+    left * rounds_of_one setting.terms script + once_if stepped
+rounds_with setting m stepped script left (Some doing) next =
+    (left - 1) * rounds_of_one setting.terms script + doing_rounds setting m stepped doing
 
 -- how many rounds a client may still take
 abbrev pub client_rounds : Setting → Machine → Bool → List Request → Client → ℕ
-client_rounds setting m stepped script client = rounds_with setting m stepped script (requests_left script client.past) client.now client.next
+client_rounds setting m stepped script client =
+    rounds_with setting m stepped script (requests_left script client.past) client.now client.next
 
 -- OF ALL ------------------------------------------------------------------------------------------
 
@@ -78,7 +85,8 @@ has_stepped _ number = false
 abbrev pub rounds_from : Setting → Machine → Place → ℕ → List Client → ℕ
 rounds_from setting m place number [] = 0
 rounds_from setting m place number (client ∷ clients) =
-    client_rounds setting m (has_stepped place number) (script_at setting number) client + rounds_from setting m place (number + 1) clients
+    client_rounds setting m (has_stepped place number) (script_at setting number) client
+    + rounds_from setting m place (number + 1) clients
 
 -- what is left on the connections: frames that were sent, and orphans
 abbrev pub link_work : Link → ℕ

@@ -12,7 +12,8 @@ use Rattle.world_model.specs.Traced.{Traced}
 
 -- The report has the notes and items of a whole run, what its clients were shown, what the plain
 -- server beside it has gained, and the horizon that the store ends with.
-pub record IsReported (document : Document) (report : Report) (seen : Seen) (t : Traced) (server : Server) : Type 0 where
+pub record IsReported (document : Document) (report : Report) (seen : Seen) (t : Traced)
+    (server : Server) : Type 0 where
   pub run : IsRun document report.notes report.served seen t
   pub clients : report.clients ≡ transcripts_of t.machine
   pub runs : Runs (service_base document) seen.history server

@@ -25,7 +25,8 @@ awaits_tick terms now talk _ = false
 
 -- how many replays may still be started
 abbrev pub replays_left : Terms → Phase → ℕ
-replays_left terms phase = terms.limits.replays - option_map_or (λ track. track.replays) (track_of phase) 0
+replays_left terms phase = terms.limits.replays
+    - option_map_or (λ track. track.replays) (track_of phase) 0
 
 -- the most rounds from the moment at which a call or a replay is used up to the next loss, and on
 -- to its outcome: each recorded call, the submitted one, the wait for a try, the connection, its
@@ -41,16 +42,20 @@ rounds_in terms now opens last Idle = 0
 rounds_in terms now opens last Unbegun = terms.limits.delay + (terms.limits.wait + 8)
 rounds_in terms now opens last (Queued from) = terms.limits.delay + (slot_wait terms now from + 7)
 rounds_in terms now opens last (Seeking None) = terms.limits.delay + (try_wait terms now last + 6)
-rounds_in terms now opens last (Greeting None) = if opens then terms.limits.delay + 5 else terms.limits.delay + (terms.limits.delay + 7)
+rounds_in terms now opens last (Greeting None) =
+    if opens then terms.limits.delay + 5 else terms.limits.delay + (terms.limits.delay + 7)
 rounds_in terms now opens last (Seeking (Some lost)) = try_wait terms now last + 3
 rounds_in terms now opens last (Greeting (Some lost)) = if opens then 2 else terms.limits.delay + 4
 rounds_in terms now opens last (Asked asking) = if opens then 1 else terms.limits.delay + 4
 rounds_in terms now opens last (Running state) = terms.limits.delay + 4
-rounds_in terms now opens last (Replaying state) = terms.limits.delay + (4 + (length state.track.recorder.calls - state.verified))
+rounds_in terms now opens last (Replaying state) =
+    terms.limits.delay + (4 + (length state.track.recorder.calls - state.verified))
 
 -- All of it: each call that is left and each replay that is left is used up once.
 abbrev pub rounds_by : Terms → ℕ → Bool → Option ℕ → ℕ → Phase → ℕ
-rounds_by terms now opens last left phase = (left + replays_left terms phase) * attempt terms + rounds_in terms now opens last phase
+rounds_by terms now opens last left phase =
+    (left + replays_left terms phase) * attempt terms + rounds_in terms now opens last phase
 
 abbrev pub talk_rounds : Terms → ℕ → Bool → Talk → ℕ
-talk_rounds terms now opens talk = rounds_by terms now opens talk.last_try (length talk.left) talk.phase
+talk_rounds terms now opens talk = rounds_by terms now opens talk.last_try (length talk.left)
+    talk.phase

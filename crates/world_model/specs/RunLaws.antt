@@ -16,10 +16,13 @@ use Rattle.world_model.specs.Traced.{Traced}
 -- were, is one that its events lead to.
 abbrev pub RunsAreFollowed : Type 0
 RunsAreFollowed =
-    (document : Document) (report : Report) (seen : Seen) (t : Traced) → IsRun document report.notes report.served seen t → report.clients ≡ transcripts_of t.machine → IsTrue (followed document report)
+    (document : Document) (report : Report) (seen : Seen) (t : Traced)
+    → IsRun document report.notes report.served seen t
+    → report.clients ≡ transcripts_of t.machine → IsTrue (followed document report)
 
 -- wherever a run has come to, it is orderly
 abbrev pub RunsAreOrderly : Type 0
 RunsAreOrderly =
-    (document : Document) (events : List Event) (notes : List Note) (items : List Served) (seen : Seen) (t : Traced)
+    (document : Document) (events : List Event) (notes : List Note) (items : List Served)
+    (seen : Seen) (t : Traced)
     → IsTrue (all_requests_right document) → Reached document events notes items seen t → Orderly t

@@ -43,7 +43,8 @@ same_ahead _ _ = false
 
 abbrev pub same_down : Down → Down → Bool
 same_down (down.Hello x) (down.Hello y) = same_ltxid x y
-same_down (down.Reply a d x) (down.Reply b e y) = same_answers a b && (same_draws d e && same_ltxid x y)
+same_down (down.Reply a d x) (down.Reply b e y) =
+    same_answers a b && (same_draws d e && same_ltxid x y)
 same_down (down.OutcomeIs a b) (down.OutcomeIs c d) = same_bool a c && same_bool b d
 same_down (down.OutcomeRefused w n) (down.OutcomeRefused v m) = same_ahead w v && (n == m)
 same_down down.Blocked down.Blocked = true

@@ -16,16 +16,21 @@ use Rattle.world_model.specs.meaning.ServiceDid.{front_telling}
 
 -- the frame that stands first is served, as the first item says
 abbrev pub front_served : ℕ → Option Front → List Served → List Happened
-front_served now (Some front) (served ∷ items) = ServedFrame served.session now front.first.frame (front_telling front served) ∷ []
+front_served now (Some front) (served ∷ items) =
+    ServedFrame served.session now front.first.frame (front_telling front served) ∷ []
 front_served now _ _ = []
 
 -- An event that serves a frame has one thing, one that runs calls outside what these did in a
 -- session of their own, a question one, and every other event has none. (The machine follows the
 -- event, so a frame that is noted stands first.)
 abbrev pub ServiceDid : Machine → Event → Note → List Served → List Happened → Type 0
-ServiceDid m (event.Serve connection) note items more = more ≡ front_served m.tick (front_at m.links connection) items
-ServiceDid m (event.Crash connection after pick) note items more = more ≡ (if m.server.is_up then front_served m.tick (front_at m.links connection) items else [])
+ServiceDid m (event.Serve connection) note items more =
+    more ≡ front_served m.tick (front_at m.links connection) items
+ServiceDid m (event.Crash connection after pick) note items more =
+    more ≡ (if m.server.is_up then front_served m.tick (front_at m.links connection) items else [])
 ServiceDid m (event.Outside calls) (note.Outside (Some ran)) items more =
-    (runs : List Happened) × ((more ≡ begins_outside (next_session m.server) m.tick ++ runs) × RunsAre (next_session m.server) m.tick calls (runs_of ran) runs)
-ServiceDid m (event.Ask x) (note.Ask named (Some told)) items more = more ≡ Asked x (Says (outcome_frame told)) ∷ []
+    (runs : List Happened) × ((more ≡ begins_outside (next_session m.server) m.tick ++ runs)
+    × RunsAre (next_session m.server) m.tick calls (runs_of ran) runs)
+ServiceDid m (event.Ask x) (note.Ask named (Some told)) items more =
+    more ≡ Asked x (Says (outcome_frame told)) ∷ []
 ServiceDid m _ _ items more = more ≡ []

@@ -37,7 +37,15 @@ pub record Course : Type 0 where
   pub report : RequestReport
 
 abbrev pub course_over : ℕ → ℕ → Past → Course
-course_over client place past = record { owner = record { client = client; place = place }; request = past.request; steps = past.steps; phase = Idle; connection = None; is_over = true; report = past.report }
+course_over client place past = record {
+  owner = record { client = client; place = place };
+  request = past.request;
+  steps = past.steps;
+  phase = Idle;
+  connection = None;
+  is_over = true;
+  report = past.report;
+}
 
 abbrev pub course_now : Setting → ℕ → ℕ → Doing → Course
 course_now setting client place doing = record {
@@ -54,11 +62,14 @@ course_now setting client place doing = record {
 abbrev pub courses_from : Setting → ℕ → ℕ → List Past → Option Doing → List Course
 courses_from setting client place [] None = []
 courses_from setting client place [] (Some doing) = course_now setting client place doing ∷ []
-courses_from setting client place (past ∷ others) now = course_over client place past ∷ courses_from setting client (place + 1) others now
+courses_from setting client place (past ∷ others) now =
+    course_over client place past ∷ courses_from setting client (place + 1) others now
 
 abbrev pub courses_of_clients : Setting → ℕ → List Client → List Course
 courses_of_clients setting number [] = []
-courses_of_clients setting number (client ∷ clients) = courses_from setting number 0 client.past client.now ++ courses_of_clients setting (number + 1) clients
+courses_of_clients setting number (client ∷ clients) =
+    courses_from setting number 0 client.past client.now
+    ++ courses_of_clients setting (number + 1) clients
 
 abbrev pub courses_of : Traced → List Course
 courses_of t = courses_of_clients t.setting 1 t.machine.clients

@@ -40,10 +40,14 @@ module _ (S R : Type 0) (sees : S → Seen → Type 0) (rules : R → Rules) (sc
   pub record IsOver (document : Document) (parts : Parts S R) : Type 0 where
     pub seen : Seen
     pub traced : Traced
-    pub stands : Stands S R sees rules scripts document.service.retention (first_of document) parts seen traced
+    pub stands : Stands S R sees rules scripts document.service.retention
+        (first_of document) parts seen traced
     pub run : IsRun document parts.notes parts.served seen traced
 
   -- wherever the schedule of a document has led to, the finish leads on to the end of its run
   abbrev pub Finishes : Parts S R → Parts S R → Type 0
   Finishes before after =
-      (document : Document) (seen : Seen) (t : Traced) → Stands S R sees rules scripts document.service.retention (first_of document) before seen t → IsFinishing document AtServer before.notes before.served seen t → IsOver document after
+      (document : Document) (seen : Seen) (t : Traced)
+      → Stands S R sees rules scripts document.service.retention (first_of document) before seen
+      t → IsFinishing document AtServer before.notes before.served seen t
+      → IsOver document after

@@ -44,11 +44,14 @@ abbrev pub last_incarnation : Server → ℕ
 last_incarnation server = server.incarnation + server.stopped
 
 -- the event is noted
-pub record Notes {S R : Type 0} (note : Note) (items : List Served) (before after : Parts S R) : Type 0 where
+pub record Notes {S R : Type 0} (note : Note) (items : List Served)
+    (before after : Parts S R) : Type 0 where
   pub notes : after.notes ≡ before.notes ++ note ∷ []
   pub served : after.served ≡ before.served ++ items
-  pub tracked : (retention : ℕ) (told : Openings) → Tracks retention before.openings told → Tracks retention after.openings (after_note told note)
-  pub same : (after.service ≡ before.service) × (after.traffic ≡ before.traffic) × (after.clients ≡ before.clients)
+  pub tracked : (retention : ℕ) (told : Openings) → Tracks retention before.openings told
+      → Tracks retention after.openings (after_note told note)
+  pub same : (after.service ≡ before.service) × (after.traffic ≡ before.traffic)
+      × (after.clients ≡ before.clients)
 
 module _ (S R : Type 0) (sees : S → Seen → Type 0) (rules : R → Rules) (scripts : List Script) where
   -- service and clients stand so
@@ -59,7 +62,8 @@ module _ (S R : Type 0) (sees : S → Seen → Type 0) (rules : R → Rules) (sc
 
   -- What is seen of the service, and where the machine has come to, in a run with these scripts,
   -- whose store was opened so before event 1.
-  pub record Stands (retention : ℕ) (first : Openings) (parts : Parts S R) (seen : Seen) (t : Traced) : Type 0 where
+  pub record Stands (retention : ℕ) (first : Openings) (parts : Parts S R) (seen : Seen)
+      (t : Traced) : Type 0 where
     pub beside : StandBeside parts seen t
     -- each event has its note
     pub counted : t.machine.event ≡ length parts.notes
@@ -78,31 +82,38 @@ module _ (S R : Type 0) (sees : S → Seen → Type 0) (rules : R → Rules) (sc
     pub stands : Stands retention first parts seen traced
 
   -- The event was made, and is not noted yet.
-  pub record IsLed (event : Event) (note : Note) (items : List Served) (before after : Parts S R) (seen : Seen) (t : Traced) : Type 0 where
+  pub record IsLed (event : Event) (note : Note) (items : List Served) (before after : Parts S R)
+      (seen : Seen) (t : Traced) : Type 0 where
     pub seen_later : Seen
     pub later : Traced
     pub made : OneEvent seen t event note items [] seen_later later
     -- an opening asked for the horizon that the openings so far want
-    pub forgets : (retention : ℕ) (told : Openings) → Tracks retention before.openings told → Forgets (wanted_horizon retention told) note seen.state.store seen_later.state.store
+    pub forgets : (retention : ℕ) (told : Openings) → Tracks retention before.openings told
+        → Forgets (wanted_horizon retention told) note seen.state.store seen_later.state.store
     pub beside : StandBeside after seen_later later
-    pub same : (after.openings ≡ before.openings) × (after.notes ≡ before.notes) × (after.served ≡ before.served)
+    pub same : (after.openings ≡ before.openings) × (after.notes ≡ before.notes)
+        × (after.served ≡ before.served)
 
   abbrev pub Leads : Event → Note → List Served → Parts S R → Parts S R → Type 0
-  Leads event note items before after = (seen : Seen) (t : Traced) → StandBeside before seen t → IsLed event note items before after seen t
+  Leads event note items before after = (seen : Seen) (t : Traced) → StandBeside before seen t
+      → IsLed event note items before after seen t
 
   -- The event was made: machine and service went on by it, with one note more, and the items that
   -- it served. An opening forgot what is wanted then.
-  pub record GoesOn (retention : ℕ) (first : Openings) (event : Event) (before after : Parts S R) (seen : Seen) (t : Traced) : Type 0 where
+  pub record GoesOn (retention : ℕ) (first : Openings) (event : Event) (before after : Parts S R)
+      (seen : Seen) (t : Traced) : Type 0 where
     pub seen_later : Seen
     pub later : Traced
     pub note : Note
     pub items : List Served
     pub made : OneEvent seen t event note items [] seen_later later
-    pub forgets : Forgets (wanted_horizon retention (openings_of first before.notes)) note seen.state.store seen_later.state.store
+    pub forgets : Forgets (wanted_horizon retention (openings_of first before.notes)) note
+        seen.state.store seen_later.state.store
     pub stands : Stands retention first after seen_later later
     pub notes : after.notes ≡ before.notes ++ note ∷ []
     pub served : after.served ≡ before.served ++ items
 
   -- whatever was seen, and wherever the machine stood
   abbrev pub MakesOne : Event → Parts S R → Parts S R → Type 0
-  MakesOne event before after = (retention : ℕ) (first : Openings) (seen : Seen) (t : Traced) → Stands retention first before seen t → GoesOn retention first event before after seen t
+  MakesOne event before after = (retention : ℕ) (first : Openings) (seen : Seen) (t : Traced)
+      → Stands retention first before seen t → GoesOn retention first event before after seen t

@@ -18,7 +18,8 @@ use Rattle.world_run.specs.Running.{Parts, Stands}
 -- The document has this service and these scripts. The service may be seen as a new one whose store
 -- is what stands before event 1; it is stopped by nothing but what a run asks for, and was opened
 -- before or not.
-pub record IsOf (sees : Seen → Type 0) (rules : Rules) (of : ServiceOf) (scripts : List Script) (opened : Bool) (document : Document) (seen : Seen) : Type 0 where
+pub record IsOf (sees : Seen → Type 0) (rules : Rules) (of : ServiceOf) (scripts : List Script)
+    (opened : Bool) (document : Document) (seen : Seen) : Type 0 where
   pub service : document.service ≡ of
   pub clients : document.clients ≡ scripts
   pub calls : IsTrue (all_requests_right document)
@@ -34,7 +35,8 @@ pub record IsOf (sees : Seen → Type 0) (rules : Rules) (of : ServiceOf) (scrip
 
 -- a document and a service that are so
 abbrev pub IsOfSome : (Seen → Type 0) → Rules → ServiceOf → List Script → Bool → Type 0
-IsOfSome sees rules of scripts opened = (document : Document) × ((seen : Seen) × IsOf sees rules of scripts opened document seen)
+IsOfSome sees rules of scripts opened = (document : Document)
+    × ((seen : Seen) × IsOf sees rules of scripts opened document seen)
 
 -- the limits that a service keeps to here
 pub record HasRoom (of : ServiceOf) : Type 0 where
@@ -42,8 +44,10 @@ pub record HasRoom (of : ServiceOf) : Type 0 where
   pub retention : of.retention ≤ 2 ^ 62
 
 -- the run of the document stands before its first event
-pub record StandsAtStart (S R : Type 0) (sees : S → Seen → Type 0) (rules : R → Rules) (scripts : List Script) (document : Document) (parts : Parts S R) : Type 0 where
+pub record StandsAtStart (S R : Type 0) (sees : S → Seen → Type 0) (rules : R → Rules)
+    (scripts : List Script) (document : Document) (parts : Parts S R) : Type 0 where
   pub seen : Seen
   pub reached : Reached document [] [] [] seen (traced_start document)
-  pub stands : Stands S R sees rules scripts document.service.retention (first_of document) parts seen (traced_start document)
+  pub stands : Stands S R sees rules scripts document.service.retention
+      (first_of document) parts seen (traced_start document)
   pub none : (parts.notes ≡ []) × (parts.served ≡ [])

@@ -49,9 +49,12 @@ answer_of word.CommitInReplay = answer.CommitInReplay
 -- what the member of this name says
 abbrev pub answer_named : List ℕ → Data → Result Answer Fault
 answer_named name inner =
-    if bytes_eq name (codes "done") then (within name (number_in inner) >>= λ n. Ok (answer.Done n)) else (
-    if bytes_eq name (codes "rows") then (within name (rows_in inner) >>= λ rows. Ok (answer.Rows rows)) else (
-    if bytes_eq name (codes "number") then (within name (integer_of inner) >>= λ n. Ok (answer.Number n)) else (
+    if bytes_eq name (codes "done") then (within name (number_in inner) >>= λ n. Ok (answer.Done n))
+    else (
+    if bytes_eq name (codes "rows") then
+    (within name (rows_in inner) >>= λ rows. Ok (answer.Rows rows)) else (
+    if bytes_eq name (codes "number") then
+    (within name (integer_of inner) >>= λ n. Ok (answer.Number n)) else (
     if bytes_eq name (codes "refused")
     then (within name (whole_of 1 9 inner) >>= λ n. Ok (answer.Refused (refusal_of n)))
     else Err (here Unknown))))

@@ -18,7 +18,8 @@ draw_words = (codes "seq", word.Seq) ∷ (codes "clock", word.Clock) ∷ (codes 
 -- ["seq",name,value]
 unfoldable pub seq_in : Data → Result Draw Fault
 seq_in d =
-    fixed 3 d >>= λ ds. part 1 name_of ds >>= λ name. part 2 integer_of ds >>= λ n. Ok (draw.Seq name n)
+    fixed 3 d >>= λ ds. part 1 name_of ds >>= λ name. part 2 integer_of
+    ds >>= λ n. Ok (draw.Seq name n)
 
 -- ["clock",tick]
 unfoldable pub clock_in : Data → Result Draw Fault

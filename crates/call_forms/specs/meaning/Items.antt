@@ -31,40 +31,51 @@ changed_by changeword.Plus operand = change.Plus operand
 
 -- ["insert",table,[operand,...]] with 1 to 8 operands
 unfoldable pub insert_of : Digits → Data → Result Item Fault
-insert_of digits d = fixed 3 d >>= λ ds. part 1 name_of ds >>= λ table. part 2 (array_of 1 8 (each_of (operand_of digits))) ds >>= λ values. Ok (item.Statement (statement.Insert table values))
+insert_of digits d = fixed 3 d >>= λ ds. part 1 name_of ds >>= λ table.
+    part 2 (array_of 1 8 (each_of (operand_of digits))) ds >>= λ values.
+    Ok (item.Statement (statement.Insert table values))
 
 -- ["update",table,operand,column,"to" or "plus",operand]
 unfoldable pub update_of : Digits → Data → Result Item Fault
 update_of digits d =
-    fixed 6 d >>= λ ds. part 1 name_of ds >>= λ table. part 2 (operand_of digits) ds >>= λ key. part 3 name_of ds >>= λ column.
-    part 4 (word_of change_words) ds >>= λ word. part 5 (operand_of digits) ds >>= λ operand. Ok (item.Statement (statement.Update table key column (changed_by word operand)))
+    fixed 6 d >>= λ ds. part 1 name_of ds >>= λ table. part 2 (operand_of digits) ds >>= λ key.
+    part 3 name_of ds >>= λ column.
+    part 4 (word_of change_words) ds >>= λ word. part 5 (operand_of digits) ds >>= λ operand.
+    Ok (item.Statement (statement.Update table key column (changed_by word operand)))
 
 -- ["delete",table,operand] and ["get",table,operand]
 unfoldable pub delete_of : Digits → Data → Result Item Fault
-delete_of digits d = fixed 3 d >>= λ ds. part 1 name_of ds >>= λ table. part 2 (operand_of digits) ds >>= λ key. Ok (item.Statement (statement.Delete table key))
+delete_of digits d = fixed 3 d >>= λ ds. part 1 name_of ds >>= λ table. part 2 (operand_of digits)
+    ds >>= λ key. Ok (item.Statement (statement.Delete table key))
 
 unfoldable pub get_of : Digits → Data → Result Item Fault
-get_of digits d = fixed 3 d >>= λ ds. part 1 name_of ds >>= λ table. part 2 (operand_of digits) ds >>= λ key. Ok (item.Statement (statement.Get table key))
+get_of digits d = fixed 3 d >>= λ ds. part 1 name_of ds >>= λ table. part 2 (operand_of digits) ds
+    >>= λ key. Ok (item.Statement (statement.Get table key))
 
 -- ["select",table,column,"eq" or "lt" or "ge",operand]
 unfoldable pub select_of : Digits → Data → Result Item Fault
 select_of digits d =
-    fixed 5 d >>= λ ds. part 1 name_of ds >>= λ table. part 2 name_of ds >>= λ column. part 3 (word_of test_words) ds >>= λ compared. part 4 (operand_of digits) ds >>= λ operand.
+    fixed 5 d >>= λ ds. part 1 name_of ds >>= λ table. part 2 name_of ds >>= λ column.
+    part 3 (word_of test_words) ds >>= λ compared. part 4 (operand_of digits) ds >>= λ operand.
     Ok (item.Statement (statement.Select table column compared operand))
 
 -- ["count",table], ["sum",table,column] and ["show",operand]
 unfoldable pub count_of : Data → Result Item Fault
-count_of d = fixed 2 d >>= λ ds. part 1 name_of ds >>= λ table. Ok (item.Statement (statement.Count table))
+count_of d = fixed 2 d >>= λ ds. part 1 name_of ds >>= λ table.
+    Ok (item.Statement (statement.Count table))
 
 unfoldable pub sum_of : Data → Result Item Fault
-sum_of d = fixed 3 d >>= λ ds. part 1 name_of ds >>= λ table. part 2 name_of ds >>= λ column. Ok (item.Statement (statement.Sum table column))
+sum_of d = fixed 3 d >>= λ ds. part 1 name_of ds >>= λ table. part 2 name_of ds >>= λ column.
+    Ok (item.Statement (statement.Sum table column))
 
 unfoldable pub show_of : Digits → Data → Result Item Fault
-show_of digits d = fixed 2 d >>= λ ds. part 1 (operand_of digits) ds >>= λ operand. Ok (item.Statement (statement.Show operand))
+show_of digits d = fixed 2 d >>= λ ds. part 1 (operand_of digits) ds >>= λ operand.
+    Ok (item.Statement (statement.Show operand))
 
 -- ["set",name,value]
 unfoldable pub set_of : Digits → Data → Result Item Fault
-set_of digits d = fixed 3 d >>= λ ds. part 1 name_of ds >>= λ name. part 2 (value_of digits) ds >>= λ x. Ok (item.Set name x)
+set_of digits d = fixed 3 d >>= λ ds. part 1 name_of ds >>= λ name. part 2 (value_of digits) ds >>=
+    λ x. Ok (item.Set name x)
 
 -- ["alter",text]
 unfoldable pub alter_of : Data → Result Item Fault
@@ -76,8 +87,11 @@ alone_of one d = fixed 1 d >>= λ _. Ok one
 
 abbrev pub item_words : List (List ℕ × ItemWord)
 item_words =
-    (codes "insert", word.Insert) ∷ (codes "update", word.Update) ∷ (codes "delete", word.Delete) ∷ (codes "get", word.Get) ∷ (codes "select", word.Select) ∷ (codes "count", word.Count) ∷ (codes "sum", word.Sum) ∷ (codes "show", word.Show)
-    ∷ (codes "set", word.Set) ∷ (codes "alter", word.Alter) ∷ (codes "disable", word.Disable) ∷ (codes "rollback", word.Rollback) ∷ (codes "commit", word.Commit) ∷ []
+    (codes "insert", word.Insert) ∷ (codes "update", word.Update) ∷ (codes "delete", word.Delete)
+    ∷ (codes "get", word.Get) ∷ (codes "select", word.Select) ∷ (codes "count", word.Count)
+    ∷ (codes "sum", word.Sum) ∷ (codes "show", word.Show)
+    ∷ (codes "set", word.Set) ∷ (codes "alter", word.Alter) ∷ (codes "disable", word.Disable)
+    ∷ (codes "rollback", word.Rollback) ∷ (codes "commit", word.Commit) ∷ []
 
 -- by the word that it begins with
 abbrev pub item_by : Digits → ItemWord → Data → Result Item Fault

@@ -42,7 +42,8 @@ bytes_value digits d = octets_of digits d >>= short value.Bytes
 
 -- bytes stand as an object with the one member `hex`
 unfoldable pub bytes_object : Digits → Data → Result Value Fault
-bytes_object digits d = object_with (codes "hex" ∷ []) d >>= λ ms. required (codes "hex") ms >>= λ hex. within (codes "hex") (bytes_value digits hex)
+bytes_object digits d = object_with (codes "hex" ∷ []) d >>= λ ms. required (codes "hex") ms >>=
+    λ hex. within (codes "hex") (bytes_value digits hex)
 
 abbrev pub number_or_bytes : Digits → Data → Option Num → Result Value Fault
 number_or_bytes digits d None = bytes_object digits d
@@ -67,10 +68,15 @@ draw_words = (codes "clock", kind.Clock) ∷ (codes "id", kind.Id) ∷ []
 -- what the member of this name says
 abbrev pub operand_named : Digits → List ℕ → Data → Result Operand Fault
 operand_named digits name inner =
-    if bytes_eq name (codes "hex") then (within name (bytes_value digits inner) >>= λ x. Ok (operand.Lit x)) else (
-    if bytes_eq name (codes "var") then (within name (name_of inner) >>= λ n. Ok (operand.Var n)) else (
-    if bytes_eq name (codes "seq") then (within name (name_of inner) >>= λ n. Ok (operand.Draw (kind.Seq n))) else (
-    if bytes_eq name (codes "draw") then (within name (word_of draw_words inner) >>= λ k. Ok (operand.Draw k)) else Err (here Unknown))))
+    if bytes_eq name (codes "hex") then (within name (bytes_value digits inner) >>= λ x.
+    Ok (operand.Lit x)) else (
+    if bytes_eq name (codes "var") then (within name (name_of inner) >>= λ n. Ok (operand.Var n))
+    else (
+    if bytes_eq name (codes "seq") then (within name (name_of inner) >>= λ n.
+    Ok (operand.Draw (kind.Seq n))) else (
+    if bytes_eq name (codes "draw") then
+    (within name (word_of draw_words inner) >>= λ k. Ok (operand.Draw k)) else
+    Err (here Unknown))))
 
 abbrev pub literal_or_named : Digits → Data → Option Members → Result Operand Fault
 literal_or_named digits d None = value_of digits d >>= λ x. Ok (operand.Lit x)

@@ -52,4 +52,6 @@ copies_answered copies = list_all (answered_or_waited copies.request) copies.rep
 
 -- each request of each script has its report, and was answered or waited too long
 abbrev pub all_answered_or_waited : Document → Report → Bool
-all_answered_or_waited document report = are_in_script_order document.clients report.clients && each_copies copies_answered document report
+all_answered_or_waited document report =
+    are_in_script_order document.clients report.clients
+    && each_copies copies_answered document report

@@ -24,7 +24,8 @@ unfoldable pub work_at : List ℕ → Result (Call × List ℕ) Fault
 work_at bytes = do
   statements ← statements_at bytes
   commit ← bool_at statements.1
-  if is_made (call.Work statements.0 commit.0) then Ok (call.Work statements.0 commit.0, commit.1) else Err (BadPart (suc (length bytes)))
+  if is_made (call.Work statements.0 commit.0) then Ok (call.Work statements.0 commit.0, commit.1)
+      else Err (BadPart (suc (length bytes)))
 
 -- behind the tag of a call that changes a setting
 unfoldable pub set_at : List ℕ → Result (Call × List ℕ) Fault

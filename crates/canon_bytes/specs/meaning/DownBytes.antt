@@ -18,8 +18,10 @@ spell_ahead ahead.Forgotten = 3 ∷ []
 
 abbrev pub spell_down : Down → List ℕ
 spell_down (down.Hello ltxid) = 17 ∷ spell_ltxid ltxid
-spell_down (down.Reply answers draws ltxid) = 18 ∷ (spell_answers answers ++ spell_draws draws ++ spell_ltxid ltxid)
-spell_down (down.OutcomeIs committed completed) = 19 ∷ (spell_bool committed ++ spell_bool completed)
+spell_down (down.Reply answers draws ltxid) =
+    18 ∷ (spell_answers answers ++ spell_draws draws ++ spell_ltxid ltxid)
+spell_down (down.OutcomeIs committed completed) =
+    19 ∷ (spell_bool committed ++ spell_bool completed)
 spell_down (down.OutcomeRefused who next) = 20 ∷ (spell_ahead who ++ spell_u64 next)
 spell_down down.Blocked = 21 ∷ []
 spell_down (down.Refused cause) = 22 ∷ cause ∷ []

@@ -38,7 +38,10 @@ seq_draw_at bytes = do
   Ok (draw.Seq name.0 value.0, value.1)
 
 unfoldable pub id_draw_at : List ℕ → Result (Draw × List ℕ) Fault
-id_draw_at bytes = if nat_lt (length bytes) 16 then Err Short else Ok (draw.Id (take 16 bytes), drop 16 bytes)
+id_draw_at bytes = if nat_lt (length bytes) 16 then Err Short else Ok (
+  draw.Id (take 16 bytes),
+  drop 16 bytes,
+)
 
 unfoldable pub draw_at : List ℕ → Result (Draw × List ℕ) Fault
 draw_at [] = Err Short

@@ -56,4 +56,13 @@ entry_at bytes = do
   settings ← settings_at completed.1
   pieces ← listed_at piece_at settings.1
   writes ← listed_at write_at pieces.1
-  Ok (record { ltxid = ltxid.0; completed = completed.0; settings = settings.0; pieces = pieces.0; writes = writes.0 }, writes.1)
+  Ok (
+    record {
+      ltxid = ltxid.0;
+      completed = completed.0;
+      settings = settings.0;
+      pieces = pieces.0;
+      writes = writes.0;
+    },
+    writes.1,
+  )

@@ -10,7 +10,8 @@ unfoldable pub spell_list : {X : Type 0} → (X → List ℕ) → List X → Lis
 spell_list spell items = spell_u64 (length items) ++ flat_map spell items
 
 -- that many items
-unfoldable pub items_at : {X : Type 0} → (List ℕ → Result (X × List ℕ) Fault) → ℕ → List ℕ → Result (List X × List ℕ) Fault
+unfoldable pub items_at : {X : Type 0} → (List ℕ → Result (X × List ℕ) Fault) → ℕ → List ℕ
+    → Result (List X × List ℕ) Fault
 items_at item_at zero bytes = Ok ([], bytes)
 items_at item_at (suc n) bytes = do
   first ← item_at bytes
@@ -18,12 +19,14 @@ items_at item_at (suc n) bytes = do
   Ok (first.0 ∷ others.0, others.1)
 
 -- the number of items, at most limit, and the items; the limit is judged before any item
-unfoldable pub list_at : {X : Type 0} → (List ℕ → Result (X × List ℕ) Fault) → ℕ → List ℕ → Result (List X × List ℕ) Fault
+unfoldable pub list_at : {X : Type 0} → (List ℕ → Result (X × List ℕ) Fault) → ℕ → List ℕ
+    → Result (List X × List ℕ) Fault
 list_at item_at limit bytes = do
   n ← u64_at bytes
   if nat_lt limit n.0 then Err (BadPart (length bytes)) else items_at item_at n.0 n.1
 
-unfoldable pub listed_at : {X : Type 0} → (List ℕ → Result (X × List ℕ) Fault) → List ℕ → Result (List X × List ℕ) Fault
+unfoldable pub listed_at : {X : Type 0} → (List ℕ → Result (X × List ℕ) Fault) → List ℕ
+    → Result (List X × List ℕ) Fault
 listed_at item_at bytes = do
   n ← u64_at bytes
   items_at item_at n.0 n.1

@@ -11,7 +11,8 @@ spell_u64 n = to_be_bytes w64 n
 
 -- a number of this width, most significant byte first
 abbrev pub wide_at : Width → List ℕ → Result (ℕ × List ℕ) Fault
-wide_at w bytes = if nat_lt (length bytes) (byte_len w) then Err Short else Ok (from_be_bytes w (take (byte_len w) bytes), drop (byte_len w) bytes)
+wide_at w bytes = if nat_lt (length bytes) (byte_len w) then Err Short else
+    Ok (from_be_bytes w (take (byte_len w) bytes), drop (byte_len w) bytes)
 
 unfoldable pub u64_at : List ℕ → Result (ℕ × List ℕ) Fault
 u64_at bytes = wide_at w64 bytes

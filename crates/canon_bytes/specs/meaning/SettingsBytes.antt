@@ -21,7 +21,8 @@ spell_settings settings = spell_list spell_setting settings
 unfoldable pub setting_at : Option (List ℕ) → List ℕ → Result ((List ℕ × Value) × List ℕ) Fault
 setting_at before bytes = do
   name ← name_at bytes
-  if rises before name.0 then (value_at name.1 >>= λ value. Ok ((name.0, value.0), value.1)) else Err (BadPart (length bytes))
+  if rises before name.0 then (value_at name.1 >>= λ value. Ok ((name.0, value.0), value.1)) else
+      Err (BadPart (length bytes))
 
 -- that many settings behind the one with this name, if any
 unfoldable pub settings_behind : Option (List ℕ) → ℕ → List ℕ → Result (NamedValues × List ℕ) Fault

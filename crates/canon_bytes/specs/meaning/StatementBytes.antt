@@ -11,10 +11,12 @@ use Rattle.canon_bytes.specs.declared.fault.Fault.TheVariants.{Short, BadTag}
 
 abbrev pub spell_statement : Statement → List ℕ
 spell_statement (statement.Insert table values) = 1 ∷ (spell_bytes table ++ spell_operands values)
-spell_statement (statement.Update table key column by) = 2 ∷ (spell_bytes table ++ spell_operand key ++ spell_bytes column ++ spell_change by)
+spell_statement (statement.Update table key column by) =
+    2 ∷ (spell_bytes table ++ spell_operand key ++ spell_bytes column ++ spell_change by)
 spell_statement (statement.Delete table key) = 3 ∷ (spell_bytes table ++ spell_operand key)
 spell_statement (statement.Get table key) = 4 ∷ (spell_bytes table ++ spell_operand key)
-spell_statement (statement.Select table column by compared) = 5 ∷ (spell_bytes table ++ spell_bytes column ++ spell_test by ++ spell_operand compared)
+spell_statement (statement.Select table column by compared) =
+    5 ∷ (spell_bytes table ++ spell_bytes column ++ spell_test by ++ spell_operand compared)
 spell_statement (statement.Count table) = 6 ∷ spell_bytes table
 spell_statement (statement.Sum table column) = 7 ∷ (spell_bytes table ++ spell_bytes column)
 spell_statement (statement.Show shown) = 8 ∷ spell_operand shown

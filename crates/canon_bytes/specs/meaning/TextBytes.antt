@@ -28,7 +28,8 @@ name_at bytes = do
 unfoldable pub text_at : List ℕ → Result (List ℕ × List ℕ) Fault
 text_at bytes = do
   text ← bytes_at 64 bytes
-  if is_utf8 text.0 then Ok text else Err (BadText (length text.0 - utf8_valid_len text.0 + length text.1))
+  if is_utf8 text.0 then Ok text else Err (BadText (length text.0 - utf8_valid_len text.0
+      + length text.1))
 
 unfoldable pub octets_at : List ℕ → Result (List ℕ × List ℕ) Fault
 octets_at bytes = bytes_at 64 bytes

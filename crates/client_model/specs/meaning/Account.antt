@@ -70,36 +70,78 @@ session_of ltxid = record { ltxid = ltxid; first = false; answered = None; repea
 
 -- nothing was told yet
 abbrev pub unheard : Account
-unheard = record { waits = None; slot = false; tries = 0; shown = []; since_purge = []; purged = 0; first = None; reason = None; outcomes = []; begun = false; last = None; held = None; ended = None; session = session_of None }
+unheard = record {
+  waits = None;
+  slot = false;
+  tries = 0;
+  shown = [];
+  since_purge = [];
+  purged = 0;
+  first = None;
+  reason = None;
+  outcomes = [];
+  begun = false;
+  last = None;
+  held = None;
+  ended = None;
+  session = session_of None;
+}
 
 -- WHAT COMES IN -----------------------------------------------------------------------------------
 
 -- an outcome answers the last frame that went out, if that asked for one
 abbrev pub hears_outcome : Account → Bool → Bool → Option Up → Account
 hears_outcome account committed completed (Some (up.Outcome asked)) =
-    let outcome : Outcome = record { ltxid = asked; committed = committed; completed = completed } in
+    let outcome : Outcome = record {
+      ltxid = asked;
+      committed = committed;
+      completed = completed;
+    } in
     record account {
       outcomes = account.outcomes ++ outcome ∷ [];
       held = account.session.ltxid;
       ended = None;
-      session = record account.session { answered = Some (record { outcome = outcome; held = account.held; event = account.ended; lost = length account.shown; recorded = account.since_purge }) };
+      session = record account.session {
+        answered = Some (record {
+          outcome = outcome;
+          held = account.held;
+          event = account.ended;
+          lost = length account.shown;
+          recorded = account.since_purge;
+        });
+      };
     }
 hears_outcome account committed completed _ = account
 
 -- a reply that is shown belongs to the running call, and any other to a marked one
 abbrev pub hears_reply : Terms → Account → List Answer → Ltxid → Option Shown → Account
-hears_reply terms account answers ltxid None = record account { session = record account.session { repeated = account.session.repeated ++ terms.digest answers ∷ [] } }
-hears_reply terms account answers ltxid (Some shown) = record account { held = Some ltxid; ended = None }
+hears_reply terms account answers ltxid None =
+    record account {
+      session = record account.session {
+        repeated =
+            account.session.repeated ++ terms.digest answers ∷ [];
+      };
+    }
+hears_reply terms account answers ltxid (Some shown) =
+    record account { held = Some ltxid; ended = None }
 
 abbrev pub hears : Terms → Account → Input → ℕ → Option Shown → Account
-hears terms account Waiting now shown = record account { waits = option_or account.waits (Some now) }
+hears terms account Waiting now shown = record account {
+  waits =
+      option_or account.waits (Some now);
+}
 hears terms account TryFailed now shown = record account { slot = true; tries = account.tries + 1 }
 hears terms account (Opened connection) now shown = record account { slot = true; tries = 0 }
-hears terms account (Lent connection ltxid) now shown = record account { slot = true; session = session_of (Some ltxid) }
-hears terms account (Took (down.Hello ltxid) alive) now shown = record account { session = session_of (Some ltxid) }
-hears terms account (Took (down.OutcomeIs committed completed) alive) now shown = hears_outcome account committed completed account.last
-hears terms account (Took (down.Reply answers draws ltxid) alive) now shown = hears_reply terms account answers ltxid shown
-hears terms account (Gone event) now shown = record account { ended = option_or account.ended (Some event) }
+hears terms account (Lent connection ltxid) now shown =
+    record account { slot = true; session = session_of (Some ltxid) }
+hears terms account (Took (down.Hello ltxid) alive) now shown =
+    record account { session = session_of (Some ltxid) }
+hears terms account (Took (down.OutcomeIs committed completed) alive) now shown =
+    hears_outcome account committed completed account.last
+hears terms account (Took (down.Reply answers draws ltxid) alive) now shown =
+    hears_reply terms account answers ltxid shown
+hears terms account (Gone event) now shown =
+    record account { ended = option_or account.ended (Some event) }
 hears terms account _ now shown = account
 
 -- WHAT IS SHOWN -----------------------------------------------------------------------------------
@@ -108,7 +150,8 @@ hears terms account _ now shown = account
 abbrev pub reply_reason : Terms → ℕ → After → Option Why
 reply_reason terms since (after.Stop reason) = Some reason
 reply_reason terms since after.Purge = None
-reply_reason terms since after.Record = if nat_le terms.recorded since then Some (why.Full terms.recorded) else None
+reply_reason terms since after.Record = if nat_le terms.recorded since then
+    Some (why.Full terms.recorded) else None
 
 abbrev pub since_after : List Recorded → Recorded → After → List Recorded
 since_after since one after.Purge = []
@@ -123,7 +166,8 @@ shows_call terms account shown call =
     let after : After = terms.rules.reply shown.answers in
     record account {
       shown = account.shown ++ shown ∷ [];
-      since_purge = since_after account.since_purge (recorded_as terms call shown.answers shown.draws) after;
+      since_purge = since_after account.since_purge
+          (recorded_as terms call shown.answers shown.draws) after;
       purged = purged_after account.purged (length account.shown) after;
       reason = option_or account.reason (reply_reason terms (length account.since_purge) after);
     }
@@ -134,14 +178,21 @@ shows_found terms account shown (Some call) = shows_call terms account shown cal
 
 abbrev pub shows : Terms → List Call → Account → Option Shown → Account
 shows terms calls account None = account
-shows terms calls account (Some shown) = shows_found terms account shown (slice_get calls (length account.shown))
+shows terms calls account (Some shown) =
+    shows_found terms account shown (slice_get calls (length account.shown))
 
 -- WHAT IS SENT ------------------------------------------------------------------------------------
 
 -- only the first Begin makes a session the one whose identifier is held
 abbrev pub begins : Account → Bool → Account
 begins account true = account
-begins account false = record account { begun = true; held = account.session.ltxid; ended = None; session = record account.session { first = true } }
+begins account false = record account {
+  begun = true;
+  held = account.session.ltxid;
+  ended =
+      None;
+  session = record account.session { first = true };
+}
 
 -- An unmarked call goes out: its index is the number of calls shown. Going out again it gives the
 -- reason that it gave before, so nothing changes.
@@ -165,10 +216,12 @@ sends terms now account frame = record (sends_one terms now account frame) { las
 
 -- between input and frames: the input was heard, and its call shown
 abbrev pub before_sends : Terms → List Call → Account → Done → Account
-before_sends terms calls account done = shows terms calls (hears terms account done.input done.now done.act.shown) done.act.shown
+before_sends terms calls account done = shows terms calls
+    (hears terms account done.input done.now done.act.shown) done.act.shown
 
 abbrev pub after_step : Terms → List Call → Account → Done → Account
-after_step terms calls account done = fold (sends terms done.now) (before_sends terms calls account done) done.act.send
+after_step terms calls account done = fold (sends terms done.now)
+    (before_sends terms calls account done) done.act.send
 
 abbrev pub account_of : Terms → List Call → List Done → Account
 account_of terms calls steps = fold (after_step terms calls) unheard steps

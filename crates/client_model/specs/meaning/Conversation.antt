@@ -16,7 +16,11 @@ abbrev pub Timed : Type 0
 Timed = Input × ℕ
 
 abbrev pub done_at : Terms → Talk → Timed → Done
-done_at terms talk one = record { input = one.0; now = one.1; act = (talk_step terms talk one.0 one.1).1 }
+done_at terms talk one = record {
+  input = one.0;
+  now = one.1;
+  act = (talk_step terms talk one.0 one.1).1;
+}
 
 abbrev pub talk_at : Terms → Talk → Timed → Talk
 talk_at terms talk one = (talk_step terms talk one.0 one.1).0

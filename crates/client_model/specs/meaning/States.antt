@@ -42,7 +42,12 @@ abbrev pub lost_by : Living → ℕ → Losing
 lost_by state event = record { track = state.track; ltxid = state.ltxid; event = event }
 
 abbrev pub asked_on : Losing → Ltxid → Asking
-asked_on state fresh = record { track = state.track; ltxid = state.ltxid; fresh = fresh; event = state.event }
+asked_on state fresh = record {
+  track = state.track;
+  ltxid = state.ltxid;
+  fresh = fresh;
+  event = state.event;
+}
 
 -- no outcome was taken, so the first loss stands
 abbrev pub lost_again : Asking → Losing

@@ -49,8 +49,22 @@ pub record Talk : Type 0 where
 
 -- with a request that has not begun
 abbrev pub requested : List (List ℕ × Value) → List Call → Talk
-requested settings calls = record { settings = settings; sets = []; left = calls; tries = 0; last_try = None; phase = Unbegun }
+requested settings calls = record {
+  settings = settings;
+  sets = [];
+  left = calls;
+  tries = 0;
+  last_try = None;
+  phase = Unbegun;
+}
 
 -- the track at the first Begin
 abbrev pub unsubmitted : Terms → Track
-unsubmitted terms = record { recorder = record { limit = terms.recorded; calls = [] }; why = None; replays = 0; first = None; set_shown = false; call = 0 }
+unsubmitted terms = record {
+  recorder = record { limit = terms.recorded; calls = [] };
+  why = None;
+  replays = 0;
+  first = None;
+  set_shown = false;
+  call = 0;
+}

@@ -28,7 +28,12 @@ completed_on state = record { track = state.track; ltxid = state.fresh; event = 
 
 -- one replay more is started, on the session that answered
 abbrev pub repeated : Asking → Repeating
-repeated state = record { track = record state.track { replays = state.track.replays + 1 }; ltxid = state.fresh; event = state.event; verified = 0 }
+repeated state = record {
+  track = record state.track { replays = state.track.replays + 1 };
+  ltxid = state.fresh;
+  event = state.event;
+  verified = 0;
+}
 
 -- more than `timeout` ticks have passed since the first submitted call, if there was one
 abbrev pub is_late : ℕ → Option ℕ → ℕ → Bool

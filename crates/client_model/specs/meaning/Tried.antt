@@ -43,7 +43,8 @@ with_answer answers [] = []
 with_answer answers (sending ∷ earlier) = record sending { reply = Some answers } ∷ earlier
 
 abbrev pub replied : Input → Option Shown → List Sending → List Sending
-replied (Took (down.Reply answers draws ltxid) alive) (Some shown) sendings = with_answer answers sendings
+replied (Took (down.Reply answers draws ltxid) alive) (Some shown) sendings =
+    with_answer answers sendings
 replied _ _ sendings = sendings
 
 -- a shown call may end its transaction
@@ -53,14 +54,24 @@ over_after over (Some shown) = if ends_transaction shown.answers then over + 1 e
 
 -- an unmarked call goes out under the identifier that is held
 abbrev pub sent_under : Option Ltxid → ℕ → List Sending → Up → List Sending
-sent_under (Some ltxid) over sendings (up.Call false kept call) = record { call = call; transaction = over; ltxid = ltxid; reply = None } ∷ sendings
+sent_under (Some ltxid) over sendings (up.Call false kept call) = record {
+  call = call;
+  transaction = over;
+  ltxid = ltxid;
+  reply = None;
+} ∷ sendings
 sent_under _ over sendings _ = sendings
 
 abbrev pub tries_on : Trying → Done → Trying
 tries_on trying done =
     let held : Option Ltxid = option_or (told_ltxid done.input done.act.shown) trying.held in
     let over : ℕ = over_after trying.over done.act.shown in
-    record { held = held; over = over; sendings = fold (sent_under held over) (replied done.input done.act.shown trying.sendings) done.act.send }
+    record {
+      held = held;
+      over = over;
+      sendings = fold (sent_under held over) (replied done.input done.act.shown trying.sendings)
+          done.act.send;
+    }
 
 abbrev pub trying_of : List Done → Trying
 trying_of steps = fold tries_on (record { held = None; over = 0; sendings = [] }) steps
@@ -74,7 +85,9 @@ abbrev pub each_once : List Ltxid → Ltxid → List Ltxid
 each_once found ltxid = ltxid ∷ filter (λ other. not (same_ltxid other ltxid)) found
 
 abbrev pub tried_in : ℕ → List Sending → List Ltxid
-tried_in transaction sendings = fold each_once [] (map (λ sending. sending.ltxid) (filter (λ sending. is_try sending && (sending.transaction == transaction)) sendings))
+tried_in transaction sendings = fold each_once []
+    (map (λ sending. sending.ltxid) (filter (λ sending. is_try sending
+    && (sending.transaction == transaction)) sendings))
 
 abbrev pub tried_upto : ℕ → ℕ → List Sending → List (List Ltxid)
 tried_upto zero from sendings = []
@@ -82,4 +95,5 @@ tried_upto (suc left) from sendings = tried_in from sendings ∷ tried_upto left
 
 -- a list for each transaction that is over, and one for the last
 abbrev pub tried_of : List Done → List (List Ltxid)
-tried_of steps = let trying : Trying = trying_of steps in tried_upto (suc trying.over) 0 trying.sendings
+tried_of steps = let trying : Trying = trying_of steps in
+    tried_upto (suc trying.over) 0 trying.sendings

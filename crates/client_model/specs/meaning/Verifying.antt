@@ -15,11 +15,18 @@ abbrev pub verified_more : Repeating → Repeating
 verified_more state = record state { verified = state.verified + 1 }
 
 abbrev pub mismatch : Repeating → List ℕ → List ℕ → Over × Mismatch
-mismatch state seen now = (record { track = state.track; event = state.event }, record { call = index_of state; seen = seen; now = now })
+mismatch state seen now = (
+  record {
+    track = state.track;
+    event = state.event;
+  },
+  record { call = index_of state; seen = seen; now = now },
+)
 
 -- The answers of the next call have this digest now: it is the same as before, or the request ends.
 abbrev pub compared : Recorded → Repeating → List ℕ → Result Repeating (Over × Mismatch)
-compared one state now = if bytes_eq one.seen.digest now then Ok (verified_more state) else Err (mismatch state one.seen.digest now)
+compared one state now = if bytes_eq one.seen.digest now then Ok (verified_more state) else
+    Err (mismatch state one.seen.digest now)
 
 -- on the session of a replay, with the lost call to be sent without the mark
 abbrev pub submitted : Repeating → Living

@@ -17,11 +17,13 @@ use Rattle.commit_log.specs.declared.base.BaseSequence.{BaseSequence}
 -- no two rows have one key
 abbrev pub keys_differ : List (List Value) → Bool
 keys_differ [] = true
-keys_differ (row ∷ rows) = not (list_any (λ other. same_value (key_of other) (key_of row)) rows) && keys_differ rows
+keys_differ (row ∷ rows) = not (list_any (λ other. same_value (key_of other) (key_of row)) rows)
+    && keys_differ rows
 
 -- a table is declared, each row has a value of its kind for each column, and no key stands twice
 unfoldable pub is_table : BaseTable → Bool
-is_table table = is_declared table.schema && (list_all (row_fits table.schema.columns) table.rows && keys_differ table.rows)
+is_table table = is_declared table.schema
+    && (list_all (row_fits table.schema.columns) table.rows && keys_differ table.rows)
 
 -- a sequence begins at 0 to 1,000,000,000
 abbrev pub is_sequence : BaseSequence → Bool
@@ -35,7 +37,9 @@ sequence_name sequence = sequence.name
 
 -- What a store may begin with: no two tables and no two sequences have one name.
 unfoldable pub is_base : Base → Bool
-is_base base = names_differ (map table_name base.tables) && (names_differ (map sequence_name base.sequences) && (list_all is_table base.tables && list_all is_sequence base.sequences))
+is_base base = names_differ (map table_name base.tables)
+    && (names_differ (map sequence_name base.sequences)
+    && (list_all is_table base.tables && list_all is_sequence base.sequences))
 
 abbrev pub schema_in : BaseTable → Schema
 schema_in table = table.schema
@@ -50,7 +54,11 @@ shape_of base = record { schemas = schemas_of base; sequences = map sequence_nam
 
 -- the rows, each with its table and key, in the order of table and key
 abbrev pub rows_of : BaseTable → List PlainRow
-rows_of table = map (λ row. record { table = table.schema.name; key = key_of row; row = row }) table.rows
+rows_of table = map (λ row. record {
+  table = table.schema.name;
+  key = key_of row;
+  row = row;
+}) table.rows
 
 abbrev pub start_of : Base → List PlainRow
 start_of base = in_order (flat_map rows_of base.tables)

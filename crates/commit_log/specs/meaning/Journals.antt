@@ -30,7 +30,9 @@ if_next (Some next) place go_on = go_on next
 -- them, or the place of the first that may not come next.
 abbrev pub judged : SoFar → ℕ → List (List ℕ) → Result SoFar ℕ
 judged so_far place [] = Ok so_far
-judged so_far place (payload ∷ payloads) = if_next (after_payload so_far payload) place (λ next. judged next (place + 9 + length payload) payloads)
+judged so_far place (payload ∷ payloads) =
+    if_next (after_payload so_far payload) place
+    (λ next. judged next (place + 9 + length payload) payloads)
 
 -- Whole records are judged first, and then whether a gate behind them is damaged.
 abbrev pub with_gates : Result SoFar ℕ → Result (List (List ℕ)) ℕ → Result SoFar ℕ

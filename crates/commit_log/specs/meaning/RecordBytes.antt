@@ -21,10 +21,16 @@ unfoldable pub record_at : List ℕ → Result (Record × List ℕ) Fault
 record_at [] = Err Short
 record_at (tag ∷ rest) =
     if tag == 1 then (base_at rest >>= λ base. Ok (kept.Base base.0, base.1))
-    else (if tag == 2 then (u64_at rest >>= λ incarnation. Ok (kept.Opened incarnation.0, incarnation.1))
+    else (if tag == 2 then (u64_at rest >>= λ incarnation. Ok (
+      kept.Opened incarnation.0,
+      incarnation.1,
+    ))
     else (if tag == 3 then (entry_at rest >>= λ entry. Ok (kept.Commit entry.0, entry.1))
     else (if tag == 4 then (ltxid_at rest >>= λ x. Ok (kept.Blocked x.0, x.1))
-    else (if tag == 5 then (reservation_at rest >>= λ reservation. Ok (kept.Reserved reservation.0, reservation.1))
+    else (if tag == 5 then (reservation_at rest >>= λ reservation. Ok (
+      kept.Reserved reservation.0,
+      reservation.1,
+    ))
     else (if tag == 6 then (text_at rest >>= λ line. Ok (kept.Alert line.0, line.1))
     else (if tag == 7 then (u64_at rest >>= λ horizon. Ok (kept.Horizon horizon.0, horizon.1))
     else Err (BadTag (suc (length rest)))))))))

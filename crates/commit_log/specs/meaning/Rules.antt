@@ -24,7 +24,9 @@ sessions_of journal = book_of journal.horizon (map committed_of journal.entries)
 -- session is not forgotten, its identifier is its session's next one and is not blocked, and its
 -- writes fit the tables.
 unfoldable pub may_commit : Journal → Entry → Bool
-may_commit journal entry = nat_le entry.ltxid.incarnation journal.incarnation && (may_note (sessions_of journal) entry.ltxid && writes_fit (schemas_of journal.base) entry.writes)
+may_commit journal entry = nat_le entry.ltxid.incarnation journal.incarnation
+    && (may_note (sessions_of journal) entry.ltxid
+    && writes_fit (schemas_of journal.base) entry.writes)
 
 -- An identifier may be blocked where its session is not forgotten and it is this session's next one
 -- and is not blocked, in whichever incarnation.
@@ -38,15 +40,19 @@ reservation_size = pos 16
 -- where the values end that were set aside for a sequence: with its last reservation, and before
 -- the first one ahead of its start
 abbrev pub end_of : List Reservation → BaseSequence → ℤ
-end_of reservations sequence = fold (λ end reservation. if bytes_eq reservation.name sequence.name then reservation.upto else end) (sequence.start -ℤ pos 1) reservations
+end_of reservations sequence = fold (λ end reservation. if bytes_eq reservation.name sequence.name
+    then reservation.upto else end) (sequence.start -ℤ pos 1) reservations
 
 -- the reservation is the one that comes next of this sequence
 abbrev pub is_next_reservation : List Reservation → Reservation → BaseSequence → Bool
-is_next_reservation reservations reservation sequence = bytes_eq sequence.name reservation.name && int_eq reservation.upto (end_of reservations sequence +ℤ reservation_size)
+is_next_reservation reservations reservation sequence =
+    bytes_eq sequence.name reservation.name
+    && int_eq reservation.upto (end_of reservations sequence +ℤ reservation_size)
 
 -- A reservation may be set aside where it is the next one of a sequence of the base.
 unfoldable pub may_reserve : Journal → Reservation → Bool
-may_reserve journal reservation = list_any (is_next_reservation journal.reserved reservation) journal.base.sequences
+may_reserve journal reservation = list_any (is_next_reservation journal.reserved reservation)
+    journal.base.sequences
 
 -- How far a journal has come: no record yet, or a journal, whether the store was opened in it, and
 -- whether a horizon was stored. (A journal in which none was stored has the horizon 0.)
@@ -56,11 +62,20 @@ pub data SoFar : Type 0 where
 
 -- a journal of nothing but its base
 abbrev pub new_journal : Base → Journal
-new_journal base = record { base = base; incarnation = 0; horizon = 0; entries = []; blocked = []; reserved = []; alerts = [] }
+new_journal base = record {
+  base = base;
+  incarnation = 0;
+  horizon = 0;
+  entries = [];
+  blocked = [];
+  reserved = [];
+  alerts = [];
+}
 
 -- the incarnations rise, and end at 2^63
 abbrev pub may_open : Journal → Bool → ℕ → Bool
-may_open journal is_opened incarnation = nat_le incarnation (2 ^ 63) && (not is_opened || nat_lt journal.incarnation incarnation)
+may_open journal is_opened incarnation =
+    nat_le incarnation (2 ^ 63) && (not is_opened || nat_lt journal.incarnation incarnation)
 
 -- the horizon is above the one that was stored last, or is the first
 abbrev pub rises : Journal → (has_horizon : Bool) → ℕ → Bool
@@ -68,7 +83,8 @@ rises journal has_horizon horizon = not has_horizon || nat_lt journal.horizon ho
 
 -- the horizons rise, and none is above the incarnation that comes next
 abbrev pub may_forget : Journal → (has_horizon : Bool) → ℕ → Bool
-may_forget journal has_horizon horizon = nat_le horizon (journal.incarnation + 1) && rises journal has_horizon horizon
+may_forget journal has_horizon horizon =
+    nat_le horizon (journal.incarnation + 1) && rises journal has_horizon horizon
 
 -- the journal with this record more
 abbrev pub with_record : Journal → Record → Journal
@@ -76,7 +92,8 @@ with_record journal (kept.Base base) = journal
 with_record journal (kept.Opened incarnation) = record journal { incarnation = incarnation }
 with_record journal (kept.Commit entry) = record journal { entries = journal.entries ++ entry ∷ [] }
 with_record journal (kept.Blocked x) = record journal { blocked = journal.blocked ++ x ∷ [] }
-with_record journal (kept.Reserved reservation) = record journal { reserved = journal.reserved ++ reservation ∷ [] }
+with_record journal (kept.Reserved reservation) =
+    record journal { reserved = journal.reserved ++ reservation ∷ [] }
 with_record journal (kept.Alert line) = record journal { alerts = journal.alerts ++ line ∷ [] }
 with_record journal (kept.Horizon horizon) = record journal { horizon = horizon }
 
@@ -84,12 +101,14 @@ with_record journal (kept.Horizon horizon) = record journal { horizon = horizon 
 -- stored or not
 abbrev pub may_come : Journal → (is_opened has_horizon : Bool) → Record → Bool
 may_come journal is_opened has_horizon (kept.Base base) = false
-may_come journal is_opened has_horizon (kept.Opened incarnation) = may_open journal is_opened incarnation
+may_come journal is_opened has_horizon (kept.Opened incarnation) =
+    may_open journal is_opened incarnation
 may_come journal is_opened has_horizon (kept.Commit entry) = is_opened && may_commit journal entry
 may_come journal is_opened has_horizon (kept.Blocked x) = may_block journal x
 may_come journal is_opened has_horizon (kept.Reserved reservation) = may_reserve journal reservation
 may_come journal is_opened has_horizon (kept.Alert line) = true
-may_come journal is_opened has_horizon (kept.Horizon horizon) = may_forget journal has_horizon horizon
+may_come journal is_opened has_horizon (kept.Horizon horizon) =
+    may_forget journal has_horizon horizon
 
 -- whether it opens the store
 abbrev pub is_opening : Record → Bool
@@ -103,7 +122,10 @@ is_horizon _ = false
 
 -- The base comes first, and no other does after it.
 abbrev pub after : SoFar → Record → Option SoFar
-after Empty (kept.Base base) = if is_base base then Some (Begun (new_journal base) false false) else None
+after Empty (kept.Base base) = if is_base base then Some (Begun (new_journal base) false false) else
+    None
 after Empty _ = None
 after (Begun journal is_opened has_horizon) next =
-    if may_come journal is_opened has_horizon next then Some (Begun (with_record journal next) (is_opened || is_opening next) (has_horizon || is_horizon next)) else None
+    if may_come journal is_opened has_horizon next then
+    Some (Begun (with_record journal next) (is_opened || is_opening next)
+    (has_horizon || is_horizon next)) else None

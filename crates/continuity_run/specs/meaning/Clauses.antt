@@ -55,7 +55,8 @@ abbrev pub IsJudged : {A : Type 0} → (List ℕ → Result A Fault) → Option 
 IsJudged reads left front = IfSome left (λ bytes. reads front ≡ reads bytes)
 
 -- the bytes that were read: at most one past the limit, and judged as the whole input is
-pub record IsRead {A : Type 0} (most : ℕ) (reads : List ℕ → Result A Fault) (left_before left_after : Option (List ℕ)) (bytes : List ℕ) : Type 0 where
+pub record IsRead {A : Type 0} (most : ℕ) (reads : List ℕ → Result A Fault)
+    (left_before left_after : Option (List ℕ)) (bytes : List ℕ) : Type 0 where
   pub taken : Consumes left_before left_after bytes
   pub within : length bytes ≤ most + 1
   pub judged : IsJudged reads left_before bytes
@@ -71,28 +72,36 @@ pub record IsAnswered (one : Telling)
 
 -- what was read is a document and a report of it, of which each clause holds, and the sink took
 -- `yes` and a line feed
-pub record IsChecked (left_before left_after held_before held_after : Option (List ℕ)) : Type 0 where
-  pub bytes : List ℕ
-  pub read : IsRead check_limit pair_at left_before left_after bytes
-  pub right : IsRight bytes
-  pub wrote : Appends held_before held_after right_text
+pub record IsChecked (left_before left_after held_before held_after : Option (List ℕ)) : Type 0
+  where
+    pub bytes : List ℕ
+    pub read : IsRead check_limit pair_at left_before left_after bytes
+    pub right : IsRight bytes
+    pub wrote : Appends held_before held_after right_text
 
 -- what was read is a document and a report of it, of which this clause is the first that is false
-pub record IsDenied (left_before left_after : Option (List ℕ)) (one : Clause) (path : List ℕ) : Type 0 where
+pub record IsDenied (left_before left_after : Option (List ℕ)) (one : Clause)
+    (path : List ℕ) : Type 0 where
   pub bytes : List ℕ
   pub read : IsRead check_limit pair_at left_before left_after bytes
   pub wrong : IsWrong bytes one path
 
 -- the document of these numbers was made, and the sink took the line of its report
-pub record LoadIsDone (seed clients requests : ℕ) (held_before held_after : Option (List ℕ)) : Type 0 where
+pub record LoadIsDone (seed clients requests : ℕ)
+    (held_before held_after : Option (List ℕ)) : Type 0 where
   pub text : List ℕ
   pub loaded : IsLoaded seed clients requests text
   pub wrote : Appends held_before held_after text
 
 -- `run` and `cover` are done with a document that was read, `check` with a document and its report,
 -- and `load` makes its own document.
-abbrev pub IsDone : Command → Option (List ℕ) → Option (List ℕ) → Option (List ℕ) → Option (List ℕ) → Type 0
-IsDone command.Run left_before left_after held_before held_after = IsAnswered telling.Report left_before left_after held_before held_after
-IsDone command.Cover left_before left_after held_before held_after = IsAnswered telling.Cover left_before left_after held_before held_after
-IsDone command.Check left_before left_after held_before held_after = IsChecked left_before left_after held_before held_after
-IsDone (command.Load seed clients requests) left_before left_after held_before held_after = LoadIsDone seed clients requests held_before held_after
+abbrev pub IsDone : Command → Option (List ℕ) → Option (List ℕ) → Option (List ℕ) → Option (List ℕ)
+    → Type 0
+IsDone command.Run left_before left_after held_before held_after =
+    IsAnswered telling.Report left_before left_after held_before held_after
+IsDone command.Cover left_before left_after held_before held_after =
+    IsAnswered telling.Cover left_before left_after held_before held_after
+IsDone command.Check left_before left_after held_before held_after =
+    IsChecked left_before left_after held_before held_after
+IsDone (command.Load seed clients requests) left_before left_after held_before held_after =
+    LoadIsDone seed clients requests held_before held_after

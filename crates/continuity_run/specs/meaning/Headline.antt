@@ -36,7 +36,8 @@ pub record IsReadFrom (document : Document) (report : Report) (journal : Journal
   pub tables : report.tables ≡ printed_tables journal.base (tables_of journal)
   pub horizon : report.forgotten ≡ journal.horizon
   pub incarnation : journal.incarnation ≡ last_incarnation document report
-  pub set_aside : SetAside (sequences_of (journal_before document)) (ends_in (sequences_of journal)) (drawn_in document report)
+  pub set_aside : SetAside (sequences_of (journal_before document)) (ends_in (sequences_of journal))
+      (drawn_in document report)
 
 -- the bytes of the store, where they are asked for
 abbrev pub image_if : Bool → List ℕ → Option (List ℕ)

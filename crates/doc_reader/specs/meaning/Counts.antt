@@ -29,7 +29,8 @@ calls_in_event _ = []
 
 -- all calls of a document
 abbrev pub calls_in : Document → List Call
-calls_in document = flat_map calls_in_client document.clients ++ flat_map calls_in_event document.schedule
+calls_in document = flat_map calls_in_client document.clients
+    ++ flat_map calls_in_event document.schedule
 
 -- the names of settings that stand in an operand, in a statement and in a call
 abbrev pub names_in_operand : Operand → List (List ℕ)
@@ -45,7 +46,8 @@ names_in_call (call.Set name x) = name ∷ []
 names_in_call _ = []
 
 abbrev pub names_in_request : Request → List (List ℕ)
-names_in_request request = map (λ pair. pair.0) request.settings ++ flat_map names_in_call request.calls
+names_in_request request = map (λ pair. pair.0) request.settings
+    ++ flat_map names_in_call request.calls
 
 abbrev pub names_in_client : Client → List (List ℕ)
 names_in_client client = flat_map names_in_request client.requests
@@ -55,12 +57,14 @@ names_in_event one = flat_map names_in_call (calls_in_event one)
 
 -- all names of settings that stand in a document
 abbrev pub names_in : Document → List (List ℕ)
-names_in document = flat_map names_in_client document.clients ++ flat_map names_in_event document.schedule
+names_in document = flat_map names_in_client document.clients
+    ++ flat_map names_in_event document.schedule
 
 -- these names, and each of the others once that is not among those before it
 abbrev pub with_others : List (List ℕ) → List (List ℕ) → List (List ℕ)
 with_others before [] = before
-with_others before (name ∷ names) = with_others (if is_name_of before name then before else before ++ name ∷ []) names
+with_others before (name ∷ names) = with_others (if is_name_of before name then before else before
+    ++ name ∷ []) names
 
 -- each name once
 abbrev pub different : List (List ℕ) → List (List ℕ)

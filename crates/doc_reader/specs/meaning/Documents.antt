@@ -25,8 +25,13 @@ is_alone ms = not (has (codes "tables") ms) && not (has (codes "sequences") ms)
 -- what the store begins with: tables and sequences, or an image alone
 unfoldable pub store_of : Named → Result Store Fault
 store_of ms =
-    optional (codes "tables") [] tables_of ms >>= λ tables. optional (codes "sequences") [] sequences_of ms >>= λ sequences.
-    optional (codes "image") None (image_of (is_alone ms)) ms >>= λ image. Ok (record { tables = tables; sequences = sequences; image = image })
+    optional (codes "tables") [] tables_of ms >>= λ tables. optional (codes "sequences") []
+    sequences_of ms >>= λ sequences.
+    optional (codes "image") None (image_of (is_alone ms)) ms >>= λ image. Ok (record {
+      tables = tables;
+      sequences = sequences;
+      image = image;
+    })
 
 -- at most 64 clients
 abbrev pub clients_of : Data → Result (List Client) Fault
@@ -35,7 +40,8 @@ clients_of d = array_of 0 64 (each_of client_of) d
 -- the service, what its store begins with, and whether the store's bytes are printed
 unfoldable pub begin_of : Named → Result Begin Fault
 begin_of ms =
-    optional (codes "service") usual_service service_of ms >>= λ service. store_of ms >>= λ store. optional (codes "print_image") false bool_of ms >>= λ print.
+    optional (codes "service") usual_service service_of ms >>= λ service. store_of ms >>= λ store.
+    optional (codes "print_image") false bool_of ms >>= λ print.
     Ok (record { service = service; store = store; print_image = print })
 
 abbrev pub document_with : Begin → List Client → List Event → Document
@@ -50,19 +56,22 @@ document_with begin clients events = record {
 }
 
 abbrev pub document_members : List (List ℕ)
-document_members = codes "service" ∷ codes "tables" ∷ codes "sequences" ∷ codes "image" ∷ codes "print_image" ∷ codes "clients" ∷ codes "schedule" ∷ []
+document_members = codes "service" ∷ codes "tables" ∷ codes "sequences" ∷ codes "image"
+    ∷ codes "print_image" ∷ codes "clients" ∷ codes "schedule" ∷ []
 
 -- the clients, and then the events, which are read by their number; what is counted over the whole
 -- document comes last
 unfoldable pub rest_of : Option Data → Data → Begin → Result Document Fault
 rest_of schedule clients begin =
-    within (codes "clients") (clients_of clients) >>= λ cs. read_or (codes "schedule") [] (schedule_of (length cs) begin.service.standby) schedule >>= λ events.
+    within (codes "clients") (clients_of clients) >>= λ cs. read_or (codes "schedule") []
+    (schedule_of (length cs) begin.service.standby) schedule >>= λ events.
     if_small (document_with begin cs events)
 
 -- the document of a JSON value
 unfoldable pub document_of : Data → Result Document Fault
 document_of d =
-    object_with document_members d >>= λ ms. required (codes "clients") ms >>= λ clients. begin_of ms >>= λ begin. rest_of (ms (codes "schedule")) clients begin
+    object_with document_members d >>= λ ms. required (codes "clients") ms >>= λ clients. begin_of
+    ms >>= λ begin. rest_of (ms (codes "schedule")) clients begin
 
 -- 8 MiB
 abbrev pub limit : ℕ

@@ -22,7 +22,8 @@ is_small_reservation reservation = int_le reservation.upto (pos 4611686018427387
 -- past 2^62, which is half of what a store may come to.
 unfoldable pub leaves_room : Journal → Bool
 leaves_room journal =
-    is_count journal.incarnation && (list_all (λ entry. is_small_ltxid entry.ltxid) journal.entries && (list_all is_small_ltxid journal.blocked
+    is_count journal.incarnation && (list_all (λ entry. is_small_ltxid entry.ltxid) journal.entries
+    && (list_all is_small_ltxid journal.blocked
     && list_all is_small_reservation journal.reserved))
 
 -- what a read of the bytes gives is the journal of a store that a run may begin with
@@ -37,4 +38,5 @@ if_store read = if is_store read then Ok tt else Err (here BadImage)
 -- store
 unfoldable pub image_of : Bool → Data → Result (Option (List ℕ)) Fault
 image_of alone d =
-    text_of d >>= λ text. if_alone alone >>= λ _. octets_in text >>= λ bytes. if_store (journal_of bytes) >>= λ _. Ok (Some bytes)
+    text_of d >>= λ text. if_alone alone >>= λ _. octets_in text >>= λ bytes.
+    if_store (journal_of bytes) >>= λ _. Ok (Some bytes)

@@ -27,7 +27,8 @@ lost_pick_of d = pick_of d >>= λ pick. Ok (pick + 4)
 
 -- ["go",client], by the number of clients
 unfoldable pub go_of : ℕ → Data → Result Event Fault
-go_of clients d = fixed 2 d >>= λ ds. part 1 (whole_of 1 clients) ds >>= λ client. Ok (event.Go client)
+go_of clients d = fixed 2 d >>= λ ds. part 1 (whole_of 1 clients) ds >>= λ client.
+    Ok (event.Go client)
 
 -- ["serve",connection] and ["reap",connection]
 unfoldable pub serve_of : Data → Result Event Fault
@@ -38,15 +39,18 @@ reap_of d = fixed 2 d >>= λ ds. part 1 count_of ds >>= λ connection. Ok (event
 
 -- ["cut",connection,up,down]
 unfoldable pub cut_of : Data → Result Event Fault
-cut_of d = fixed 4 d >>= λ ds. part 1 count_of ds >>= λ connection. part 2 count_of ds >>= λ up. part 3 count_of ds >>= λ down. Ok (event.Cut connection up down)
+cut_of d = fixed 4 d >>= λ ds. part 1 count_of ds >>= λ connection. part 2 count_of
+    ds >>= λ up. part 3 count_of ds >>= λ down. Ok (event.Cut connection up down)
 
 -- ["crash",connection,after,pick]
 unfoldable pub crash_of : Data → Result Event Fault
-crash_of d = fixed 4 d >>= λ ds. part 1 count_of ds >>= λ connection. part 2 count_of ds >>= λ after. part 3 pick_of ds >>= λ pick. Ok (event.Crash connection after pick)
+crash_of d = fixed 4 d >>= λ ds. part 1 count_of ds >>= λ connection. part 2 count_of
+    ds >>= λ after. part 3 pick_of ds >>= λ pick. Ok (event.Crash connection after pick)
 
 -- ["upcrash",after,pick]
 unfoldable pub upcrash_of : Data → Result Event Fault
-upcrash_of d = fixed 3 d >>= λ ds. part 1 count_of ds >>= λ after. part 2 pick_of ds >>= λ pick. Ok (event.UpCrash after pick)
+upcrash_of d = fixed 3 d >>= λ ds. part 1 count_of ds >>= λ after. part 2 pick_of ds >>= λ pick.
+    Ok (event.UpCrash after pick)
 
 -- ["up"], ["tick"] and ["drain"]
 abbrev pub bare_of : Event → Data → Result Event Fault
@@ -54,12 +58,14 @@ bare_of one d = fixed 1 d >>= λ _. Ok one
 
 -- ["outside",[call,...]] with 1 to 1,024 calls
 unfoldable pub outside_of : Data → Result Event Fault
-outside_of d = fixed 2 d >>= λ ds. part 1 (array_of 1 1024 (each_of (call_of digits.Any))) ds >>= λ calls. Ok (event.Outside calls)
+outside_of d = fixed 2 d >>= λ ds. part 1 (array_of 1 1024 (each_of (call_of digits.Any))) ds >>=
+    λ calls. Ok (event.Outside calls)
 
 -- [incarnation,session,number]
 unfoldable pub ltxid_of : Data → Result Ltxid Fault
 ltxid_of d =
-    fixed 3 d >>= λ ds. part 0 count_of ds >>= λ incarnation. part 1 count_of ds >>= λ session. part 2 count_of ds >>= λ number.
+    fixed 3 d >>= λ ds. part 0 count_of ds >>= λ incarnation. part 1 count_of ds >>= λ session.
+    part 2 count_of ds >>= λ number.
     Ok (record { incarnation = incarnation; session = session; number = number })
 
 -- ["ask",identifier]
@@ -74,13 +80,17 @@ if_second standby one = if standby then Ok one else Err (here Rule)
 -- once its parts are read.
 unfoldable pub failover_of : Bool → Data → Result Event Fault
 failover_of standby d =
-    fixed 4 d >>= λ ds. part 1 count_of ds >>= λ connection. part 2 count_of ds >>= λ after. part 3 lost_pick_of ds >>= λ pick.
+    fixed 4 d >>= λ ds. part 1 count_of ds >>= λ connection. part 2 count_of ds >>= λ after.
+    part 3 lost_pick_of ds >>= λ pick.
     if_second standby (event.Crash connection after pick)
 
 abbrev pub event_words : List (List ℕ × EventWord)
 event_words =
-    (codes "go", word.Go) ∷ (codes "serve", word.Serve) ∷ (codes "cut", word.Cut) ∷ (codes "reap", word.Reap) ∷ (codes "crash", word.Crash) ∷ (codes "up", word.Up) ∷ (codes "upcrash", word.UpCrash)
-    ∷ (codes "tick", word.Tick) ∷ (codes "outside", word.Outside) ∷ (codes "ask", word.Ask) ∷ (codes "drain", word.Drain) ∷ (codes "failover", word.Failover) ∷ []
+    (codes "go", word.Go) ∷ (codes "serve", word.Serve) ∷ (codes "cut", word.Cut)
+    ∷ (codes "reap", word.Reap) ∷ (codes "crash", word.Crash) ∷ (codes "up", word.Up)
+    ∷ (codes "upcrash", word.UpCrash)
+    ∷ (codes "tick", word.Tick) ∷ (codes "outside", word.Outside) ∷ (codes "ask", word.Ask)
+    ∷ (codes "drain", word.Drain) ∷ (codes "failover", word.Failover) ∷ []
 
 -- by the word that it begins with
 abbrev pub event_by : ℕ → Bool → EventWord → Data → Result Event Fault

@@ -20,7 +20,8 @@ use Rattle.call_forms.specs.meaning.Calls.{call_of}
 
 -- a pair of a new name and a value
 unfoldable pub setting_of : (List ℕ → Bool) → Data → Result (List ℕ × Value) Fault
-setting_of taken d = fixed 2 d >>= λ ds. part 0 (new_name taken) ds >>= λ name. part 1 (value_of digits.Any) ds >>= λ x. Ok (name, x)
+setting_of taken d = fixed 2 d >>= λ ds. part 0 (new_name taken) ds >>= λ name.
+    part 1 (value_of digits.Any) ds >>= λ x. Ok (name, x)
 
 -- settings, by name
 abbrev pub by_name : NamedValues → NamedValues
@@ -28,7 +29,8 @@ by_name pairs = fold (λ settings pair. put_setting settings pair.0 pair.1) [] p
 
 -- pairs of different names
 abbrev pub settings_of : Data → Result NamedValues Fault
-settings_of d = list_of (distinct bytes_eq (λ pair. pair.0) setting_of) d >>= λ pairs. Ok (by_name pairs)
+settings_of d = list_of (distinct bytes_eq (λ pair. pair.0) setting_of) d >>= λ pairs.
+    Ok (by_name pairs)
 
 -- a call that may stand before the last one of a request that is submitted again: no commit, no
 -- rollback and no alter
@@ -45,16 +47,25 @@ is_one_transaction (one ∷ calls) = is_inside one && is_one_transaction calls
 
 -- only a request that is one transaction may be submitted again
 abbrev pub if_submitted_rightly : Request → Result Request Fault
-if_submitted_rightly request = if (request.again == 0) || is_one_transaction request.calls then Ok request else Err (here Rule)
+if_submitted_rightly request = if (request.again == 0) || is_one_transaction request.calls then
+    Ok request else Err (here Rule)
 
 -- 1 to 1,024 calls, settings, and at most 4 further submissions; the rule on these comes last
 unfoldable pub request_of : Data → Result Request Fault
 request_of d =
-    object_with (codes "settings" ∷ codes "calls" ∷ codes "again" ∷ []) d >>= λ ms. required (codes "calls") ms >>= λ calls.
-    optional (codes "settings") [] settings_of ms >>= λ settings. within (codes "calls") (array_of 1 1024 (each_of (call_of digits.Any)) calls) >>= λ cs.
-    optional (codes "again") 0 (whole_of 0 4) ms >>= λ again. if_submitted_rightly (record { settings = settings; calls = cs; again = again })
+    object_with (codes "settings" ∷ codes "calls" ∷ codes "again" ∷ []) d >>= λ ms.
+    required (codes "calls") ms >>= λ calls.
+    optional (codes "settings") [] settings_of ms >>= λ settings. within
+    (codes "calls") (array_of 1 1024 (each_of (call_of digits.Any)) calls) >>= λ cs.
+    optional (codes "again") 0 (whole_of 0 4) ms >>= λ again. if_submitted_rightly (record {
+      settings = settings;
+      calls = cs;
+      again = again;
+    })
 
 unfoldable pub client_of : Data → Result Client Fault
 client_of d =
     object_with (codes "requests" ∷ []) d >>= λ ms. required (codes "requests") ms >>= λ requests.
-    within (codes "requests") (list_of (each_of request_of) requests) >>= λ rs. Ok (record { requests = rs })
+    within (codes "requests") (list_of (each_of request_of) requests) >>= λ rs. Ok (record {
+      requests = rs;
+    })

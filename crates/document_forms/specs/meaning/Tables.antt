@@ -26,7 +26,11 @@ kind_words = (codes "int", kind.Int) ∷ (codes "text", kind.Text) ∷ (codes "b
 
 -- a pair of a new name and a kind
 unfoldable pub column_of : (List ℕ → Bool) → Data → Result Column Fault
-column_of taken d = fixed 2 d >>= λ ds. part 0 (new_name taken) ds >>= λ name. part 1 (word_of kind_words) ds >>= λ k. Ok (record { name = name; kind = k })
+column_of taken d = fixed 2 d >>= λ ds. part 0 (new_name taken) ds >>= λ name.
+    part 1 (word_of kind_words) ds >>= λ k. Ok (record {
+      name = name;
+      kind = k;
+    })
 
 -- 1 to 8 columns of different names
 abbrev pub columns_of : Data → Result (List Column) Fault
@@ -42,7 +46,8 @@ fitting columns row = if row_fits columns row then Ok row else Err (here WrongKi
 
 -- as many values as there are columns, in order, and then their kinds
 unfoldable pub row_of : List Column → (Value → Bool) → Data → Result (List Value) Fault
-row_of columns taken d = exact_of (length columns) d >>= λ ds. each_after (field_of taken) [] ds >>= fitting columns
+row_of columns taken d = exact_of (length columns) d >>= λ ds. each_after (field_of taken) [] ds >>=
+    fitting columns
 
 -- at most 10,000 rows of different keys
 abbrev pub rows_of : List Column → Data → Result (List (List Value)) Fault
@@ -50,11 +55,13 @@ rows_of columns d = array_of 0 10000 (distinct same_value key_of (row_of columns
 
 -- a column's name; each other text is unknown, one that is no name too
 abbrev pub known_column : List Column → List ℕ → Result (List ℕ) Fault
-known_column columns text = if is_name text && has_column columns text then Ok text else Err (here Unknown)
+known_column columns text = if is_name text && has_column columns text then Ok text else
+    Err (here Unknown)
 
 -- the name of a column that does not stand before
 unfoldable pub indexed_of : List Column → (List ℕ → Bool) → Data → Result (List ℕ) Fault
-indexed_of columns taken d = text_of d >>= known_column columns >>= λ name. fresh taken name >>= λ _. Ok name
+indexed_of columns taken d = text_of d >>= known_column columns >>= λ name.
+    fresh taken name >>= λ _. Ok name
 
 -- different columns by which the rows are indexed
 unfoldable pub index_of : List Column → Data → Result (List (List ℕ)) Fault
@@ -67,8 +74,10 @@ unfoldable pub table_of : (List ℕ → Bool) → Data → Result DocTable Fault
 table_of taken d =
     object_with table_members d >>= λ ms.
     required (codes "name") ms >>= λ name. required (codes "columns") ms >>= λ columns.
-    within (codes "name") (new_name taken name) >>= λ n. within (codes "columns") (columns_of columns) >>= λ cs.
-    optional (codes "rows") [] (rows_of cs) ms >>= λ rows. optional (codes "index") [] (index_of cs) ms >>= λ index.
+    within (codes "name") (new_name taken name) >>= λ n. within
+    (codes "columns") (columns_of columns) >>= λ cs.
+    optional (codes "rows") [] (rows_of cs) ms >>= λ rows. optional (codes "index") [] (index_of cs)
+    ms >>= λ index.
     Ok (record { name = n; columns = cs; rows = rows; index = index })
 
 -- at most 32 tables of different names
@@ -84,8 +93,13 @@ unfoldable pub sequence_of : (List ℕ → Bool) → Data → Result DocSequence
 sequence_of taken d =
     object_with (codes "name" ∷ codes "start" ∷ codes "keep" ∷ []) d >>= λ ms.
     required (codes "name") ms >>= λ name. required (codes "start") ms >>= λ start.
-    within (codes "name") (new_name taken name) >>= λ n. within (codes "start") (start_of start) >>= λ s.
-    optional (codes "keep") false bool_of ms >>= λ keep. Ok (record { name = n; start = s; keep = keep })
+    within (codes "name") (new_name taken name) >>= λ n. within (codes "start") (start_of start) >>=
+    λ s.
+    optional (codes "keep") false bool_of ms >>= λ keep. Ok (record {
+      name = n;
+      start = s;
+      keep = keep;
+    })
 
 -- at most 32 sequences of different names
 abbrev pub sequences_of : Data → Result (List DocSequence) Fault

@@ -30,9 +30,17 @@ entry_members = codes "completed" ∷ codes "ltxid" ∷ codes "pieces" ∷ codes
 unfoldable pub entry_in : Data → Result Entry Fault
 entry_in d =
     object_with entry_members d >>= λ ms. all_there entry_members ms >>= λ _.
-    member_in (codes "completed") bool_of ms >>= λ completed. member_in (codes "ltxid") identifier_in ms >>= λ x.
-    member_in (codes "pieces") pieces_in ms >>= λ pieces. member_in (codes "settings") settings_in ms >>= λ settings.
-    Ok (record { ltxid = x; completed = completed; settings = settings; pieces = pieces; writes = [] })
+    member_in (codes "completed") bool_of ms >>= λ completed. member_in
+    (codes "ltxid") identifier_in ms >>= λ x.
+    member_in (codes "pieces") pieces_in ms >>= λ pieces. member_in (codes "settings") settings_in
+    ms >>= λ settings.
+    Ok (record {
+      ltxid = x;
+      completed = completed;
+      settings = settings;
+      pieces = pieces;
+      writes = [];
+    })
 
 abbrev pub entries_in : Data → Result (List Entry) Fault
 entries_in d = list_of (each_of entry_in) d

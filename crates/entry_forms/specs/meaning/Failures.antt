@@ -19,7 +19,8 @@ use Rattle.answer_forms.specs.meaning.Parts.{number_in, octets_in, identifier_in
 
 abbrev pub reason_words : List (List ℕ × ReasonWord)
 reason_words =
-    (codes "off", why.Off) ∷ (codes "aftercommit", why.AfterCommit) ∷ (codes "restricted", why.Restricted)
+    (codes "off", why.Off) ∷ (codes "aftercommit", why.AfterCommit)
+    ∷ (codes "restricted", why.Restricted)
     ∷ (codes "settings", why.Settings) ∷ (codes "asked", why.Asked) ∷ (codes "full", why.Full)
     ∷ (codes "statelost", why.StateLost) ∷ []
 
@@ -47,9 +48,11 @@ reason_in d = head_of reason_words d >>= λ w. reason_by w d
 
 abbrev pub failure_words : List (List ℕ × FailureWord)
 failure_words =
-    (codes "disabled", word.Disabled) ∷ (codes "mismatch", word.Mismatch) ∷ (codes "incomplete", word.Incomplete)
+    (codes "disabled", word.Disabled) ∷ (codes "mismatch", word.Mismatch)
+    ∷ (codes "incomplete", word.Incomplete)
     ∷ (codes "retries", word.Retries) ∷ (codes "replaytimeout", word.ReplayTimeout)
-    ∷ (codes "replays", word.Replays) ∷ (codes "poolwait", word.PoolWait) ∷ (codes "unknown", word.Unknown) ∷ []
+    ∷ (codes "replays", word.Replays) ∷ (codes "poolwait", word.PoolWait)
+    ∷ (codes "unknown", word.Unknown) ∷ []
 
 -- ["disabled",why,event]
 unfoldable pub disabled_in : Data → Result Failure Fault

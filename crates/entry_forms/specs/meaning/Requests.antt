@@ -43,10 +43,18 @@ request_members =
 unfoldable pub request_in : Data → Result RequestReport Fault
 request_in d =
     object_with request_members d >>= λ ms. all_there request_members ms >>= λ _.
-    member_in (codes "calls") calls_in ms >>= λ calls. member_in (codes "failed") failed_in ms >>= λ failed.
+    member_in (codes "calls") calls_in ms >>= λ calls. member_in (codes "failed") failed_in
+    ms >>= λ failed.
     member_in (codes "outcomes") outcomes_in ms >>= λ outcomes.
-    member_in (codes "sessions") sessions_in ms >>= λ sessions. member_in (codes "tried") tried_in ms >>= λ tried.
-    Ok (record { calls = calls; failed = failed; outcomes = outcomes; sessions = sessions; tried = tried })
+    member_in (codes "sessions") sessions_in ms >>= λ sessions. member_in (codes "tried") tried_in
+    ms >>= λ tried.
+    Ok (record {
+      calls = calls;
+      failed = failed;
+      outcomes = outcomes;
+      sessions = sessions;
+      tried = tried;
+    })
 
 -- the requests of one client, and those of all clients
 abbrev pub transcript_in : Data → Result (List RequestReport) Fault

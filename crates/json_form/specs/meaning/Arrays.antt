@@ -9,9 +9,11 @@ use Rattle.json_form.specs.meaning.Faults.{Fault, ◌>>=◌, here, within_item}
 use Rattle.json_form.specs.meaning.Values.{expected, items_of}
 
 -- the items read before, and then the others in order, each in the light of those before it
-abbrev pub each_after : {A : Type 0} → (List A → Data → Result A Fault) → List A → Items → Result (List A) Fault
+abbrev pub each_after : {A : Type 0} → (List A → Data → Result A Fault) → List A → Items
+    → Result (List A) Fault
 each_after read before no_items = Ok before
-each_after read before (item d ds) = within_item (length before) (read before d) >>= λ x. each_after read (before ++ x ∷ []) ds
+each_after read before (item d ds) = within_item (length before) (read before d) >>= λ x.
+    each_after read (before ++ x ∷ []) ds
 
 -- the items in order, each by itself
 abbrev pub each_of : {A : Type 0} → (Data → Result A Fault) → Items → Result (List A) Fault
@@ -22,7 +24,8 @@ abbrev pub is_key : {K : Type 0} → (K → K → Bool) → List K → K → Boo
 is_key same keys k = list_any (same k) keys
 
 -- the items in order, each with the test for a key of the items before it
-abbrev pub distinct : {A K : Type 0} → (K → K → Bool) → (A → K) → ((K → Bool) → Data → Result A Fault) → Items → Result (List A) Fault
+abbrev pub distinct : {A K : Type 0} → (K → K → Bool) → (A → K)
+    → ((K → Bool) → Data → Result A Fault) → Items → Result (List A) Fault
 distinct same key read ds = each_after (λ before. read (is_key same (map key before))) [] ds
 
 -- a key that no item before has
@@ -31,14 +34,16 @@ fresh taken key = if taken key then Err (here Duplicate) else Ok tt
 
 -- the items, if there are low to high of them
 abbrev pub in_count : ℕ → ℕ → Items → Result Items Fault
-in_count low high ds = if nat_le low (items_len ds) && nat_le (items_len ds) high then Ok ds else Err (here Limit)
+in_count low high ds = if nat_le low (items_len ds) && nat_le (items_len ds) high then Ok ds else
+    Err (here Limit)
 
 -- the items of an array that has low to high of them
 abbrev pub counted_of : ℕ → ℕ → Data → Result Items Fault
 counted_of low high d = items_of d >>= in_count low high
 
 -- an array of low to high items
-abbrev pub array_of : {A : Type 0} → ℕ → ℕ → (Items → Result (List A) Fault) → Data → Result (List A) Fault
+abbrev pub array_of : {A : Type 0} → ℕ → ℕ → (Items → Result (List A) Fault) → Data
+    → Result (List A) Fault
 array_of low high read d = counted_of low high d >>= read
 
 -- an array of any number of items

@@ -16,7 +16,8 @@ is_among names name = list_any (λ n. bytes_eq n name) names
 -- Each member is one of those named. The first other one, in order of bytes, is the fault.
 abbrev pub known : List (List ℕ) → Members → Result ⊤ Fault
 known names no_members = Ok tt
-known names (member name d ms) = if is_among names name then known names ms else Err (under (escaped name) (here Unknown))
+known names (member name d ms) = if is_among names name then known names ms else
+    Err (under (escaped name) (here Unknown))
 
 -- what stands at each name
 abbrev pub Named : Type 0
@@ -52,10 +53,12 @@ unfoldable pub member_in : {A : Type 0} → List ℕ → (Data → Result A Faul
 member_in name read ms = required name ms >>= λ d. within name (read d)
 
 -- what the member is read as, or what stands for it where it is missing
-abbrev pub read_or : {A : Type 0} → List ℕ → A → (Data → Result A Fault) → Option Data → Result A Fault
+abbrev pub read_or : {A : Type 0} → List ℕ → A → (Data → Result A Fault) → Option Data
+    → Result A Fault
 read_or name otherwise read None = Ok otherwise
 read_or name otherwise read (Some d) = within name (read d)
 
 -- a member that may be missing
-unfoldable pub optional : {A : Type 0} → List ℕ → A → (Data → Result A Fault) → Named → Result A Fault
+unfoldable pub optional : {A : Type 0} → List ℕ → A → (Data → Result A Fault) → Named
+    → Result A Fault
 optional name otherwise read ms = read_or name otherwise read (ms name)

@@ -47,7 +47,8 @@ is_capital digit = nat_le 65 digit && nat_le digit 70
 -- the octets of digits in either case, or in lower case alone
 abbrev pub octets_by : Digits → List ℕ → Result (List ℕ) Fault
 octets_by digits.Any text = octets_in text
-octets_by digits.Lower text = if list_any is_capital text then Err (here BadImage) else octets_in text
+octets_by digits.Lower text = if list_any is_capital text then Err (here BadImage) else octets_in
+    text
 
 -- a text of pairs of hexadecimal digits
 abbrev pub octets_of : Digits → Data → Result (List ℕ) Fault

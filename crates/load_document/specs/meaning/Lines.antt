@@ -47,5 +47,7 @@ line_of report = record {
 
 -- as JSON: {"committed":59,"conflict":20,"entries":59,"events":1195,"failed":1,"total":16000}
 unfoldable pub line_value : LoadLine → Data
-line_value line = members ((codes "committed", whole line.committed) ∷ (codes "conflict", whole line.conflict) ∷ (codes "entries", whole line.entries)
-    ∷ (codes "events", whole line.events) ∷ (codes "failed", whole line.failed) ∷ (codes "total", integer line.total) ∷ [])
+line_value line = members ((codes "committed", whole line.committed)
+    ∷ (codes "conflict", whole line.conflict) ∷ (codes "entries", whole line.entries)
+    ∷ (codes "events", whole line.events) ∷ (codes "failed", whole line.failed)
+    ∷ (codes "total", integer line.total) ∷ [])

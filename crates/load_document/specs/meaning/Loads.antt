@@ -69,12 +69,15 @@ transfer a b = record { settings = []; calls = look a ∷ pay a b ∷ commit ∷
 -- first draw, and the second one of the next
 abbrev pub transfers : ℕ → ℕ → List Request
 transfers zero x = []
-transfers (suc n) x = transfer (drawn 16 (next x)) (drawn 16 (next (next x))) ∷ transfers n (next (next x))
+transfers (suc n) x = transfer (drawn 16 (next x)) (drawn 16 (next (next x)))
+    ∷ transfers n (next (next x))
 
 -- so many clients with so many transfers each
 abbrev pub scripts : ℕ → ℕ → ℕ → List Client
 scripts zero requests x = []
-scripts (suc n) requests x = record { requests = transfers requests x } ∷ scripts n requests (behind (2 * requests) x)
+scripts (suc n) requests x = record {
+  requests = transfers requests x;
+} ∷ scripts n requests (behind (2 * requests) x)
 
 -- one of the connections, which are twice as many as the clients, and one of the clients
 abbrev pub connection_drawn : ℕ → ℕ → ℕ
@@ -106,7 +109,10 @@ events clients (suc n) x = event_at clients (next x) ∷ events clients n (behin
 unfoldable pub accounts : DocTable
 accounts = record {
   name = codes "acc";
-  columns = record { name = codes "id"; kind = kind.Int } ∷ record { name = codes "bal"; kind = kind.Int } ∷ [];
+  columns = record {
+    name = codes "id";
+    kind = kind.Int;
+  } ∷ record { name = codes "bal"; kind = kind.Int } ∷ [];
   rows = accounts_from 16 0;
   index = [];
 }

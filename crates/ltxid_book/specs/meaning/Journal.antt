@@ -31,7 +31,11 @@ is_blocked blocks x = list_any (λ block. same_ltxid block x) blocks
 
 -- a session's next identifier: its number is how often the session committed
 abbrev pub next_ltxid : List Committed → ℕ → ℕ → Ltxid
-next_ltxid commits incarnation session = record { incarnation = incarnation; session = session; number = length (commits_of commits incarnation session) }
+next_ltxid commits incarnation session = record {
+  incarnation = incarnation;
+  session = session;
+  number = length (commits_of commits incarnation session);
+}
 
 -- the state of each session by these commits and blocks
 abbrev pub state_of : List Committed → List Ltxid → ℕ → ℕ → State

@@ -18,4 +18,6 @@ outcome_in state number =
 -- the outcome of an identifier, where this is said of sessions: one below the horizon is forgotten,
 -- whatever it was
 abbrev pub verdict_of : Sessions → Ltxid → Verdict
-verdict_of sessions x = if is_forgotten sessions x.incarnation then verdict.Forgotten sessions.horizon else outcome_in (sessions.state x.incarnation x.session) x.number
+verdict_of sessions x = if is_forgotten sessions x.incarnation then
+    verdict.Forgotten sessions.horizon else outcome_in (sessions.state x.incarnation x.session)
+    x.number

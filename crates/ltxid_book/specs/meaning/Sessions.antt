@@ -15,7 +15,11 @@ untouched = record { next = 0; blocked = false; completed = false }
 -- These states of sessions, of which those of incarnations below the horizon are forgotten: nothing
 -- is said of them, as if they were untouched.
 abbrev pub known_from : ℕ → (ℕ → ℕ → State) → Sessions
-known_from horizon state = record { horizon = horizon; state = λ incarnation session. if nat_lt incarnation horizon then untouched else state incarnation session }
+known_from horizon state = record {
+  horizon = horizon;
+  state = λ incarnation session. if nat_lt incarnation horizon then untouched else
+      state incarnation session;
+}
 
 -- the sessions of this incarnation are forgotten
 abbrev pub is_forgotten : Sessions → ℕ → Bool

@@ -9,7 +9,8 @@ use Rattle.mutable_values.specs.declared.source.SeqState.{SeqState}
 
 -- a sequence of this name is there, and its values are kept
 abbrev pub is_kept_sequence : List SeqState → List ℕ → Bool
-is_kept_sequence sequences name = list_any (λ sequence. bytes_eq sequence.name name && sequence.keep) sequences
+is_kept_sequence sequences name = list_any (λ sequence. bytes_eq sequence.name name
+    && sequence.keep) sequences
 
 -- a value is kept where its kind is, and one of a sequence where the sequence is too
 abbrev pub is_granted : Grants → List SeqState → Draw → Bool

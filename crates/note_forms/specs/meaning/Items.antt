@@ -27,7 +27,8 @@ abbrev pub item_words : List (List ℕ × ServedWord)
 item_words =
     (codes "connect", word.Connect) ∷ (codes "begin", word.Begin) ∷ (codes "call", word.Call)
     ∷ (codes "blocked", word.Blocked) ∷ (codes "outcome", word.Outcome) ∷ (codes "end", word.End)
-    ∷ (codes "close", word.Close) ∷ (codes "refused", word.Refused) ∷ (codes "crashed", word.Crashed) ∷ []
+    ∷ (codes "close", word.Close) ∷ (codes "refused", word.Refused)
+    ∷ (codes "crashed", word.Crashed) ∷ []
 
 -- the event of the last item before, and 0 where there is none
 abbrev pub last_event : List Served → ℕ
@@ -56,18 +57,22 @@ bare_in notes last w one d =
 
 unfoldable pub begin_in : List Note → ℕ → Data → Result Served Fault
 begin_in notes last d =
-    fixed 4 d >>= λ ds. place_in notes word.Begin last ds >>= λ place. part 3 settings_in ds >>= λ settings.
+    fixed 4 d >>= λ ds. place_in notes word.Begin last ds >>= λ place. part 3 settings_in
+    ds >>= λ settings.
     Ok (served_at place (item.Begin settings))
 
 unfoldable pub answered_in : List Note → ℕ → Data → Result Served Fault
 answered_in notes last d =
-    fixed 7 d >>= λ ds. place_in notes word.Call last ds >>= λ place. part 3 bool_of ds >>= λ replay.
-    part 4 call_in ds >>= λ call. part 5 answers_in ds >>= λ answers. part 6 draws_in ds >>= λ draws.
+    fixed 7 d >>= λ ds. place_in notes word.Call last ds >>= λ place. part 3 bool_of
+    ds >>= λ replay.
+    part 4 call_in ds >>= λ call. part 5 answers_in ds >>= λ answers. part 6 draws_in
+    ds >>= λ draws.
     Ok (served_at place (item.Call replay call answers draws))
 
 unfoldable pub blocked_in : List Note → ℕ → Data → Result Served Fault
 blocked_in notes last d =
-    fixed 4 d >>= λ ds. place_in notes word.Blocked last ds >>= λ place. part 3 call_in ds >>= λ call.
+    fixed 4 d >>= λ ds. place_in notes word.Blocked last ds >>= λ place. part 3 call_in
+    ds >>= λ call.
     Ok (served_at place (item.Blocked call))
 
 -- the outcome that is told of an identifier
@@ -80,23 +85,27 @@ told_in notes last d =
 
 unfoldable pub refused_in : List Note → ℕ → Data → Result Served Fault
 refused_in notes last d =
-    fixed 4 d >>= λ ds. place_in notes word.Refused last ds >>= λ place. part 3 (whole_of 1 2) ds >>= λ cause.
+    fixed 4 d >>= λ ds. place_in notes word.Refused last ds >>= λ place. part 3 (whole_of 1 2) ds
+    >>= λ cause.
     Ok (served_at place (item.Refused cause))
 
 -- a question that a crash stopped has an identifier, and a call its mark and the call
 unfoldable pub stopped_outcome_in : List Note → ℕ → Data → Result Served Fault
 stopped_outcome_in notes last d =
-    fixed 4 d >>= λ ds. place_in notes word.Crashed last ds >>= λ place. part 3 identifier_in ds >>= λ x.
+    fixed 4 d >>= λ ds. place_in notes word.Crashed last ds >>= λ place. part 3 identifier_in
+    ds >>= λ x.
     Ok (served_at place (item.CrashedOutcome x))
 
 unfoldable pub stopped_call_in : List Note → ℕ → Data → Result Served Fault
 stopped_call_in notes last d =
-    fixed 5 d >>= λ ds. place_in notes word.Crashed last ds >>= λ place. part 3 bool_of ds >>= λ replay.
+    fixed 5 d >>= λ ds. place_in notes word.Crashed last ds >>= λ place. part 3 bool_of
+    ds >>= λ replay.
     part 4 call_in ds >>= λ call. Ok (served_at place (item.CrashedCall replay call))
 
 abbrev pub crashed_in : List Note → ℕ → Data → Result Served Fault
 crashed_in notes last d =
-    count_in d >>= λ n. if n == 4 then stopped_outcome_in notes last d else stopped_call_in notes last d
+    count_in d >>= λ n. if n == 4 then stopped_outcome_in notes last d else stopped_call_in
+    notes last d
 
 abbrev pub served_by : List Note → ℕ → ServedWord → Data → Result Served Fault
 served_by notes last word.Connect d = bare_in notes last word.Connect item.Connect d

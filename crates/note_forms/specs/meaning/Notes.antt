@@ -34,8 +34,10 @@ count_in d = items_of d >>= λ ds. Ok (items_len ds)
 
 abbrev pub go_words : List (List ℕ × GoWord)
 go_words =
-    (codes "idle", go.Idle) ∷ (codes "wait", go.Wait) ∷ (codes "none", go.NoFrame) ∷ (codes "early", go.Early)
-    ∷ (codes "down", go.Down) ∷ (codes "open", go.Open) ∷ (codes "lent", go.Lent) ∷ (codes "took", go.Took)
+    (codes "idle", go.Idle) ∷ (codes "wait", go.Wait) ∷ (codes "none", go.NoFrame)
+    ∷ (codes "early", go.Early)
+    ∷ (codes "down", go.Down) ∷ (codes "open", go.Open) ∷ (codes "lent", go.Lent)
+    ∷ (codes "took", go.Took)
     ∷ (codes "lost", go.Lost) ∷ []
 
 -- how many items a note has, by its word
@@ -64,20 +66,24 @@ go_by go.Lost ds = part 3 number_in ds >>= λ k. Ok (did.Lost k)
 
 unfoldable pub go_in : Data → Result Note Fault
 go_in d =
-    items_of d >>= λ ds. part 1 number_in (placed ds) >>= λ client. part 2 (word_of go_words) (placed ds) >>= λ w.
-    if_count (go_count w) (items_len ds) >>= λ _. go_by w (placed ds) >>= λ step. Ok (note.Go client step)
+    items_of d >>= λ ds. part 1 number_in (placed ds) >>= λ client. part 2 (word_of go_words)
+    (placed ds) >>= λ w.
+    if_count (go_count w) (items_len ds) >>= λ _. go_by w (placed ds) >>= λ step.
+    Ok (note.Go client step)
 
 -- ---- serve
 
 abbrev pub serve_words : List (List ℕ × Option FrameName)
 serve_words =
     (codes "none", None) ∷ (codes "connect", Some frame.Connect) ∷ (codes "begin", Some frame.Begin)
-    ∷ (codes "call", Some frame.Call) ∷ (codes "outcome", Some frame.Outcome) ∷ (codes "end", Some frame.End)
+    ∷ (codes "call", Some frame.Call) ∷ (codes "outcome", Some frame.Outcome)
+    ∷ (codes "end", Some frame.End)
     ∷ (codes "close", Some frame.Close) ∷ []
 
 unfoldable pub serve_in : Data → Result Note Fault
 serve_in d =
-    items_of d >>= λ ds. part 1 number_in (placed ds) >>= λ k. part 2 (word_of serve_words) (placed ds) >>= λ w.
+    items_of d >>= λ ds. part 1 number_in (placed ds) >>= λ k. part 2 (word_of serve_words)
+    (placed ds) >>= λ w.
     if_count 3 (items_len ds) >>= λ _. Ok (note.Serve k w)
 
 -- ---- notes that end with a word where there was nothing to do
@@ -95,7 +101,8 @@ bytes_in n ds =
 
 unfoldable pub cut_in : Data → Result Note Fault
 cut_in d =
-    items_of d >>= λ ds. part 1 number_in (placed ds) >>= λ k. bytes_in (items_len ds) (placed ds) >>= λ reached.
+    items_of d >>= λ ds. part 1 number_in (placed ds) >>= λ k. bytes_in
+    (items_len ds) (placed ds) >>= λ reached.
     Ok (note.Cut k reached)
 
 -- behind the connection in a note of so many items: this word, or nothing
@@ -127,7 +134,8 @@ up_in d = fixed 2 d >>= λ ds. part 1 incarnation_in ds >>= λ incarnation. Ok (
 unfoldable pub upcrash_in : Data → Result Note Fault
 upcrash_in d =
     count_in d >>= λ n. if n == 1 then Ok (note.UpCrash true)
-    else (fixed 2 d >>= λ ds. part 1 (word_of (just (codes "none"))) ds >>= λ _. Ok (note.UpCrash false))
+    else (fixed 2 d >>= λ ds. part 1 (word_of (just (codes "none"))) ds >>= λ _.
+    Ok (note.UpCrash false))
 
 abbrev pub tick_in : Data → Result Note Fault
 tick_in d = fixed 1 d >>= λ _. Ok note.Tick
@@ -151,13 +159,15 @@ ran_in d =
 unfoldable pub outside_in : Data → Result Note Fault
 outside_in d =
     count_in d >>= λ n. if n == 2
-    then (fixed 2 d >>= λ ds. part 1 (word_of (just (codes "down"))) ds >>= λ _. Ok (note.Outside None))
+    then (fixed 2 d >>= λ ds. part 1 (word_of (just (codes "down"))) ds >>= λ _.
+    Ok (note.Outside None))
     else (ran_in d >>= λ ran. Ok (note.Outside (Some ran)))
 
 unfoldable pub ask_in : Data → Result Note Fault
 ask_in d =
     items_of d >>= λ ds. part 1 identifier_in (placed ds) >>= λ x.
-    part 2 (word_of asked_words) (placed ds) >>= λ w. if_count (3 + asked_behind w) (items_len ds) >>= λ _.
+    part 2 (word_of asked_words) (placed ds) >>= λ w. if_count (3 + asked_behind w) (items_len ds)
+    >>= λ _.
     asked_by w 3 (placed ds) >>= λ result. Ok (note.Ask x result)
 
 unfoldable pub drain_in : Data → Result Note Fault
@@ -167,7 +177,8 @@ drain_in d = fixed 2 d >>= λ ds. part 1 number_in ds >>= λ closed. Ok (note.Dr
 
 abbrev pub note_words : List (List ℕ × NoteWord)
 note_words =
-    (codes "go", word.Go) ∷ (codes "serve", word.Serve) ∷ (codes "cut", word.Cut) ∷ (codes "reap", word.Reap)
+    (codes "go", word.Go) ∷ (codes "serve", word.Serve) ∷ (codes "cut", word.Cut)
+    ∷ (codes "reap", word.Reap)
     ∷ (codes "crash", word.Crash) ∷ (codes "up", word.Up) ∷ (codes "upcrash", word.UpCrash)
     ∷ (codes "tick", word.Tick) ∷ (codes "outside", word.Outside) ∷ (codes "ask", word.Ask)
     ∷ (codes "drain", word.Drain) ∷ []

@@ -31,7 +31,8 @@ told_by word.Forgotten at ds = part at number_in ds >>= λ horizon. Ok (told.For
 -- the words of an `ask`: where the server is down, nothing is told
 abbrev pub asked_words : List (List ℕ × Option ToldWord)
 asked_words =
-    (codes "down", None) ∷ (codes "committed", Some word.Committed) ∷ (codes "uncommitted", Some word.Uncommitted)
+    (codes "down", None) ∷ (codes "committed", Some word.Committed)
+    ∷ (codes "uncommitted", Some word.Uncommitted)
     ∷ (codes "serverahead", Some word.ServerAhead) ∷ (codes "clientahead", Some word.ClientAhead)
     ∷ (codes "forgotten", Some word.Forgotten) ∷ []
 

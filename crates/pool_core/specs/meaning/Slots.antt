@@ -48,7 +48,12 @@ take_answer slots client = if has_to_wait slots client then take.Waiting else le
 abbrev pub after_take : Slots → ℕ → Slots
 after_take slots client =
     if has_to_wait slots client then record slots { queue = joined slots.queue client }
-    else record slots { lent = slots.lent + 1; queue = without slots.queue client; idle = drop 1 slots.idle }
+    else record slots {
+      lent = slots.lent + 1;
+      queue = without slots.queue client;
+      idle =
+          drop 1 slots.idle;
+    }
 
 -- the connection was opened before the last drain
 abbrev pub drains : Slots → ℕ → Bool
@@ -58,7 +63,11 @@ abbrev pub give_back_answer : Slots → ℕ → Back
 give_back_answer slots connection = if drains slots connection then back.Closed else back.Idle
 
 abbrev pub after_give_back : Slots → ℕ → Slots
-after_give_back slots connection = record slots { lent = slots.lent - 1; idle = if drains slots connection then slots.idle else slots.idle ++ connection ∷ [] }
+after_give_back slots connection = record slots {
+  lent = slots.lent - 1;
+  idle =
+      if drains slots connection then slots.idle else slots.idle ++ connection ∷ [];
+}
 
 abbrev pub after_opened : Slots → ℕ → Slots
 after_opened slots connection = record slots { opened = connection }

@@ -31,7 +31,9 @@ abbrev pub records_from : ℕ → ℕ → List ℕ → Result (List (List ℕ)) 
 records_from place skip [] = Err place
 records_from place (suc skip) (byte ∷ behind) = records_from (suc place) skip behind
 records_from place zero (gate ∷ behind) =
-    if gate == 1 then (if is_whole behind then with_first (payload_of behind) (records_from (suc place) (8 + length_of (take 8 behind)) behind) else Err place) else Ok []
+    if gate == 1 then (if is_whole behind then
+    with_first (payload_of behind) (records_from (suc place) (8 + length_of (take 8 behind))
+    behind) else Err place) else Ok []
 
 -- the payloads of the records of an image, or the place where it is damaged: 0 where it doesn't
 -- begin as a store
@@ -43,7 +45,9 @@ records_of image = if bytes_eq (take 8 image) magic then records_from 8 0 (drop 
 abbrev pub whole_from : ℕ → List ℕ → List (List ℕ)
 whole_from skip [] = []
 whole_from (suc skip) (byte ∷ behind) = whole_from skip behind
-whole_from zero (gate ∷ behind) = if gate == 1 then (if is_whole behind then payload_of behind ∷ whole_from (8 + length_of (take 8 behind)) behind else []) else []
+whole_from zero (gate ∷ behind) = if gate == 1 then
+    (if is_whole behind then payload_of behind
+    ∷ whole_from (8 + length_of (take 8 behind)) behind else []) else []
 
 -- the payloads of the whole records of an image, also of one that is damaged behind them: none
 -- where it doesn't begin as a store

@@ -25,7 +25,8 @@ holds document report clause.Whole = whole document report
 
 -- the clauses that are judged, in their order
 abbrev pub clauses : List Clause
-clauses = clause.Serial ∷ clause.Fresh ∷ clause.Legal ∷ clause.Once ∷ clause.Same ∷ clause.Stored ∷ clause.Whole ∷ []
+clauses = clause.Serial ∷ clause.Fresh ∷ clause.Legal ∷ clause.Once ∷ clause.Same ∷ clause.Stored
+    ∷ clause.Whole ∷ []
 
 -- None exactly where all of these hold
 abbrev pub first_false : Document → Report → Option Clause
@@ -38,6 +39,7 @@ IsPlace document report clause.Fresh path = fresh_place report ≡ Some path
 IsPlace document report _ path = Unit {0}
 
 -- this clause is the first that is false, and it first fails there
-pub record IsFirstFalse (document : Document) (report : Report) (one : Clause) (path : List ℕ) : Type 0 where
+pub record IsFirstFalse (document : Document) (report : Report) (one : Clause)
+    (path : List ℕ) : Type 0 where
   pub wrong : first_false document report ≡ Some one
   pub place : IsPlace document report one path

@@ -27,7 +27,8 @@ abbrev pub piece_fits : Piece → Bool
 piece_fits piece = fits_replies piece.answers piece.draws
 
 abbrev pub entry_fits : Entry → Bool
-entry_fits entry = fits_identifier entry.ltxid && (settings_fit entry.settings && list_all piece_fits entry.pieces)
+entry_fits entry = fits_identifier entry.ltxid
+    && (settings_fit entry.settings && list_all piece_fits entry.pieces)
 
 -- ---- served items
 

@@ -22,7 +22,8 @@ fits_reason _ = true
 -- a digest has 32 octets
 abbrev pub fits_failure : Failure → Bool
 fits_failure (failure.Disabled why event) = fits_reason why && fits_u64 event
-fits_failure (failure.Mismatch i seen now) = fits_u64 i && ((length seen == 32) && (length now == 32))
+fits_failure (failure.Mismatch i seen now) =
+    fits_u64 i && ((length seen == 32) && (length now == 32))
 fits_failure (failure.Incomplete x) = fits_identifier x
 fits_failure (failure.Retries tries) = fits_u64 tries
 fits_failure (failure.ReplayTimeout first ready) = fits_u64 first && fits_u64 ready
@@ -38,5 +39,7 @@ fits_outcome one = fits_identifier one.ltxid
 
 abbrev pub fits_request : RequestReport → Bool
 fits_request request =
-    list_all fits_shown request.calls && (if_there fits_failure request.failed && (list_all fits_outcome request.outcomes
-    && (list_all fits_session request.sessions && list_all (list_all fits_identifier) request.tried)))
+    list_all fits_shown request.calls && (if_there fits_failure request.failed
+    && (list_all fits_outcome request.outcomes
+    && (list_all fits_session request.sessions
+    && list_all (list_all fits_identifier) request.tried)))

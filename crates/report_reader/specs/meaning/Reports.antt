@@ -46,7 +46,8 @@ report_members print = first_members ++ (codes "forgotten" ∷ (image_name print
 -- alert lines, blocked identifiers, and what clients were shown
 unfoldable pub front_in : Named → Result Front Fault
 front_in ms =
-    member_in (codes "alerts") alerts_in ms >>= λ alerts. member_in (codes "blocked") identifiers_in ms >>= λ blocked.
+    member_in (codes "alerts") alerts_in ms >>= λ alerts. member_in (codes "blocked") identifiers_in
+    ms >>= λ blocked.
     member_in (codes "clients") clients_in ms >>= λ clients.
     Ok (record { alerts = alerts; blocked = blocked; clients = clients })
 
@@ -61,13 +62,15 @@ image_in false ms = Ok None
 unfoldable pub middle_in : Bool → Named → Result Middle Fault
 middle_in print ms =
     member_in (codes "entries") entries_in ms >>= λ entries.
-    optional (codes "forgotten") 0 (whole_of 1 (2 ^ 64 - 1)) ms >>= λ forgotten. image_in print ms >>= λ image.
+    optional (codes "forgotten") 0 (whole_of 1 (2 ^ 64 - 1)) ms >>= λ forgotten. image_in
+    print ms >>= λ image.
     Ok (record { entries = entries; forgotten = forgotten; image = image })
 
 -- notes, the items that stand at them, and tables
 unfoldable pub back_in : Named → Result Back Fault
 back_in ms =
-    member_in (codes "notes") notes_in ms >>= λ notes. member_in (codes "served") (served_in notes) ms >>= λ served.
+    member_in (codes "notes") notes_in ms >>= λ notes. member_in (codes "served") (served_in notes)
+    ms >>= λ served.
     member_in (codes "tables") tables_in ms >>= λ tables.
     Ok (record { notes = notes; served = served; tables = tables })
 
@@ -87,11 +90,13 @@ report_with front middle back = record {
 -- the members of a report, none of which is unknown or missing
 abbrev pub members_in : Bool → Data → Result Named Fault
 members_in print d =
-    object_with (report_members print) d >>= λ ms. all_there (needed_members print) ms >>= λ _. Ok ms
+    object_with (report_members print) d >>= λ ms. all_there (needed_members print) ms >>= λ _.
+    Ok ms
 
 unfoldable pub report_in : Bool → Data → Result Report Fault
 report_in print d =
-    members_in print d >>= λ ms. front_in ms >>= λ front. middle_in print ms >>= λ middle. back_in ms >>= λ back.
+    members_in print d >>= λ ms. front_in ms >>= λ front. middle_in print ms >>= λ middle. back_in
+    ms >>= λ back.
     Ok (report_with front middle back)
 
 -- each fault of a report is told by one code, and its place

@@ -38,11 +38,18 @@ changing (change.To o) = o
 changing (change.Plus o) = o
 
 unfoldable pub statement_value : Statement → Data
-statement_value (statement.Insert table values) = headed (codes "insert") (text table ∷ list_by operand_value values ∷ [])
-statement_value (statement.Update table key column by) = headed (codes "update") (text table ∷ operand_value key ∷ text column ∷ text (change_word by) ∷ operand_value (changing by) ∷ [])
-statement_value (statement.Delete table key) = headed (codes "delete") (text table ∷ operand_value key ∷ [])
-statement_value (statement.Get table key) = headed (codes "get") (text table ∷ operand_value key ∷ [])
-statement_value (statement.Select table column compared o) = headed (codes "select") (text table ∷ text column ∷ text (test_word compared) ∷ operand_value o ∷ [])
+statement_value (statement.Insert table values) =
+    headed (codes "insert") (text table ∷ list_by operand_value values ∷ [])
+statement_value (statement.Update table key column by) =
+    headed (codes "update") (text table ∷ operand_value key ∷ text column ∷ text (change_word by)
+    ∷ operand_value (changing by) ∷ [])
+statement_value (statement.Delete table key) =
+    headed (codes "delete") (text table ∷ operand_value key ∷ [])
+statement_value (statement.Get table key) =
+    headed (codes "get") (text table ∷ operand_value key ∷ [])
+statement_value (statement.Select table column compared o) =
+    headed (codes "select") (text table ∷ text column ∷ text (test_word compared) ∷ operand_value o
+    ∷ [])
 statement_value (statement.Count table) = headed (codes "count") (text table ∷ [])
 statement_value (statement.Sum table column) = headed (codes "sum") (text table ∷ text column ∷ [])
 statement_value (statement.Show o) = headed (codes "show") (operand_value o ∷ [])
@@ -52,7 +59,8 @@ commit_values commit = if commit then lone (codes "commit") ∷ [] else []
 
 -- an array of items, the commit last
 unfoldable pub call_value : Call → Data
-call_value (call.Work statements commit) = list (map statement_value statements ++ commit_values commit)
+call_value (call.Work statements commit) =
+    list (map statement_value statements ++ commit_values commit)
 call_value (call.Set name x) = list (headed (codes "set") (text name ∷ literal_value x ∷ []) ∷ [])
 call_value (call.Alter line) = list (headed (codes "alter") (text line ∷ []) ∷ [])
 call_value call.Disable = list (lone (codes "disable") ∷ [])

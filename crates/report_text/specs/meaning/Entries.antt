@@ -11,7 +11,8 @@ use Rattle.report_text.specs.meaning.Answers.{answers_value, draws_value}
 
 -- [call,answers,draws]
 unfoldable pub piece_value : Piece → Data
-piece_value piece = list (call_value piece.call ∷ answers_value piece.answers ∷ draws_value piece.draws ∷ [])
+piece_value piece = list (call_value piece.call ∷ answers_value piece.answers
+    ∷ draws_value piece.draws ∷ [])
 
 -- its writes are not shown
 unfoldable pub entry_value : Entry → Data

@@ -20,13 +20,18 @@ reason_value (reason.Full limit) = headed (codes "full") (whole limit ∷ [])
 reason_value (reason.StateLost i) = headed (codes "statelost") (whole i ∷ [])
 
 unfoldable pub failure_value : Failure → Data
-failure_value (failure.Disabled why event) = headed (codes "disabled") (reason_value why ∷ whole event ∷ [])
-failure_value (failure.Mismatch i seen now) = headed (codes "mismatch") (whole i ∷ digits seen ∷ digits now ∷ [])
+failure_value (failure.Disabled why event) =
+    headed (codes "disabled") (reason_value why ∷ whole event ∷ [])
+failure_value (failure.Mismatch i seen now) =
+    headed (codes "mismatch") (whole i ∷ digits seen ∷ digits now ∷ [])
 failure_value (failure.Incomplete x) = headed (codes "incomplete") (identifier_value x ∷ [])
 failure_value (failure.Retries tries) = headed (codes "retries") (whole tries ∷ [])
-failure_value (failure.ReplayTimeout first ready) = headed (codes "replaytimeout") (whole first ∷ whole ready ∷ [])
-failure_value (failure.Replays limit event) = headed (codes "replays") (whole limit ∷ whole event ∷ [])
-failure_value (failure.PoolWait first now) = headed (codes "poolwait") (whole first ∷ whole now ∷ [])
+failure_value (failure.ReplayTimeout first ready) =
+    headed (codes "replaytimeout") (whole first ∷ whole ready ∷ [])
+failure_value (failure.Replays limit event) =
+    headed (codes "replays") (whole limit ∷ whole event ∷ [])
+failure_value (failure.PoolWait first now) =
+    headed (codes "poolwait") (whole first ∷ whole now ∷ [])
 failure_value (failure.Unknown x) = headed (codes "unknown") (identifier_value x ∷ [])
 
 abbrev pub failed_value : Option Failure → Data

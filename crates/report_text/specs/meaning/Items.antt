@@ -15,13 +15,17 @@ use Rattle.report_text.specs.meaning.Notes.{told_values}
 unfoldable pub item_value : Data → Data → Item → Data
 item_value e s item.Connect = headed (codes "connect") (e ∷ s ∷ [])
 item_value e s (item.Begin settings) = headed (codes "begin") (e ∷ s ∷ settings_value settings ∷ [])
-item_value e s (item.Call replay call answers draws) = headed (codes "call") (e ∷ s ∷ flag replay ∷ call_value call ∷ answers_value answers ∷ draws_value draws ∷ [])
+item_value e s (item.Call replay call answers draws) =
+    headed (codes "call") (e ∷ s ∷ flag replay ∷ call_value call ∷ answers_value answers
+    ∷ draws_value draws ∷ [])
 item_value e s (item.Blocked call) = headed (codes "blocked") (e ∷ s ∷ call_value call ∷ [])
-item_value e s (item.Outcome x result) = headed (codes "outcome") (e ∷ s ∷ identifier_value x ∷ told_values result)
+item_value e s (item.Outcome x result) =
+    headed (codes "outcome") (e ∷ s ∷ identifier_value x ∷ told_values result)
 item_value e s item.End = headed (codes "end") (e ∷ s ∷ [])
 item_value e s item.Close = headed (codes "close") (e ∷ s ∷ [])
 item_value e s (item.Refused cause) = headed (codes "refused") (e ∷ s ∷ whole cause ∷ [])
-item_value e s (item.CrashedCall replay call) = headed (codes "crashed") (e ∷ s ∷ flag replay ∷ call_value call ∷ [])
+item_value e s (item.CrashedCall replay call) =
+    headed (codes "crashed") (e ∷ s ∷ flag replay ∷ call_value call ∷ [])
 item_value e s (item.CrashedOutcome x) = headed (codes "crashed") (e ∷ s ∷ identifier_value x ∷ [])
 
 abbrev pub served_value : Served → Data

@@ -64,7 +64,8 @@ run_value run = list (answers_value run.answers ∷ draws_value run.draws ∷ []
 
 abbrev pub outside_value : Option OutsideNote → Data
 outside_value None = headed (codes "outside") (text (codes "down") ∷ [])
-outside_value (Some ran) = headed (codes "outside") (identifier_value ran.ltxid ∷ list_by run_value ran.runs ∷ [])
+outside_value (Some ran) = headed (codes "outside") (identifier_value ran.ltxid
+    ∷ list_by run_value ran.runs ∷ [])
 
 -- the word, where this holds
 abbrev pub word_if : Bool → List ℕ → List Data
@@ -78,7 +79,8 @@ unfoldable pub note_value : Note → Data
 note_value (note.Go client step) = headed (codes "go") (whole client ∷ did_values step)
 note_value (note.Serve k name) = headed (codes "serve") (whole k ∷ text (served_word name) ∷ [])
 note_value (note.Cut k bytes) = headed (codes "cut") (whole k ∷ reached_values bytes)
-note_value (note.Reap k reaped) = headed (codes "reap") (whole k ∷ word_if (not reaped) (codes "none"))
+note_value (note.Reap k reaped) = headed (codes "reap")
+    (whole k ∷ word_if (not reaped) (codes "none"))
 note_value (note.Crash k down) = headed (codes "crash") (whole k ∷ word_if down (codes "down"))
 note_value (note.Up incarnation) = headed (codes "up") (opened_value incarnation ∷ [])
 note_value (note.UpCrash made) = headed (codes "upcrash") (word_if (not made) (codes "none"))

@@ -55,7 +55,8 @@ OperandOfBytes _ = Unit {0}
 
 abbrev pub StatementOfBytes : Statement → Type 0
 StatementOfBytes (statement.Insert table values) = AllByRecursion OperandOfBytes values
-StatementOfBytes (statement.Update table key column by) = OperandOfBytes key × OperandOfBytes (changing by)
+StatementOfBytes (statement.Update table key column by) = OperandOfBytes key
+    × OperandOfBytes (changing by)
 StatementOfBytes (statement.Delete table key) = OperandOfBytes key
 StatementOfBytes (statement.Get table key) = OperandOfBytes key
 StatementOfBytes (statement.Select table column test o) = OperandOfBytes o
@@ -68,7 +69,8 @@ CallOfBytes (call.Set name x) = ValueOfBytes x
 CallOfBytes _ = Unit {0}
 
 abbrev pub RepliesOfBytes : List Answer → List Draw → Type 0
-RepliesOfBytes answers draws = AllByRecursion AnswerOfBytes answers × AllByRecursion DrawOfBytes draws
+RepliesOfBytes answers draws = AllByRecursion AnswerOfBytes answers
+    × AllByRecursion DrawOfBytes draws
 
 abbrev pub PieceOfBytes : Piece → Type 0
 PieceOfBytes piece = CallOfBytes piece.call × RepliesOfBytes piece.answers piece.draws
@@ -98,7 +100,8 @@ NoteOfBytes _ = Unit {0}
 
 abbrev pub ItemOfBytes : Item → Type 0
 ItemOfBytes (item.Begin settings) = SettingsOfBytes settings
-ItemOfBytes (item.Call replay asked answers draws) = CallOfBytes asked × RepliesOfBytes answers draws
+ItemOfBytes (item.Call replay asked answers draws) = CallOfBytes asked
+    × RepliesOfBytes answers draws
 ItemOfBytes (item.Blocked asked) = CallOfBytes asked
 ItemOfBytes (item.CrashedCall replay asked) = CallOfBytes asked
 ItemOfBytes _ = Unit {0}

@@ -11,7 +11,8 @@ use Rattle.report_text.specs.meaning.Failures.{failed_value}
 
 -- [answers,draws,identifier]
 unfoldable pub shown_value : ShownCall → Data
-shown_value one = list (answers_value one.answers ∷ draws_value one.draws ∷ identifier_value one.ltxid ∷ [])
+shown_value one = list (answers_value one.answers ∷ draws_value one.draws
+    ∷ identifier_value one.ltxid ∷ [])
 
 -- [identifier,committed,completed]
 unfoldable pub outcome_value : Outcome → Data

@@ -29,17 +29,33 @@ stopped_static call index = stopped_at call index
 
 -- no replay: each submitted call says so
 abbrev pub off_rules : Rules
-off_rules = record { submit = λ call index. Some why.Off; reply = λ answers. after.Record; keeps = false }
+off_rules = record {
+  submit = λ call index. Some why.Off;
+  reply = λ answers. after.Record;
+  keeps = false;
+}
 
 -- static session state: recording begins anew after each transaction
 abbrev pub static_rules : Rules
-static_rules = record { submit = stopped_static; reply = λ answers. if ends_decided answers then after.Purge else after.Record; keeps = false }
+static_rules = record {
+  submit = stopped_static;
+  reply = λ answers. if ends_decided answers then after.Purge else after.Record;
+  keeps = false;
+}
 
 -- dynamic session state: no replay after the first transaction
 abbrev pub dynamic_rules : Rules
-dynamic_rules = record { submit = stopped_at; reply = λ answers. if ends_decided answers then after.Stop why.AfterCommit else after.Record; keeps = false }
+dynamic_rules = record {
+  submit = stopped_at;
+  reply = λ answers. if ends_decided answers then after.Stop why.AfterCommit else after.Record;
+  keeps = false;
+}
 
 -- settings that are kept: recording begins anew after each transaction, and a later session begins
 -- with the settings that were shown
 abbrev pub auto_rules : Rules
-auto_rules = record { submit = stopped_at; reply = λ answers. if ends_decided answers then after.Purge else after.Record; keeps = true }
+auto_rules = record {
+  submit = stopped_at;
+  reply = λ answers. if ends_decided answers then after.Purge else after.Record;
+  keeps = true;
+}

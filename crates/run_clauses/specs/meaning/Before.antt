@@ -18,14 +18,24 @@ use Rattle.outage_schedule.specs.declared.document.DocSequence.{DocSequence}
 use Rattle.outage_schedule.specs.declared.document.Document.{Document}
 
 abbrev pub base_table : DocTable → BaseTable
-base_table table = record { schema = record { name = table.name; columns = table.columns }; rows = table.rows }
+base_table table = record {
+  schema = record { name = table.name; columns = table.columns };
+  rows = table.rows;
+}
 
 abbrev pub base_sequence : DocSequence → BaseSequence
-base_sequence sequence = record { name = sequence.name; start = sequence.start; keep = sequence.keep }
+base_sequence sequence = record {
+  name = sequence.name;
+  start = sequence.start;
+  keep = sequence.keep;
+}
 
 -- the base that a document gives
 abbrev pub base_of : Document → Base
-base_of document = record { tables = map base_table document.tables; sequences = map base_sequence document.sequences }
+base_of document = record {
+  tables = map base_table document.tables;
+  sequences = map base_sequence document.sequences;
+}
 
 -- (The image of an accepted document is that of a journal.)
 abbrev pub read_journal : Base → Result Journal ℕ → Journal

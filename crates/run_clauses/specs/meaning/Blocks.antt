@@ -35,7 +35,8 @@ answered_in moments = flat_map (λ moment. answered_at moment.happened) moments
 -- Each identifier of `blocked` was answered uncommitted to an `outcome` item or `ask` note, or a
 -- `crashed` item that carries it stands in `served`.
 abbrev pub blocks_answered : List Answered → List Ltxid → Bool
-blocks_answered answered blocked = list_all (λ x. list_any (λ one. same_ltxid one.ltxid x) answered) blocked
+blocks_answered answered blocked = list_all (λ x. list_any (λ one. same_ltxid one.ltxid x) answered)
+    blocked
 
 -- The blocks of a run on the way over the answers: the identifiers that are blocked, and those of
 -- `blocked` that come next. `fits` is false once an identifier was answered uncommitted that is
@@ -50,10 +51,12 @@ pub record Blocks : Type 0 where
 abbrev pub block_next : Answered → Blocks → List Ltxid → Blocks
 block_next one blocks [] = record blocks { fits = blocks.fits && one.may_be }
 block_next one blocks (next ∷ coming) =
-    cond (same_ltxid next one.ltxid) (record blocks { done = next ∷ blocks.done; coming = coming }) (record blocks { fits = blocks.fits && one.may_be })
+    cond (same_ltxid next one.ltxid) (record blocks { done = next ∷ blocks.done; coming = coming })
+    (record blocks { fits = blocks.fits && one.may_be })
 
 abbrev pub after_answer : Blocks → Answered → Blocks
-after_answer blocks one = cond (is_blocked blocks.done one.ltxid) blocks (block_next one blocks blocks.coming)
+after_answer blocks one = cond (is_blocked blocks.done one.ltxid) blocks
+    (block_next one blocks blocks.coming)
 
 abbrev pub is_done : Blocks → Bool
 is_done blocks = blocks.fits && nat_eq (length blocks.coming) 0
@@ -61,4 +64,8 @@ is_done blocks = blocks.fits && nat_eq (length blocks.coming) 0
 -- An identifier stands in `blocked` at most once, in the order in which the blocks were stored.
 -- (`before` are those of the image.)
 abbrev pub blocks_in_order : List Ltxid → List Answered → List Ltxid → Bool
-blocks_in_order before answered blocked = is_done (fold after_answer (record { done = before; coming = blocked; fits = true }) answered)
+blocks_in_order before answered blocked = is_done (fold after_answer (record {
+  done = before;
+  coming = blocked;
+  fits = true;
+}) answered)

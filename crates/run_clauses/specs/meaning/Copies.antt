@@ -22,20 +22,26 @@ may_be_repeated _ = false
 
 -- the last outcome says committed false
 abbrev pub is_last_uncommitted : List Outcome → Bool
-is_last_uncommitted outcomes = option_map_or (λ outcome. not outcome.committed) (last_or None outcomes) false
+is_last_uncommitted outcomes = option_map_or (λ outcome. not outcome.committed)
+    (last_or None outcomes) false
 
 -- A further copy follows the copy, where so many more are allowed.
 abbrev pub is_repeated : ℕ → RequestReport → Bool
-is_repeated allowed copy = nat_lt 0 allowed && (may_be_repeated copy.failed && is_last_uncommitted copy.outcomes)
+is_repeated allowed copy = nat_lt 0 allowed
+    && (may_be_repeated copy.failed && is_last_uncommitted copy.outcomes)
 
 -- the reports that stand first here as further copies, and those that are left
-abbrev pub with_copy : Bool → RequestReport → List RequestReport → List RequestReport × List RequestReport → List RequestReport × List RequestReport
+abbrev pub with_copy : Bool → RequestReport → List RequestReport
+    → List RequestReport × List RequestReport → List RequestReport × List RequestReport
 with_copy true report reports more = (report ∷ more.0, more.1)
 with_copy false report reports more = ([], report ∷ reports)
 
-abbrev pub further_copies : ℕ → RequestReport → List RequestReport → List RequestReport × List RequestReport
+abbrev pub further_copies : ℕ → RequestReport → List RequestReport
+    → List RequestReport × List RequestReport
 further_copies allowed copy [] = ([], [])
-further_copies allowed copy (report ∷ reports) = with_copy (is_repeated allowed copy) report reports (further_copies (allowed - 1) report reports)
+further_copies allowed copy (report ∷ reports) =
+    with_copy (is_repeated allowed copy) report reports
+    (further_copies (allowed - 1) report reports)
 
 -- A request with its copies, in order.
 pub record Copies : Type 0 where
@@ -45,7 +51,10 @@ pub record Copies : Type 0 where
 -- the requests of a script, each with its copies
 abbrev pub copies_of : List Request → List RequestReport → List Copies
 copies_of [] reports = []
-copies_of (request ∷ requests) [] = record { request = request; reports = [] } ∷ copies_of requests []
+copies_of (request ∷ requests) [] = record {
+  request = request;
+  reports = [];
+} ∷ copies_of requests []
 copies_of (request ∷ requests) (first ∷ reports) =
     record { request = request; reports = first ∷ (further_copies request.again first reports).0 }
     ∷ copies_of requests (further_copies request.again first reports).1
@@ -54,7 +63,8 @@ copies_of (request ∷ requests) (first ∷ reports) =
 abbrev pub left_over : List Request → List RequestReport → List RequestReport
 left_over [] reports = reports
 left_over (request ∷ requests) [] = []
-left_over (request ∷ requests) (first ∷ reports) = left_over requests (further_copies request.again first reports).1
+left_over (request ∷ requests) (first ∷ reports) =
+    left_over requests (further_copies request.again first reports).1
 
 -- a first copy is there, and no further one follows the last, where so many are allowed
 abbrev pub are_all_copies : ℕ → List RequestReport → Bool
@@ -69,7 +79,8 @@ is_over copies = are_all_copies copies.request.again copies.reports
 -- The place in its script of the request that a client submits next: that of the last report where
 -- a further copy follows it, and else the first one without a report.
 abbrev pub next_place : List Request → List RequestReport → Option ℕ
-next_place script transcript = position (λ copies. not (is_over copies)) (copies_of script transcript)
+next_place script transcript = position (λ copies. not (is_over copies))
+    (copies_of script transcript)
 
 -- `next_of`
 abbrev pub next_of : List Request → List RequestReport → Option Request
@@ -80,31 +91,37 @@ next_of script transcript = option_and_then (slice_get script) (next_place scrip
 abbrev pub copies_by_client : List Client → List (List RequestReport) → List (List Copies)
 copies_by_client [] transcripts = []
 copies_by_client (client ∷ clients) [] = copies_of client.requests [] ∷ copies_by_client clients []
-copies_by_client (client ∷ clients) (transcript ∷ transcripts) = copies_of client.requests transcript ∷ copies_by_client clients transcripts
+copies_by_client (client ∷ clients) (transcript ∷ transcripts) =
+    copies_of client.requests transcript ∷ copies_by_client clients transcripts
 
 -- it holds of each request of each client, with its copies
 abbrev pub each_copies : (Copies → Bool) → Document → Report → Bool
-each_copies test document report = list_all (list_all test) (copies_by_client document.clients report.clients)
+each_copies test document report = list_all (list_all test)
+    (copies_by_client document.clients report.clients)
 
 -- ---- what `Whole` says of the reports themselves
 
 -- The reports of a client are the copies of its requests, in script order, each request with a
 -- first copy and each further one exactly where it follows.
 abbrev pub is_in_script_order : List Request → List RequestReport → Bool
-is_in_script_order script transcript = list_all is_over (copies_of script transcript) && (length (left_over script transcript) == 0)
+is_in_script_order script transcript = list_all is_over (copies_of script transcript)
+    && (length (left_over script transcript) == 0)
 
 abbrev pub are_in_script_order : List Client → List (List RequestReport) → Bool
 are_in_script_order [] [] = true
-are_in_script_order (client ∷ clients) (transcript ∷ transcripts) = is_in_script_order client.requests transcript && are_in_script_order clients transcripts
+are_in_script_order (client ∷ clients) (transcript ∷ transcripts) =
+    is_in_script_order client.requests transcript && are_in_script_order clients transcripts
 are_in_script_order _ _ = false
 
 -- all calls of the script are shown where `failed` is null, and fewer where it is not
 abbrev pub shows_script : Request → RequestReport → Bool
-shows_script request copy = nat_le (length copy.calls) (length request.calls) && same_bool (length copy.calls == length request.calls) (is_none copy.failed)
+shows_script request copy = nat_le (length copy.calls) (length request.calls)
+    && same_bool (length copy.calls == length request.calls) (is_none copy.failed)
 
 abbrev pub show_script : Copies → Bool
 show_script copies = list_all (shows_script copies.request) copies.reports
 
 -- the first two sentences of `Whole`
 abbrev pub has_its_reports : Document → Report → Bool
-has_its_reports document report = are_in_script_order document.clients report.clients && each_copies show_script document report
+has_its_reports document report = are_in_script_order document.clients report.clients
+    && each_copies show_script document report

@@ -25,29 +25,41 @@ commits_by session before = count_by (λ commit. same_session commit.session ses
 
 -- the identifier that the session commits under next
 abbrev pub next_of_session : SessionId → List Commit → Ltxid
-next_of_session session before = record { incarnation = session.incarnation; session = session.session; number = commits_by session before }
+next_of_session session before = record {
+  incarnation = session.incarnation;
+  session = session.session;
+  number = commits_by session before;
+}
 
 -- A crashed call committed where it has no mark and a commit, and the entries have its session's
 -- next identifier.
 abbrev pub has_crashed_commit : List Entry → List Commit → SessionId → Bool → Call → Bool
 has_crashed_commit entries before session replay call =
-    not replay && (has_commit call && list_any (λ entry. same_ltxid entry.ltxid (next_of_session session before)) entries)
+    not replay && (has_commit call && list_any (λ entry. same_ltxid entry.ltxid
+    (next_of_session session before)) entries)
 
 abbrev pub commit_if : Bool → SessionId → ℕ → List Commit
-commit_if committed session event = cond committed (record { session = session; event = event } ∷ []) []
+commit_if committed session event = cond committed (record {
+  session = session;
+  event = event;
+} ∷ []) []
 
 abbrev pub item_commits : List Entry → List Commit → ℕ → SessionId → Item → List Commit
-item_commits entries before event session (item.Call replay call answers draws) = commit_if (ends_committed answers) session event
-item_commits entries before event session (item.CrashedCall replay call) = commit_if (has_crashed_commit entries before session replay call) session event
+item_commits entries before event session (item.Call replay call answers draws) =
+    commit_if (ends_committed answers) session event
+item_commits entries before event session (item.CrashedCall replay call) =
+    commit_if (has_crashed_commit entries before session replay call) session event
 item_commits entries before event session _ = []
 
 abbrev pub run_commits : SessionId → ℕ → List NoteRun → List Commit
 run_commits session event [] = []
-run_commits session event (run ∷ runs) = commit_if (ends_committed run.answers) session event ++ run_commits session event runs
+run_commits session event (run ∷ runs) =
+    commit_if (ends_committed run.answers) session event ++ run_commits session event runs
 
 -- what was committed at this moment, after these commits
 abbrev pub commits_at : List Entry → List Commit → ℕ → Happened → List Commit
-commits_at entries before event (ServedItem session served) = item_commits entries before event session served
+commits_at entries before event (ServedItem session served) =
+    item_commits entries before event session served
 commits_at entries before event (RanOutside ran) = run_commits (session_of ran.ltxid) event ran.runs
 commits_at entries before event (Asked x told) = []
 
@@ -71,7 +83,10 @@ pub record StoredEntry : Type 0 where
 abbrev pub stored_at : List Entry → List Commit → List StoredEntry
 stored_at [] commits = []
 stored_at (entry ∷ entries) [] = []
-stored_at (entry ∷ entries) (commit ∷ commits) = record { ltxid = entry.ltxid; event = commit.event } ∷ stored_at entries commits
+stored_at (entry ∷ entries) (commit ∷ commits) = record {
+  ltxid = entry.ltxid;
+  event = commit.event;
+} ∷ stored_at entries commits
 
 abbrev pub stored_entries : Report → List StoredEntry
 stored_entries report = stored_at report.entries (commits report)
@@ -84,9 +99,11 @@ entries_of entries session = count_by (λ entry. is_of_session session entry.ltx
 -- run.
 abbrev pub stored_before : List Entry → List StoredEntry → SessionId → ℕ → ℕ
 stored_before image stored session event =
-    entries_of image session + count_by (λ one. is_of_session session one.ltxid && nat_lt one.event event) stored
+    entries_of image session + count_by (λ one. is_of_session session one.ltxid
+    && nat_lt one.event event) stored
 
 -- The same up to an event, its own entry included.
 abbrev pub stored_up_to : List Entry → List StoredEntry → SessionId → ℕ → ℕ
 stored_up_to image stored session event =
-    entries_of image session + count_by (λ one. is_of_session session one.ltxid && nat_le one.event event) stored
+    entries_of image session + count_by (λ one. is_of_session session one.ltxid
+    && nat_le one.event event) stored

@@ -25,7 +25,9 @@ follows before report journal =
 
 abbrev pub is_after_run : Document → Report → Result Journal ℕ → Bool
 is_after_run document report (Err place) = false
-is_after_run document report (Ok journal) = follows (journal_before document) report journal && (journal.horizon == last_horizon document report)
+is_after_run document report (Ok journal) =
+    follows (journal_before document) report journal
+    && (journal.horizon == last_horizon document report)
 
 abbrev pub has_journal : Document → Report → Option (List ℕ) → Bool
 has_journal document report None = false

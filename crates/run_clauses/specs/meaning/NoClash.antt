@@ -34,7 +34,11 @@ pub record Replayed : Type 0 where
   pub answers : List Answer
 
 abbrev pub replayed_by : SessionId → Item → List Replayed
-replayed_by session (item.Call true call answers draws) = record { session = session; call = call; answers = answers } ∷ []
+replayed_by session (item.Call true call answers draws) = record {
+  session = session;
+  call = call;
+  answers = answers;
+} ∷ []
 replayed_by session _ = []
 
 abbrev pub replayed_in : List Served → List Replayed
@@ -46,21 +50,26 @@ served_by sessions replayed = filter (λ one. list_any (same_session one.session
 
 -- of each one that is this call
 abbrev pub answers_do_not_clash : List Replayed → Call → List Answer → Bool
-answers_do_not_clash replayed call seen = list_all (λ one. not (same_call one.call call) || do_not_clash seen one.answers) replayed
+answers_do_not_clash replayed call seen =
+    list_all (λ one. not (same_call one.call call) || do_not_clash seen one.answers) replayed
 
 -- the calls of a request, each with what it was shown with
 abbrev pub calls_do_not_clash : List Replayed → List Call → List ShownCall → Bool
 calls_do_not_clash replayed [] shown = true
 calls_do_not_clash replayed (call ∷ calls) [] = true
-calls_do_not_clash replayed (call ∷ calls) (first ∷ shown) = answers_do_not_clash replayed call first.answers && calls_do_not_clash replayed calls shown
+calls_do_not_clash replayed (call ∷ calls) (first ∷ shown) =
+    answers_do_not_clash replayed call first.answers && calls_do_not_clash replayed calls shown
 
 abbrev pub request_does_not_clash : List Replayed → Request → RequestReport → Bool
-request_does_not_clash replayed request copy = calls_do_not_clash (served_by copy.sessions replayed) request.calls copy.calls
+request_does_not_clash replayed request copy =
+    calls_do_not_clash (served_by copy.sessions replayed) request.calls copy.calls
 
 abbrev pub copies_do_not_clash : List Replayed → Copies → Bool
-copies_do_not_clash replayed copies = list_all (request_does_not_clash replayed copies.request) copies.reports
+copies_do_not_clash replayed copies = list_all (request_does_not_clash replayed copies.request)
+    copies.reports
 
 -- `NoClash`: for each call that was shown, and each reply to this call with the replay mark by a
 -- session of its request, equal digests imply equal answers.
 abbrev pub no_clash : Document → Report → Bool
-no_clash document report = each_copies (copies_do_not_clash (replayed_in report.served)) document report
+no_clash document report = each_copies (copies_do_not_clash (replayed_in report.served)) document
+    report

@@ -28,15 +28,18 @@ all_tried report = flat_map (λ request. request.tried) (requests_in report)
 
 -- Each entry of J that is not foreign has its identifier in exactly one `tried(t)`, of these lists.
 abbrev pub is_tried_once : List SessionId → List (List Ltxid) → Entry → Bool
-is_tried_once outside lists entry = is_foreign outside entry.ltxid || (count_by (λ ids. holds ids entry.ltxid) lists == 1)
+is_tried_once outside lists entry = is_foreign outside entry.ltxid
+    || (count_by (λ ids. holds ids entry.ltxid) lists == 1)
 
 abbrev pub entries_tried_once : Report → Bool
-entries_tried_once report = list_all (is_tried_once (outside_sessions report.notes) (all_tried report)) report.entries
+entries_tried_once report = list_all (is_tried_once (outside_sessions report.notes)
+    (all_tried report)) report.entries
 
 -- No two entries have one identifier.
 abbrev pub entries_differ : List Entry → Bool
 entries_differ [] = true
-entries_differ (entry ∷ entries) = not (list_any (λ other. same_ltxid entry.ltxid other.ltxid) entries) && entries_differ entries
+entries_differ (entry ∷ entries) = not (list_any (λ other. same_ltxid entry.ltxid other.ltxid)
+    entries) && entries_differ entries
 
 -- No `tried(t)` holds the identifiers of two entries.
 abbrev pub no_list_has_two : Report → Bool
@@ -55,7 +58,8 @@ abbrev pub copies_have_one : List Entry → Copies → Bool
 copies_have_one entries copies =
     (copies.request.again == 0)
     || (nat_le (length (entries_of_copies entries copies.reports)) 1
-    && list_all (λ entry. holds (ids_of_last (last_or None copies.reports)) entry.ltxid) (entries_of_copies entries copies.reports))
+    && list_all (λ entry. holds (ids_of_last (last_or None copies.reports)) entry.ltxid)
+    (entries_of_copies entries copies.reports))
 
 abbrev pub all_copies_have_one : Document → Report → Bool
 all_copies_have_one document report = each_copies (copies_have_one report.entries) document report
@@ -87,7 +91,8 @@ last_ends entries failed txn = not (is_last txn) || may_end entries failed txn.t
 -- all of that, of each transaction of a request
 abbrev pub request_ends : List Entry → RequestReport → Bool
 request_ends entries request =
-    list_all (λ txn. committed_has_one entries txn && (dropped_has_none entries txn && last_ends entries request.failed txn)) (txns_of request)
+    list_all (λ txn. committed_has_one entries txn
+    && (dropped_has_none entries txn && last_ends entries request.failed txn)) (txns_of request)
 
 abbrev pub requests_end : Report → Bool
 requests_end report = each_request (request_ends report.entries) report

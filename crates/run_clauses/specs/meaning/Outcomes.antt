@@ -36,7 +36,8 @@ told_of (verdict.Forgotten horizon) completed = Some (told.Forgotten horizon)
 -- The outcome by the service's table, with the horizon, the number of the session's entries, and
 -- whether the entry x is completed.
 abbrev pub outcome_of : ℕ → ℕ → Option Bool → Ltxid → Option AskResult
-outcome_of horizon next completed x = told_of (verdict_of (known_from horizon (λ incarnation session. has_committed next)) x) completed
+outcome_of horizon next completed x = told_of
+    (verdict_of (known_from horizon (λ incarnation session. has_committed next)) x) completed
 
 abbrev pub same_told : AskResult → AskResult → Bool
 same_told (told.Committed a) (told.Committed b) = same_bool a b

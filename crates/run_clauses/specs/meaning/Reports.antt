@@ -54,7 +54,11 @@ abbrev pub shown_call : Shown → ShownCall
 shown_call shown = record { answers = shown.answers; draws = shown.draws; ltxid = shown.ltxid }
 
 abbrev pub told_outcome : Heard → Outcome
-told_outcome outcome = record { ltxid = outcome.ltxid; committed = outcome.committed; completed = outcome.completed }
+told_outcome outcome = record {
+  ltxid = outcome.ltxid;
+  committed = outcome.committed;
+  completed = outcome.completed;
+}
 
 -- the session that was lent, or whose Hello was taken
 abbrev pub reached : Input → Option SessionId

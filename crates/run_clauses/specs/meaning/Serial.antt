@@ -17,7 +17,10 @@ use Rattle.run_clauses.specs.meaning.Comparing.{same_printed_rows}
 
 -- a table as a report prints it: its rows in order of key
 abbrev pub printed_table : List PlainRow → BaseTable → ReportTable
-printed_table tables table = record { name = table.schema.name; rows = map (λ one. one.row) (rows_at tables (place.Table table.schema.name)) }
+printed_table tables table = record {
+  name = table.schema.name;
+  rows = map (λ one. one.row) (rows_at tables (place.Table table.schema.name));
+}
 
 -- each table of the base, in the base's order
 abbrev pub printed_tables : Base → List PlainRow → List ReportTable
@@ -28,7 +31,8 @@ same_report_table a b = bytes_eq a.name b.name && same_printed_rows a.rows b.row
 
 abbrev pub are_printed : Base → List ReportTable → Option (List PlainRow) → Bool
 are_printed base printed None = false
-are_printed base printed (Some tables) = pointwise same_report_table printed (printed_tables base tables)
+are_printed base printed (Some tables) =
+    pointwise same_report_table printed (printed_tables base tables)
 
 -- the tables after the entries, if these are a serial run
 abbrev pub tables_after : Document → Report → Option (List PlainRow)
@@ -37,7 +41,8 @@ tables_after document report = serial_after (shape document) (start document) re
 -- `Serial` of a report: its entries run one after the other from `Start`, and its tables are those
 -- after the last.
 abbrev pub serial : Document → Report → Bool
-serial document report = are_printed (journal_before document).base report.tables (tables_after document report)
+serial document report = are_printed (journal_before document).base report.tables
+    (tables_after document report)
 
 -- The same as a proposition, in which the runs of the service are proved: they give the tables
 -- after the entries.

@@ -12,7 +12,11 @@ use Rattle.server_model.specs.meaning.Base.{Sequence, Base}
 
 -- A sequence goes on behind its last reservation.
 abbrev pub sequence_of : List Reservation → BaseSequence → Sequence
-sequence_of reserved sequence = record { name = sequence.name; upto = end_of reserved sequence; keep = sequence.keep }
+sequence_of reserved sequence = record {
+  name = sequence.name;
+  upto = end_of reserved sequence;
+  keep = sequence.keep;
+}
 
 abbrev pub sequences_of : Journal → List Sequence
 sequences_of journal = map (sequence_of journal.reserved) journal.base.sequences

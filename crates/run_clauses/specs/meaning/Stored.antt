@@ -56,10 +56,12 @@ has_entry entries outcome =
 
 -- With committed false, completed is false and x is blocked in the journal.
 abbrev pub has_block : List Ltxid → Outcome → Bool
-has_block blocked outcome = outcome.committed || (not outcome.completed && is_blocked blocked outcome.ltxid)
+has_block blocked outcome = outcome.committed
+    || (not outcome.completed && is_blocked blocked outcome.ltxid)
 
 abbrev pub are_outcomes_stored : Kept → RequestReport → Bool
-are_outcomes_stored k request = list_all (λ outcome. has_entry k.entries outcome && has_block k.blocked outcome) request.outcomes
+are_outcomes_stored k request = list_all (λ outcome. has_entry k.entries outcome
+    && has_block k.blocked outcome) request.outcomes
 
 abbrev pub outcomes_stored : Kept → Report → Bool
 outcomes_stored k report = each_request (are_outcomes_stored k) report
@@ -77,7 +79,8 @@ horizon_before k event = raised k.horizon k.openings event
 -- event. An x answered uncommitted is blocked in the journal.
 abbrev pub is_answer : Kept → ℕ → Ltxid → AskResult → Bool
 is_answer k event x answer =
-    is_told (outcome_of (horizon_before k event) (next_at k event x) (completed_of k.entries x) x) answer
+    is_told (outcome_of (horizon_before k event) (next_at k event x) (completed_of k.entries x) x)
+    answer
     && (not (is_uncommitted answer) || is_blocked k.blocked x)
 
 -- An `outcome` item says forgotten with h exactly where h is the horizon at its event and x's
@@ -88,7 +91,8 @@ is_rightly_forgotten k event x answer =
     && (not (is_forgotten answer) || says_forgotten answer (horizon_before k event))
 
 abbrev pub is_item_right : Kept → ℕ → Item → Bool
-is_item_right k event (item.Outcome x answer) = is_answer k event x answer && is_rightly_forgotten k event x answer
+is_item_right k event (item.Outcome x answer) =
+    is_answer k event x answer && is_rightly_forgotten k event x answer
 is_item_right k event _ = true
 
 -- an `ask` note, or an `outcome` item whether its reply was taken or not
@@ -98,7 +102,8 @@ is_right_at k event (ServedItem session served) = is_item_right k event served
 is_right_at k event (RanOutside ran) = true
 
 abbrev pub answers_right : Kept → Report → Bool
-answers_right k report = list_all (λ moment. is_right_at k moment.event moment.happened) (moments report)
+answers_right k report = list_all (λ moment. is_right_at k moment.event moment.happened)
+    (moments report)
 
 -- The report's `forgotten` is the horizon after the last event.
 abbrev pub forgotten_fits : Document → Report → Bool
@@ -114,7 +119,8 @@ blocked_or_entry k = list_all (λ x. is_none (completed_of k.entries x)) k.block
 abbrev pub blocks_fit : Document → Report → Bool
 blocks_fit document report =
     let answered = answered_in (moments report) in
-    blocks_answered answered report.blocked && blocks_in_order (journal_before document).blocked answered report.blocked
+    blocks_answered answered report.blocked
+    && blocks_in_order (journal_before document).blocked answered report.blocked
 
 -- `Stored`
 abbrev pub stored : Document → Report → Bool

@@ -32,7 +32,10 @@ pub record Txn : Type 0 where
 abbrev pub with_tried : List (List ShownCall) → List (List Ltxid) → List Txn
 with_tried [] lists = []
 with_tried (part ∷ parts) [] = record { shown = part; tried = [] } ∷ with_tried parts []
-with_tried (part ∷ parts) (ids ∷ lists) = record { shown = part; tried = ids } ∷ with_tried parts lists
+with_tried (part ∷ parts) (ids ∷ lists) = record {
+  shown = part;
+  tried = ids;
+} ∷ with_tried parts lists
 
 -- the transactions of a request
 abbrev pub txns_of : RequestReport → List Txn
@@ -46,7 +49,8 @@ abbrev pub is_shown_committed : Txn → Bool
 is_shown_committed txn = is_shown ends_committed txn
 
 abbrev pub is_shown_dropped : Txn → Bool
-is_shown_dropped txn = is_shown (λ answers. ends_conflict answers || ends_with is_rolled_back answers) txn
+is_shown_dropped txn = is_shown (λ answers. ends_conflict answers
+    || ends_with is_rolled_back answers) txn
 
 -- it is the last one of its request: no call that was shown ended it
 abbrev pub is_last : Txn → Bool

@@ -51,9 +51,12 @@ if_ends false meant = None
 abbrev pub pieces_course : Shape → List PlainRow → NamedValues → ℕ → ℕ → List Piece → Course
 pieces_course shape before settings n p [] = Fails (entry_at n)
 pieces_course shape before settings n p (piece ∷ []) =
-    and_then (piece_at n p) (if_ends (ends_committed piece.answers) (replayed shape before settings piece)) (λ meant. Goes meant.tables)
+    and_then (piece_at n p) (if_ends (ends_committed piece.answers)
+    (replayed shape before settings piece)) (λ meant. Goes meant.tables)
 pieces_course shape before settings n p (piece ∷ next ∷ more) =
-    and_then (piece_at n p) (if_ends (not (ends_committed piece.answers)) (replayed shape before settings piece)) (λ meant. pieces_course shape meant.tables meant.settings n (p + 1) (next ∷ more))
+    and_then (piece_at n p) (if_ends (not (ends_committed piece.answers))
+    (replayed shape before settings piece))
+    (λ meant. pieces_course shape meant.tables meant.settings n (p + 1) (next ∷ more))
 
 abbrev pub after_entry : Course → (List PlainRow → Course) → Course
 after_entry (Fails place) next = Fails place
@@ -61,21 +64,26 @@ after_entry (Goes tables) next = next tables
 
 abbrev pub entries_course : Shape → List PlainRow → ℕ → List Entry → Course
 entries_course shape before n [] = Goes before
-entries_course shape before n (entry ∷ entries) = after_entry (pieces_course shape before entry.settings n 0 entry.pieces) (λ between. entries_course shape between (n + 1) entries)
+entries_course shape before n (entry ∷ entries) =
+    after_entry (pieces_course shape before entry.settings n 0 entry.pieces)
+    (λ between. entries_course shape between (n + 1) entries)
 
 -- The first table that is printed otherwise, and where only their number differs, the tables.
 abbrev pub table_place : ℕ → List ReportTable → List ReportTable → Option (List ℕ)
 table_place n [] [] = None
-table_place n (a ∷ printed) (b ∷ tables) = if same_report_table a b then table_place (n + 1) printed tables else Some (table_at n)
+table_place n (a ∷ printed) (b ∷ tables) =
+    if same_report_table a b then table_place (n + 1) printed tables else Some (table_at n)
 table_place n _ _ = Some (codes "/tables")
 
 abbrev pub place_after : Document → Report → Course → Option (List ℕ)
 place_after document report (Fails place) = Some place
-place_after document report (Goes tables) = table_place 0 report.tables (printed_tables (journal_before document).base tables)
+place_after document report (Goes tables) =
+    table_place 0 report.tables (printed_tables (journal_before document).base tables)
 
 -- None exactly where `serial` holds
 abbrev pub serial_place : Document → Report → Option (List ℕ)
-serial_place document report = place_after document report (entries_course (shape document) (start document) 0 report.entries)
+serial_place document report = place_after document report
+    (entries_course (shape document) (start document) 0 report.entries)
 
 -- ---- Fresh
 
@@ -86,7 +94,8 @@ is_drawn_before before one = is_single one && list_any (same_draw one) before
 -- of the draws of one piece, one stands before: in an earlier piece, or earlier in this one
 abbrev pub draws_again : List Draw → List Draw → Bool
 draws_again before [] = false
-draws_again before (one ∷ draws) = if is_drawn_before before one then true else draws_again (one ∷ before) draws
+draws_again before (one ∷ draws) = if is_drawn_before before one then true else draws_again
+    (one ∷ before) draws
 
 abbrev pub or_next : Bool → List ℕ → Option (List ℕ) → Option (List ℕ)
 or_next true place next = Some place
@@ -94,7 +103,9 @@ or_next false place next = next
 
 abbrev pub fresh_pieces : List Draw → ℕ → ℕ → List Piece → Option (List ℕ)
 fresh_pieces before n p [] = None
-fresh_pieces before n p (piece ∷ pieces) = or_next (draws_again before piece.draws) (piece_at n p) (fresh_pieces (before ++ piece.draws) n (p + 1) pieces)
+fresh_pieces before n p (piece ∷ pieces) =
+    or_next (draws_again before piece.draws) (piece_at n p)
+    (fresh_pieces (before ++ piece.draws) n (p + 1) pieces)
 
 abbrev pub or_later : Option (List ℕ) → Option (List ℕ) → Option (List ℕ)
 or_later (Some place) later = Some place
@@ -102,7 +113,9 @@ or_later None later = later
 
 abbrev pub fresh_entries : List Draw → ℕ → List Entry → Option (List ℕ)
 fresh_entries before n [] = None
-fresh_entries before n (entry ∷ entries) = or_later (fresh_pieces before n 0 entry.pieces) (fresh_entries (before ++ draws_of entry) (n + 1) entries)
+fresh_entries before n (entry ∷ entries) =
+    or_later (fresh_pieces before n 0 entry.pieces)
+    (fresh_entries (before ++ draws_of entry) (n + 1) entries)
 
 -- None exactly where `fresh` holds
 abbrev pub fresh_place : Report → Option (List ℕ)

@@ -37,7 +37,8 @@ fresh entries = none_twice (flat_map draws_of entries)
 abbrev pub new_in : Base → Deed → List Draw
 new_in base Nothing = []
 new_in base Meaningless = []
-new_in base (Ran performed meant) = new_among (kept_by base performed.replay performed.kept) performed.draws
+new_in base (Ran performed meant) = new_among (kept_by base performed.replay performed.kept)
+    performed.draws
 
 -- what the items drew anew, that of stopped calls included whose entry stands
 abbrev pub drawn_anew : Base → Walk → List Item → List Draw

@@ -27,7 +27,8 @@ pub data Outcome : Type 0 where
 pub data Thing : Type 0 where
   Connected : Thing
   Began : (settings : List (List ℕ × Value)) → Thing
-  Called : (replay : Bool) (kept : List Draw) (called : Call) (answers : List Answer) (draws : List Draw) → Thing
+  Called : (replay : Bool) (kept : List Draw) (called : Call) (answers : List Answer)
+      (draws : List Draw) → Thing
   MetBlock : (replay : Bool) (called : Call) → Thing
   TellsOutcome : (x : Ltxid) (outcome : Outcome) → Thing
   EndedRequest : Thing
@@ -88,6 +89,8 @@ thing_of frame (Says down) = with_answer frame down
 thing_of frame Stopped = without_answer frame
 
 abbrev pub asked_of : ℕ → Ltxid → Telling → Item
-asked_of event x (Says (down.OutcomeIs committed completed)) = AskTold event x (outcome_is committed completed)
-asked_of event x (Says (down.OutcomeRefused ahead next)) = AskTold event x (outcome_ahead ahead next)
+asked_of event x (Says (down.OutcomeIs committed completed)) =
+    AskTold event x (outcome_is committed completed)
+asked_of event x (Says (down.OutcomeRefused ahead next)) =
+    AskTold event x (outcome_ahead ahead next)
 asked_of event x _ = AskStopped event x

@@ -31,7 +31,8 @@ use Rattle.server_model.specs.meaning.Walk.{Transaction, Walk, walk_of, next_of,
 
 -- some place that was read has other committed rows now
 abbrev pub differs : List PlainRow → List Read → Bool
-differs committed reads = list_any (λ read. not (same_rows read.found (rows_at committed read.at))) reads
+differs committed reads = list_any (λ read. not (same_rows read.found (rows_at committed read.at)))
+    reads
 
 -- how a commit that is reached is answered: by the mark, by a place that differs, or by the commit
 abbrev pub verdict : Bool → Bool → Answer
@@ -48,14 +49,18 @@ ending_with (first ∷ next ∷ more) last = first ∷ ending_with (next ∷ mor
 -- A call that means a commit is answered as it means, with the last answer by the verdict; every
 -- other call as it means.
 abbrev pub answered : Meant → Bool → Bool → List Answer
-answered meant replay changed = if ends_committed meant.answers then ending_with meant.answers (verdict replay changed) else meant.answers
+answered meant replay changed = if ends_committed meant.answers then
+    ending_with meant.answers (verdict replay changed) else meant.answers
 
 abbrev pub answers_hold : Walk → Performed → Meant → Bool
-answers_hold walk performed meant = same_answers performed.answers (answered meant performed.replay (differs walk.committed (with_call walk performed meant).reads))
+answers_hold walk performed meant = same_answers performed.answers
+    (answered meant performed.replay (differs walk.committed
+    (with_call walk performed meant).reads))
 
 -- a commit and a conflict come only under an identifier that was not blocked
 abbrev pub is_free : Walk → Performed → Bool
-is_free walk performed = if ends_committed performed.answers || ends_conflict performed.answers then not (is_blocked walk.blocked (next_of walk performed.session)) else true
+is_free walk performed = if ends_committed performed.answers || ends_conflict performed.answers then
+    not (is_blocked walk.blocked (next_of walk performed.session)) else true
 
 -- ---- entries
 
@@ -63,20 +68,27 @@ is_free walk performed = if ends_committed performed.answers || ends_conflict pe
 -- start, and tells a lone commit
 abbrev pub is_entry_of : Walk → Performed → Transaction → Entry → Bool
 is_entry_of walk performed transaction entry =
-    same_ltxid entry.ltxid (next_of walk performed.session) && (pointwise same_piece entry.pieces transaction.pieces && (same_settings entry.settings transaction.at_start && same_bool entry.completed (is_lone_commit performed.called)))
+    same_ltxid entry.ltxid (next_of walk performed.session)
+    && (pointwise same_piece entry.pieces transaction.pieces
+    && (same_settings entry.settings transaction.at_start
+    && same_bool entry.completed (is_lone_commit performed.called)))
 
 abbrev pub is_first_entry : Walk → Performed → Transaction → List Entry → Bool
 is_first_entry walk performed transaction [] = false
-is_first_entry walk performed transaction (entry ∷ left) = is_entry_of walk performed transaction entry
+is_first_entry walk performed transaction (entry ∷ left) =
+    is_entry_of walk performed transaction entry
 
 -- a call that is answered Committed stores the entry that comes next
 abbrev pub stores : Walk → Performed → Meant → Bool
-stores walk performed meant = if ends_committed performed.answers then is_first_entry walk performed (with_call walk performed meant) walk.left else true
+stores walk performed meant = if ends_committed performed.answers then
+    is_first_entry walk performed (with_call walk performed meant) walk.left else true
 
 -- ---- draws
 
 abbrev pub draws_hold : Base → Walk → Performed → Bool
-draws_hold base walk performed = is_some (drawn_by performed.now (kept_by base performed.replay performed.kept) performed.draws walk.numbers)
+draws_hold base walk performed = is_some
+    (drawn_by performed.now (kept_by base performed.replay performed.kept) performed.draws
+    walk.numbers)
 
 -- ---- blocks
 
@@ -89,17 +101,22 @@ means_commit (Some meant) = is_nil meant.rest && ends_committed meant.answers
 abbrev pub may_be_blocked : Base → Walk → ℕ → SessionId → Bool → Call → Bool
 may_be_blocked base walk now session replay called =
     let x = next_of walk session in
-    has_commit called && (not replay && ((is_blocked walk.blocked x || is_blocked walk.perhaps x) && meets_with (λ draws. means_commit (meaning base walk session called draws)) now (asked_by_call called) walk.numbers))
+    has_commit called && (not replay && ((is_blocked walk.blocked x || is_blocked walk.perhaps x)
+    && meets_with (λ draws. means_commit (meaning base walk session called draws)) now
+    (asked_by_call called) walk.numbers))
 
 -- ---- an item
 
 abbrev pub deed_holds : Base → Walk → Deed → Bool
 deed_holds base walk Nothing = true
 deed_holds base walk Meaningless = false
-deed_holds base walk (Ran performed meant) = is_nil meant.rest && (answers_hold walk performed meant && (is_free walk performed && (stores walk performed meant && draws_hold base walk performed)))
+deed_holds base walk (Ran performed meant) =
+    is_nil meant.rest && (answers_hold walk performed meant
+    && (is_free walk performed && (stores walk performed meant && draws_hold base walk performed)))
 
 abbrev pub thing_holds : Base → Walk → ℕ → SessionId → Thing → Bool
-thing_holds base walk now session (MetBlock replay called) = may_be_blocked base walk now session replay called
+thing_holds base walk now session (MetBlock replay called) =
+    may_be_blocked base walk now session replay called
 thing_holds base walk now session _ = true
 
 -- openings come one after the other, and nothing of an opening comes behind a stop in it
@@ -107,7 +124,8 @@ abbrev pub is_of_now : Walk → SessionId → Bool
 is_of_now walk session = not walk.is_over && (session.incarnation == walk.numbers.incarnation)
 
 abbrev pub item_holds : Base → Walk → Item → Deed → Bool
-item_holds base walk (Did event now session thing) did = is_of_now walk session && (deed_holds base walk did && thing_holds base walk now session thing)
+item_holds base walk (Did event now session thing) did =
+    is_of_now walk session && (deed_holds base walk did && thing_holds base walk now session thing)
 item_holds base walk (AskTold event x outcome) did = true
 item_holds base walk (AskStopped event x) did = true
 
@@ -150,9 +168,12 @@ abbrev pub lines_stand : List Line → List (List ℕ) → Bool
 lines_stand [] [] = true
 lines_stand [] (alert ∷ alerts) = false
 lines_stand (line ∷ lines) [] = not line.is_answered && lines_stand lines []
-lines_stand (line ∷ lines) (alert ∷ alerts) = (bytes_eq line.text alert && lines_stand lines alerts) || (not line.is_answered && lines_stand lines (alert ∷ alerts))
+lines_stand (line ∷ lines) (alert ∷ alerts) =
+    (bytes_eq line.text alert && lines_stand lines alerts)
+    || (not line.is_answered && lines_stand lines (alert ∷ alerts))
 
 -- What was served is legal, with these entries and these alerts: those that the store gained since
 -- the base.
 abbrev pub legal : Base → List Item → List Entry → List (List ℕ) → Bool
-legal base items entries alerts = items_hold base (walk_of base entries) items && lines_stand (lines_of items) alerts
+legal base items entries alerts = items_hold base (walk_of base entries) items
+    && lines_stand (lines_of items) alerts

@@ -43,7 +43,8 @@ and_before one (Kept first left) = Kept first (one ∷ left)
 
 abbrev pub origin_of : Draw → List Draw → Origin
 origin_of given [] = New
-origin_of given (one ∷ kept) = if of_one_kind one given then Kept one kept else and_before one (origin_of given kept)
+origin_of given (one ∷ kept) = if of_one_kind one given then Kept one kept else
+    and_before one (origin_of given kept)
 
 -- ---- numbers that are given anew
 
@@ -63,17 +64,30 @@ pub record Numbers : Type 0 where
   pub counts : List Count
 
 abbrev pub count_of : Sequence → Count
-count_of sequence = record { name = sequence.name; next = sequence.upto +ℤ pos 1; upto = sequence.upto; maybe = 0 }
+count_of sequence = record {
+  name = sequence.name;
+  next = sequence.upto +ℤ pos 1;
+  upto = sequence.upto;
+  maybe = 0;
+}
 
 abbrev pub numbers_of : Base → Numbers
-numbers_of base = record { incarnation = base.incarnation; identifiers = 0; counts = map count_of base.sequences }
+numbers_of base = record {
+  incarnation = base.incarnation;
+  identifiers = 0;
+  counts = map count_of base.sequences;
+}
 
 -- a later opening goes on behind the last block, and counts identifiers from 1
 abbrev pub reopened : Count → Count
 reopened count = record count { next = count.upto +ℤ pos 1 }
 
 abbrev pub opened : Numbers → ℕ → Numbers
-opened numbers incarnation = record { incarnation = incarnation; identifiers = 0; counts = map reopened numbers.counts }
+opened numbers incarnation = record {
+  incarnation = incarnation;
+  identifiers = 0;
+  counts = map reopened numbers.counts;
+}
 
 -- the block that a value stands in: the last one, or another one that is set aside
 abbrev pub upto_with : ℤ → ℤ → ℤ
@@ -85,7 +99,12 @@ gave count = record count { next = count.next +ℤ pos 1; upto = upto_with count
 
 -- with the first of the blocks that may stand
 abbrev pub shifted : Count → ℕ → Count
-shifted count maybe = record count { next = count.next +ℤ pos 16; upto = count.upto +ℤ pos 16; maybe = maybe }
+shifted count maybe = record count {
+  next = count.next +ℤ pos 16;
+  upto =
+      count.upto +ℤ pos 16;
+  maybe = maybe;
+}
 
 abbrev pub settled : Count → Count
 settled count = record count { maybe = 0 }
@@ -100,7 +119,8 @@ ways count = ways_from count.maybe count
 
 abbrev pub gave_first : ℤ → List Count → Option Count
 gave_first value [] = None
-gave_first value (count ∷ counts) = if int_eq value count.next then Some (gave count) else gave_first value counts
+gave_first value (count ∷ counts) = if int_eq value count.next then Some (gave count) else
+    gave_first value counts
 
 -- the sequence after a value that it may have given, and none after another
 abbrev pub if_gave : Count → ℤ → Option Count
@@ -116,7 +136,9 @@ behind count (Some counts) = Some (count ∷ counts)
 
 abbrev pub counts_after : List Count → List ℕ → ℤ → Option (List Count)
 counts_after [] name value = None
-counts_after (count ∷ counts) name value = if bytes_eq count.name name then with_first (if_gave count value) counts else behind count (counts_after counts name value)
+counts_after (count ∷ counts) name value =
+    if bytes_eq count.name name then with_first (if_gave count value) counts else
+    behind count (counts_after counts name value)
 
 abbrev pub with_counts : Numbers → Option (List Count) → Option Numbers
 with_counts numbers None = None
@@ -132,9 +154,11 @@ counted numbers = record numbers { identifiers = numbers.identifiers + 1 }
 -- the first behind a block at an opening; of the clock the tick; of identifiers the one after the
 -- last
 abbrev pub if_next : Numbers → ℕ → Draw → Option Numbers
-if_next numbers now (draw.Seq name value) = with_counts numbers (counts_after numbers.counts name value)
+if_next numbers now (draw.Seq name value) =
+    with_counts numbers (counts_after numbers.counts name value)
 if_next numbers now (draw.Clock tick) = if tick == now then Some numbers else None
-if_next numbers now (draw.Id id) = if bytes_eq id (next_identifier numbers) then Some (counted numbers) else None
+if_next numbers now (draw.Id id) = if bytes_eq id (next_identifier numbers) then
+    Some (counted numbers) else None
 
 abbrev pub and_draws : Option Numbers → (Numbers → Option Numbers) → Option Numbers
 and_draws None more = None
@@ -154,7 +178,8 @@ one_drawn now given New numbers = if_next numbers now given
 abbrev pub drawn_by : ℕ → List Draw → List Draw → Numbers → Option Numbers
 drawn_by now kept [] numbers = Some numbers
 drawn_by now kept (given ∷ more) numbers =
-    let origin = origin_of given kept in and_draws (one_drawn now given origin numbers) (λ after. drawn_by now (left_by origin kept) more after)
+    let origin = origin_of given kept in and_draws (one_drawn now given origin numbers)
+    (λ after. drawn_by now (left_by origin kept) more after)
 
 abbrev pub if_new : Origin → Draw → List Draw → List Draw
 if_new (Kept first left) given more = more
@@ -163,7 +188,8 @@ if_new New given more = given ∷ more
 -- those of the draws that are new
 abbrev pub new_among : List Draw → List Draw → List Draw
 new_among kept [] = []
-new_among kept (given ∷ more) = let origin = origin_of given kept in if_new origin given (new_among (left_by origin kept) more)
+new_among kept (given ∷ more) = let origin =
+    origin_of given kept in if_new origin given (new_among (left_by origin kept) more)
 
 -- ---- values that are drawn and not told
 
@@ -179,11 +205,15 @@ asks_for called name = length (filter (is_of_sequence name) (asked_by_call calle
 -- how many blocks are set aside for so many values
 abbrev pub blocks_for : ℕ → ℤ → ℤ → ℕ
 blocks_for zero next upto = 0
-blocks_for (suc more) next upto = if int_le next upto then blocks_for more (next +ℤ pos 1) upto else blocks_for more (next +ℤ pos 1) (upto +ℤ pos 16) + 1
+blocks_for (suc more) next upto = if int_le next upto then blocks_for more (next +ℤ pos 1) upto else
+    blocks_for more (next +ℤ pos 1) (upto +ℤ pos 16) + 1
 
 -- A call that was stopped may have left the blocks that its draws need.
 abbrev pub stopped_count : Call → Count → Count
-stopped_count called count = record count { maybe = count.maybe + blocks_for (asks_for called count.name) count.next count.upto }
+stopped_count called count = record count {
+  maybe =
+      count.maybe + blocks_for (asks_for called count.name) count.next count.upto;
+}
 
 abbrev pub stopped_in : Call → Numbers → Numbers
 stopped_in called numbers = record numbers { counts = map (stopped_count called) numbers.counts }
@@ -206,11 +236,18 @@ unseen_in called numbers = record numbers {
 
 -- what a draw may give, each with the numbers after it
 abbrev pub with_way : Numbers → List ℕ → Count → Numbers
-with_way numbers name way = record numbers { counts = map (λ count. if bytes_eq count.name name then gave way else count) numbers.counts }
+with_way numbers name way = record numbers {
+  counts =
+      map (λ count. if bytes_eq count.name name then gave way else count) numbers.counts;
+}
 
 abbrev pub given_ways : Numbers → List ℕ → List Count → List (Draw × Numbers)
 given_ways numbers name [] = []
-given_ways numbers name (count ∷ counts) = if bytes_eq count.name name then map (λ way. (draw.Seq name way.next, with_way numbers name way)) (ways count) else given_ways numbers name counts
+given_ways numbers name (count ∷ counts) =
+    if bytes_eq count.name name then map (λ way. (
+      draw.Seq name way.next,
+      with_way numbers name way,
+    )) (ways count) else given_ways numbers name counts
 
 abbrev pub may_give : Numbers → ℕ → DrawKind → List (Draw × Numbers)
 may_give numbers now (kind.Seq name) = given_ways numbers name numbers.counts
@@ -220,4 +257,6 @@ may_give numbers now kind.Id = (draw.Id (next_identifier numbers), counted numbe
 -- with some new values for what is asked the test is met
 abbrev pub meets_with : (List Draw → Bool) → ℕ → List DrawKind → Numbers → Bool
 meets_with test now [] numbers = test []
-meets_with test now (asked ∷ more) numbers = list_any (λ given. meets_with (λ draws. test (given.0 ∷ draws)) now more given.1) (may_give numbers now asked)
+meets_with test now (asked ∷ more) numbers =
+    list_any (λ given. meets_with (λ draws. test (given.0 ∷ draws)) now more given.1)
+    (may_give numbers now asked)

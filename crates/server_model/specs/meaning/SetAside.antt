@@ -11,7 +11,8 @@ use Rattle.server_model.specs.meaning.Base.{Sequence}
 -- where the values end that are set aside of the sequence of this name, if there is one
 abbrev pub ends_in : List Sequence → List ℕ → Option ℤ
 ends_in [] name = None
-ends_in (sequence ∷ sequences) name = if bytes_eq sequence.name name then Some sequence.upto else ends_in sequences name
+ends_in (sequence ∷ sequences) name = if bytes_eq sequence.name name then Some sequence.upto else
+    ends_in sequences name
 
 -- A value of a sequence is not past where these end. (Ticks and identifiers are not set aside.)
 abbrev pub is_set_aside : (List ℕ → Option ℤ) → Draw → Bool
@@ -25,6 +26,8 @@ is_no_less (Some before) end = option_map_or (int_le before) end false
 
 -- Each of these values lies in what is set aside now, and of no sequence is that less than it was
 -- before.
-pub record SetAside (before : List Sequence) (ends : List ℕ → Option ℤ) (draws : List Draw) : Type 0 where
+pub record SetAside (before : List Sequence) (ends : List ℕ → Option ℤ)
+    (draws : List Draw) : Type 0 where
   pub drawn : IsTrue (list_all (is_set_aside ends) draws)
-  pub kept : IsTrue (list_all (λ sequence. is_no_less (ends_in before sequence.name) (ends sequence.name)) before)
+  pub kept : IsTrue (list_all (λ sequence. is_no_less (ends_in before sequence.name)
+      (ends sequence.name)) before)

@@ -34,7 +34,13 @@ pub record Transaction : Type 0 where
   pub reads : List Read
 
 abbrev pub begun : List (List ℕ × Value) → Transaction
-begun settings = record { settings = settings; at_start = settings; pieces = []; writes = []; reads = [] }
+begun settings = record {
+  settings = settings;
+  at_start = settings;
+  pieces = [];
+  writes = [];
+  reads = [];
+}
 
 -- `stored` are the entries so far, those of the time before included, and `left` those that are
 -- still to come. `blocked` was told uncommitted, or stood blocked at the start; `perhaps` was
@@ -66,15 +72,20 @@ walk_of base entries = record {
 
 abbrev pub transaction_in : List (SessionId × Transaction) → SessionId → Transaction
 transaction_in [] session = begun []
-transaction_in (first ∷ rest) session = if same_session first.0 session then first.1 else transaction_in rest session
+transaction_in (first ∷ rest) session = if same_session first.0 session then first.1 else
+    transaction_in rest session
 
-abbrev pub with_transaction : List (SessionId × Transaction) → SessionId → Transaction → List (SessionId × Transaction)
+abbrev pub with_transaction : List (SessionId × Transaction) → SessionId → Transaction
+    → List (SessionId × Transaction)
 with_transaction [] session transaction = (session, transaction) ∷ []
-with_transaction (first ∷ rest) session transaction = if same_session first.0 session then (session, transaction) ∷ rest else first ∷ with_transaction rest session transaction
+with_transaction (first ∷ rest) session transaction =
+    if same_session first.0 session then (session, transaction) ∷ rest else first
+    ∷ with_transaction rest session transaction
 
 -- the number of the session's entries
 abbrev pub number_of : List Entry → SessionId → ℕ
-number_of stored session = length (filter (λ entry. is_of entry.ltxid session.incarnation session.session) stored)
+number_of stored session = length (filter (λ entry. is_of
+    entry.ltxid session.incarnation session.session) stored)
 
 -- the session's next identifier
 abbrev pub next_of : Walk → SessionId → Ltxid
@@ -98,16 +109,35 @@ stands x (entry ∷ more) = if same_ltxid entry.ltxid x then last_or None entry.
 
 abbrev pub if_stands : ℕ → SessionId → Call → Option Piece → Option Performed
 if_stands now session called None = None
-if_stands now session called (Some piece) = Some (record { session = session; now = now; replay = false; kept = []; called = called; answers = piece.answers; draws = piece.draws })
+if_stands now session called (Some piece) = Some (record {
+  session = session;
+  now = now;
+  replay = false;
+  kept = [];
+  called = called;
+  answers = piece.answers;
+  draws = piece.draws;
+})
 
 -- A call that was stopped is as if it had been answered exactly where it is a commit without the
 -- mark, and the entry that comes next is its session's next one.
 abbrev pub performed_if : Walk → ℕ → SessionId → Bool → Call → Option Performed
-performed_if walk now session replay called = if has_commit called && not replay then if_stands now session called (stands (next_of walk session) walk.left) else None
+performed_if walk now session replay called =
+    if has_commit called && not replay then
+    if_stands now session called (stands (next_of walk session) walk.left) else None
 
 abbrev pub performed_by : Walk → ℕ → SessionId → Thing → Option Performed
-performed_by walk now session (Called replay kept called answers draws) = Some (record { session = session; now = now; replay = replay; kept = kept; called = called; answers = answers; draws = draws })
-performed_by walk now session (CallStopped replay called) = performed_if walk now session replay called
+performed_by walk now session (Called replay kept called answers draws) = Some (record {
+  session = session;
+  now = now;
+  replay = replay;
+  kept = kept;
+  called = called;
+  answers = answers;
+  draws = draws;
+})
+performed_by walk now session (CallStopped replay called) =
+    performed_if walk now session replay called
 performed_by walk now session _ = None
 
 -- what an item did, if it served a call: nothing, a call that means nothing with these draws, or a
@@ -122,7 +152,8 @@ abbrev pub view : Walk → SessionId → List PlainRow
 view walk session = with_writes walk.committed (transaction_in walk.sessions session).writes
 
 abbrev pub meaning : Base → Walk → SessionId → Call → List Draw → Option Meant
-meaning base walk session called draws = mean base.shape (view walk session) (transaction_in walk.sessions session).settings called draws
+meaning base walk session called draws =
+    mean base.shape (view walk session) (transaction_in walk.sessions session).settings called draws
 
 abbrev pub with_meaning : Performed → Option Meant → Deed
 with_meaning performed None = Meaningless
@@ -130,10 +161,12 @@ with_meaning performed (Some meant) = Ran performed meant
 
 abbrev pub deed : Base → Walk → Option Performed → Deed
 deed base walk None = Nothing
-deed base walk (Some performed) = with_meaning performed (meaning base walk performed.session performed.called performed.draws)
+deed base walk (Some performed) = with_meaning performed
+    (meaning base walk performed.session performed.called performed.draws)
 
 abbrev pub deed_of : Base → Walk → Item → Deed
-deed_of base walk (Did event now session thing) = deed base walk (performed_by walk now session thing)
+deed_of base walk (Did event now session thing) =
+    deed base walk (performed_by walk now session thing)
 deed_of base walk (AskTold event x outcome) = Nothing
 deed_of base walk (AskStopped event x) = Nothing
 
@@ -155,13 +188,18 @@ abbrev pub grown : List PlainRow → Transaction → Performed → Meant → Tra
 grown committed transaction performed meant = record {
   settings = meant.settings;
   at_start = transaction.at_start;
-  pieces = transaction.pieces ++ record { call = performed.called; answers = performed.answers; draws = performed.draws } ∷ [];
+  pieces = transaction.pieces ++ record {
+    call = performed.called;
+    answers = performed.answers;
+    draws = performed.draws;
+  } ∷ [];
   writes = transaction.writes ++ meant.writes;
   reads = transaction.reads ++ reads_at committed meant.reads;
 }
 
 abbrev pub with_call : Walk → Performed → Meant → Transaction
-with_call walk performed meant = grown walk.committed (transaction_in walk.sessions performed.session) performed meant
+with_call walk performed meant = grown walk.committed
+    (transaction_in walk.sessions performed.session) performed meant
 
 abbrev pub if_ended : Bool → Transaction → Transaction
 if_ended true transaction = begun transaction.settings
@@ -174,22 +212,35 @@ take_entry stored (entry ∷ left) = (stored ++ entry ∷ [], left)
 
 abbrev pub if_commits : Bool → Walk → List Write → Walk
 if_commits false walk writes = walk
-if_commits true walk writes = let taken = take_entry walk.stored walk.left in record walk { committed = with_writes walk.committed writes; stored = taken.0; left = taken.1 }
+if_commits true walk writes = let taken =
+    take_entry walk.stored walk.left in record walk {
+      committed = with_writes walk.committed writes;
+      stored = taken.0;
+      left = taken.1;
+    }
 
 abbrev pub or_same : Numbers → Option Numbers → Numbers
 or_same numbers None = numbers
 or_same numbers (Some after) = after
 
 abbrev pub with_numbers : Base → Walk → Performed → Walk
-with_numbers base walk performed = record walk { numbers = or_same walk.numbers (drawn_by performed.now (kept_by base performed.replay performed.kept) performed.draws walk.numbers) }
+with_numbers base walk performed = record walk {
+  numbers =
+      or_same walk.numbers (drawn_by performed.now (kept_by base performed.replay performed.kept)
+      performed.draws walk.numbers);
+}
 
 abbrev pub after_deed : Base → Walk → Deed → Walk
 after_deed base walk Nothing = walk
 after_deed base walk Meaningless = walk
 after_deed base walk (Ran performed meant) =
     let transaction = with_call walk performed meant in
-    let stored = if_commits (ends_committed performed.answers) (with_numbers base walk performed) transaction.writes in
-    record stored { sessions = with_transaction walk.sessions performed.session (if_ended (ends performed.answers) transaction) }
+    let stored = if_commits (ends_committed performed.answers) (with_numbers base walk performed)
+    transaction.writes in
+    record stored {
+      sessions = with_transaction walk.sessions performed.session
+          (if_ended (ends performed.answers) transaction);
+    }
 
 abbrev pub with_blocked : Walk → Ltxid → Walk
 with_blocked walk x = record walk { blocked = x ∷ walk.blocked }
@@ -211,8 +262,10 @@ if_nothing Meaningless walk called = walk
 if_nothing (Ran performed meant) walk called = walk
 
 abbrev pub after_thing : Walk → SessionId → Deed → Thing → Walk
-after_thing walk session did (Began settings) = record walk { sessions = with_transaction walk.sessions session (begun settings) }
-after_thing walk session did (MetBlock replay called) = record walk { numbers = unseen_in called walk.numbers }
+after_thing walk session did (Began settings) =
+    record walk { sessions = with_transaction walk.sessions session (begun settings) }
+after_thing walk session did (MetBlock replay called) =
+    record walk { numbers = unseen_in called walk.numbers }
 after_thing walk session did (TellsOutcome x outcome) = if_uncommitted walk x outcome
 after_thing walk session did (CallStopped replay called) = stopped (if_nothing did walk called)
 after_thing walk session did (OutcomeStopped x) = stopped (with_perhaps walk x)
@@ -220,12 +273,18 @@ after_thing walk session did _ = walk
 
 -- an item of a later opening comes behind its opening
 abbrev pub entered : Walk → Item → Walk
-entered walk (Did event now session thing) = if nat_lt walk.numbers.incarnation session.incarnation then record walk { numbers = opened walk.numbers session.incarnation; is_over = false } else walk
+entered walk (Did event now session thing) =
+    if nat_lt walk.numbers.incarnation session.incarnation then record walk {
+      numbers =
+          opened walk.numbers session.incarnation;
+      is_over = false;
+    } else walk
 entered walk (AskTold event x outcome) = walk
 entered walk (AskStopped event x) = walk
 
 -- `did` is what the item did on this walk
 abbrev pub after : Base → Walk → Item → Deed → Walk
-after base walk (Did event now session thing) did = after_thing (after_deed base walk did) session did thing
+after base walk (Did event now session thing) did =
+    after_thing (after_deed base walk did) session did thing
 after base walk (AskTold event x outcome) did = if_uncommitted walk x outcome
 after base walk (AskStopped event x) did = with_perhaps walk x

@@ -38,7 +38,8 @@ same_event a b = nat_lt 0 a && (a == b)
 
 abbrev pub same_failure : Failure → Failure → Bool
 same_failure (failure.Disabled a e) (failure.Disabled b f) = same_reason a b && same_event e f
-same_failure (failure.Mismatch i a x) (failure.Mismatch j b y) = (i == j) && (bytes_eq a b && bytes_eq x y)
+same_failure (failure.Mismatch i a x) (failure.Mismatch j b y) =
+    (i == j) && (bytes_eq a b && bytes_eq x y)
 same_failure (failure.Incomplete x) (failure.Incomplete y) = same_ltxid x y
 same_failure (failure.Retries n) (failure.Retries m) = n == m
 same_failure (failure.ReplayTimeout a x) (failure.ReplayTimeout b y) = (a == b) && (x == y)
@@ -56,7 +57,8 @@ same_failed _ _ = false
 
 -- o is the last outcome of the request
 abbrev pub is_last_outcome : Option Outcome → RequestReport → Bool
-is_last_outcome (Some taken) copy = option_map_or (same_outcome taken) (last_or None copy.outcomes) false
+is_last_outcome (Some taken) copy = option_map_or (same_outcome taken) (last_or None copy.outcomes)
+    false
 is_last_outcome None copy = false
 
 abbrev pub count_uncommitted : RequestReport → ℕ
@@ -67,8 +69,10 @@ count_uncommitted copy = count_by says_uncommitted copy.outcomes
 abbrev pub fits_outcomes : ServiceOf → Option Outcome → RequestReport → Option Failure → Bool
 fits_outcomes service taken copy (Some (failure.Incomplete x)) = is_last_outcome taken copy
 fits_outcomes service taken copy (Some (failure.Disabled why event)) = is_last_outcome taken copy
-fits_outcomes service taken copy (Some (failure.Replays limit event)) = is_last_outcome taken copy && (count_uncommitted copy == limit + 1)
-fits_outcomes service taken copy (Some (failure.ReplayTimeout first ready)) = is_last_outcome taken copy && nat_le (count_uncommitted copy) service.replays
+fits_outcomes service taken copy (Some (failure.Replays limit event)) =
+    is_last_outcome taken copy && (count_uncommitted copy == limit + 1)
+fits_outcomes service taken copy (Some (failure.ReplayTimeout first ready)) =
+    is_last_outcome taken copy && nat_le (count_uncommitted copy) service.replays
 fits_outcomes service taken copy _ = true
 
 -- ---- the steps of a client, one after the other
@@ -85,7 +89,14 @@ pub record Judged : Type 0 where
   pub right : Bool
 
 abbrev pub judged_from : Bool → List Submission → Judged
-judged_from right submissions = record { to_come = submissions; steps = []; facts = []; course = None; begun = 0; right = right }
+judged_from right submissions = record {
+  to_come = submissions;
+  steps = [];
+  facts = [];
+  course = None;
+  begun = 0;
+  right = right;
+}
 
 -- A submission ends at a step with the Failed of the line that holds there, or without one where it
 -- showed the last call.
@@ -103,14 +114,17 @@ ending_if false None = Goes
 
 abbrev pub ending_at : ServiceOf → Submission → Past → Step → Ending
 ending_at service submission past step =
-    ending_if (all_shown step (after_step past.before step)) (line_at service submission past step step.did)
+    ending_if (all_shown step (after_step past.before step))
+    (line_at service submission past step step.did)
 
 -- the submission failed with this, and with nothing else
 abbrev pub is_right : ServiceOf → Submission → List Step → Option Failure → Bool
 is_right service submission steps failed =
-    same_failed submission.copy.failed failed && fits_outcomes service (first_item (outcomes_of steps)) submission.copy failed
+    same_failed submission.copy.failed failed
+    && fits_outcomes service (first_item (outcomes_of steps)) submission.copy failed
 
-abbrev pub after_ending : ServiceOf → Judged → Submission → List Submission → Past → Step → Ending → Judged
+abbrev pub after_ending : ServiceOf → Judged → Submission → List Submission → Past → Step → Ending
+    → Judged
 after_ending service judged submission more past step Goes =
     record judged {
       steps = past.steps;
@@ -123,11 +137,22 @@ after_ending service judged submission more past step (Ends failed) =
 
 -- the submission in course up to this step, which is its first where it has none before
 abbrev pub past_by : Judged → Submission → Step → Option Course → Past
-past_by judged submission step None = record { steps = step ∷ []; facts = []; before = course_of submission; begun = step.tick }
-past_by judged submission step (Some course) = record { steps = step ∷ judged.steps; facts = judged.facts; before = course; begun = judged.begun }
+past_by judged submission step None = record {
+  steps = step ∷ [];
+  facts = [];
+  before = course_of submission;
+  begun = step.tick;
+}
+past_by judged submission step (Some course) = record {
+  steps = step ∷ judged.steps;
+  facts = judged.facts;
+  before = course;
+  begun = judged.begun;
+}
 
 abbrev pub after_past : ServiceOf → Judged → Submission → List Submission → Step → Past → Judged
-after_past service judged submission more step past = after_ending service judged submission more past step (ending_at service submission past step)
+after_past service judged submission more step past =
+    after_ending service judged submission more past step (ending_at service submission past step)
 
 -- A step after the last submission is nobody's.
 abbrev pub after_one : ServiceOf → Step → Judged → List Submission → Judged
@@ -143,13 +168,16 @@ abbrev pub is_judged_right : Judged → Bool
 is_judged_right judged = judged.right && is_empty judged.to_come
 
 abbrev pub is_client_caused : ServiceOf → List Submission → List Step → Bool
-is_client_caused service submissions mine = is_judged_right (fold (judge_step service) (judged_from true submissions) mine)
+is_client_caused service submissions mine =
+    is_judged_right (fold (judge_step service) (judged_from true submissions) mine)
 
 abbrev pub are_clients_caused : ServiceOf → ℕ → List Step → List (List Submission) → Bool
 are_clients_caused service client all [] = true
 are_clients_caused service client all (submissions ∷ more) =
-    is_client_caused service submissions (steps_of client all) && are_clients_caused service (client + 1) all more
+    is_client_caused service submissions (steps_of client all)
+    && are_clients_caused service (client + 1) all more
 
 -- `Caused`
 abbrev pub caused : Document → Report → Bool
-caused document report = are_clients_caused document.service 1 (steps report) (submissions_by_client document report)
+caused document report = are_clients_caused document.service 1 (steps report)
+    (submissions_by_client document report)

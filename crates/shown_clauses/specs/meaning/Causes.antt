@@ -54,12 +54,14 @@ is_wait _ = false
 
 -- how many steps noted `down` are its last but `early` ones
 abbrev pub last_downs : List Step → ℕ
-last_downs steps = count_by (λ step. is_down step.did) (front_of (λ step. is_down step.did || is_early step.did) steps)
+last_downs steps = count_by (λ step. is_down step.did)
+    (front_of (λ step. is_down step.did || is_early step.did) steps)
 
 -- 1. Retries(n): n = retries, and the last n steps of the request other than `early` are noted
 -- `down`.
 abbrev pub retries_line : ServiceOf → List Step → Option Failure
-retries_line service steps = if nat_le service.retries (last_downs steps) then Some (failure.Retries service.retries) else None
+retries_line service steps = if nat_le service.retries (last_downs steps) then
+    Some (failure.Retries service.retries) else None
 
 -- 8. PoolWait(f, g): every step of the request is noted `wait`, the first at tick f, the last at
 -- tick g, and g - f >= wait.
@@ -69,7 +71,8 @@ all_wait false steps = false
 
 abbrev pub pool_wait_line : ServiceOf → ℕ → ℕ → List Step → Option Failure
 pool_wait_line service first now steps =
-    if all_wait (nat_le service.pool.wait (now - first)) steps then Some (failure.PoolWait first now) else None
+    if all_wait (nat_le service.pool.wait (now - first)) steps then
+    Some (failure.PoolWait first now) else None
 
 -- ---- outcomes
 
@@ -143,13 +146,15 @@ at_outcome service past step outcome =
 
 -- 2. Incomplete(x): o = [x,true,false].
 abbrev pub incomplete_line : AtOutcome → Option Failure
-incomplete_line at = if at.outcome.committed && not at.outcome.completed then Some (failure.Incomplete at.outcome.ltxid) else None
+incomplete_line at = if at.outcome.committed && not at.outcome.completed then
+    Some (failure.Incomplete at.outcome.ltxid) else None
 
 -- 3. Disabled(StateLost(i), e): o = [x,true,true], call i - 1 was shown by it, call i exists, a
 -- `set` was shown in this request, and the rule keeps no settings.
 abbrev pub state_lost_line : ServiceOf → AtOutcome → Option Failure
 state_lost_line service at =
-    if at.outcome.committed && (at.outcome.completed && (at.follows && (at.set_shown && not (keeps_settings service.failover))))
+    if at.outcome.committed && (at.outcome.completed
+    && (at.follows && (at.set_shown && not (keeps_settings service.failover))))
     then Some (failure.Disabled (reason.StateLost at.index) at.ended) else None
 
 -- 4. Disabled(why, e): o = [x,false,false], and `why` is the reason at the step that took o.
@@ -168,16 +173,19 @@ may_replay at = says_uncommitted at.outcome && is_none at.reason
 -- o the last of them.
 abbrev pub replays_line : ServiceOf → AtOutcome → Option Failure
 replays_line service at =
-    if may_replay at && (at.uncommitted == service.replays + 1) then Some (failure.Replays service.replays at.ended) else None
+    if may_replay at && (at.uncommitted == service.replays + 1) then
+    Some (failure.Replays service.replays at.ended) else None
 
 -- 6. ReplayTimeout(f, g): no reason; at most `replays` such outcomes, o the last of them; a call
 -- was submitted, first at tick f; o was taken at tick g; g - f > timeout.
 abbrev pub timeout_by : ServiceOf → ℕ → Option ℕ → Option Failure
 timeout_by service now None = None
-timeout_by service now (Some first) = if nat_lt service.timeout (now - first) then Some (failure.ReplayTimeout first now) else None
+timeout_by service now (Some first) = if nat_lt service.timeout (now - first) then
+    Some (failure.ReplayTimeout first now) else None
 
 abbrev pub timeout_line : ServiceOf → AtOutcome → Option Failure
-timeout_line service at = if may_replay at && nat_le at.uncommitted service.replays then timeout_by service at.tick at.first else None
+timeout_line service at = if may_replay at && nat_le at.uncommitted service.replays then
+    timeout_by service at.tick at.first else None
 
 -- the lines that are judged at the step that took the outcome, of which at most one holds
 abbrev pub outcome_lines : ServiceOf → AtOutcome → Option Failure
@@ -194,7 +202,8 @@ outcome_lines service at =
 -- call i with the mark, with answers of digest `now`, and this reply was taken; the two differ.
 -- (Equal answers have equal digests.)
 abbrev pub mismatch_by : ℕ → List ℕ → List ℕ → Option Failure
-mismatch_by index seen now = if bytes_eq seen now then None else Some (failure.Mismatch index seen now)
+mismatch_by index seen now = if bytes_eq seen now then None else
+    Some (failure.Mismatch index seen now)
 
 abbrev pub mismatch_of : Bool → ℕ → List Answer → List Answer → Option Failure
 mismatch_of true index seen now = None
@@ -202,7 +211,8 @@ mismatch_of false index seen now = mismatch_by index (digest seen) (digest now)
 
 abbrev pub mismatch_at : ℕ → Option ShownCall → List Answer → Option Failure
 mismatch_at index None now = None
-mismatch_at index (Some shown) now = mismatch_of (same_answers shown.answers now) index shown.answers now
+mismatch_at index (Some shown) now = mismatch_of (same_answers shown.answers now) index
+    shown.answers now
 
 -- the call that is replayed: so many before the first that was not shown as are to be replayed
 -- still
@@ -210,7 +220,8 @@ abbrev pub replayed_index : Course → ℕ
 replayed_index course = course.index - course.behind
 
 abbrev pub mismatch_line : Submission → Course → List Answer → Option Failure
-mismatch_line submission course now = mismatch_at (replayed_index course) (slice_get submission.copy.calls (replayed_index course)) now
+mismatch_line submission course now = mismatch_at (replayed_index course)
+    (slice_get submission.copy.calls (replayed_index course)) now
 
 -- 9. Unknown(x): the request's last session served an `outcome` item for x that says forgotten, and
 -- this reply was taken.
@@ -221,20 +232,26 @@ unknown_line x = Some (failure.Unknown x)
 
 abbrev pub line_at_outcome : ServiceOf → Past → Step → Option Outcome → Option Failure
 line_at_outcome service past step None = None
-line_at_outcome service past step (Some outcome) = outcome_lines service (at_outcome service past step outcome)
+line_at_outcome service past step (Some outcome) =
+    outcome_lines service (at_outcome service past step outcome)
 
 abbrev pub line_at_item : ServiceOf → Submission → Past → Step → Item → Option Failure
-line_at_item service submission past step (item.Call true call answers draws) = mismatch_line submission past.before answers
+line_at_item service submission past step (item.Call true call answers draws) =
+    mismatch_line submission past.before answers
 line_at_item service submission past step (item.Outcome x (told.Forgotten horizon)) = unknown_line x
-line_at_item service submission past step (item.Outcome x result) = line_at_outcome service past step (outcome_told (item.Outcome x result))
+line_at_item service submission past step (item.Outcome x result) =
+    line_at_outcome service past step (outcome_told (item.Outcome x result))
 line_at_item service submission past step _ = None
 
 abbrev pub line_at_taking : ServiceOf → Submission → Past → Step → Option Served → Option Failure
 line_at_taking service submission past step None = None
-line_at_taking service submission past step (Some one) = line_at_item service submission past step one.item
+line_at_taking service submission past step (Some one) =
+    line_at_item service submission past step one.item
 
 abbrev pub line_at : ServiceOf → Submission → Past → Step → GoNote → Option Failure
 line_at service submission past step go.Down = retries_line service past.steps
-line_at service submission past step go.Wait = pool_wait_line service past.begun step.tick past.steps
-line_at service submission past step (go.Took connection sent) = line_at_taking service submission past step step.taken
+line_at service submission past step go.Wait =
+    pool_wait_line service past.begun step.tick past.steps
+line_at service submission past step (go.Took connection sent) =
+    line_at_taking service submission past step step.taken
 line_at service submission past step _ = None

@@ -37,13 +37,21 @@ pub record Course : Type 0 where
 
 abbrev pub course_of : Submission → Course
 course_of submission =
-    record { unshown = submission.request.calls; ahead = submission.copy.calls; index = 0; since = 0; submitted = false; behind = 0 }
+    record {
+      unshown = submission.request.calls;
+      ahead = submission.copy.calls;
+      index = 0;
+      since = 0;
+      submitted = false;
+      behind = 0;
+    }
 
 -- ---- showings
 
 -- the answers shown: the report's, where it shows the call
 abbrev pub answers_shown : Course → List Answer → List Answer
-answers_shown course answers = option_map_or (λ shown. shown.answers) (first_item course.ahead) answers
+answers_shown course answers = option_map_or (λ shown. shown.answers) (first_item course.ahead)
+    answers
 
 abbrev pub after_showing : Course → List Answer → Course
 after_showing course answers =
@@ -59,9 +67,11 @@ after_showing course answers =
 -- An outcome that says uncommitted begins a replay of the calls that were shown since then; each
 -- reply to one with the mark ends one.
 abbrev pub after_item : Course → Item → Course
-after_item course (item.Call false call answers draws) = after_showing course (answers_shown course answers)
+after_item course (item.Call false call answers draws) =
+    after_showing course (answers_shown course answers)
 after_item course (item.Call true call answers draws) = record course { behind = course.behind - 1 }
-after_item course (item.Outcome x (told.Committed true)) = after_showing course (answers_shown course (answer.Committed ∷ []))
+after_item course (item.Outcome x (told.Committed true)) =
+    after_showing course (answers_shown course (answer.Committed ∷ []))
 after_item course (item.Outcome x told.Uncommitted) = record course { behind = course.since }
 after_item course _ = course
 
@@ -86,11 +96,13 @@ comes_after course _ = false
 -- what a step sends, where it sends anything
 abbrev pub sends_call : Course → GoNote → Option Served → Bool
 sends_call course (go.Lent connection) taken = course.index == 0
-sends_call course (go.Took connection sent) (Some one) = nat_lt 0 sent && comes_after course one.item
+sends_call course (go.Took connection sent) (Some one) =
+    nat_lt 0 sent && comes_after course one.item
 sends_call course _ _ = false
 
 abbrev pub submits : Course → Step → Bool
-submits course step = not course.submitted && (not (is_empty course.unshown) && sends_call course step.did step.taken)
+submits course step = not course.submitted
+    && (not (is_empty course.unshown) && sends_call course step.did step.taken)
 
 -- ---- the facts of a step: the showing comes before the submission
 
@@ -100,7 +112,8 @@ shown_fact (Some call) answers = Showed call answers ∷ []
 
 abbrev pub showing_facts : Course → Option (List Answer) → List Fact
 showing_facts course None = []
-showing_facts course (Some answers) = shown_fact (first_item course.unshown) (answers_shown course answers)
+showing_facts course (Some answers) = shown_fact (first_item course.unshown)
+    (answers_shown course answers)
 
 abbrev pub submitted_fact : Bool → Course → Option Call → ℕ → List Fact
 submitted_fact true course (Some call) tick = Submitted call course.index tick ∷ []

@@ -22,7 +22,8 @@ use Rattle.shown_clauses.specs.meaning.Turns.{ends_decided, is_marked}
 
 abbrev pub parts_from : ℕ → List Step → List (List Submission) → List Part
 parts_from client all [] = []
-parts_from client all (submissions ∷ more) = parts_of submissions (steps_of client all) ++ parts_from (client + 1) all more
+parts_from client all (submissions ∷ more) =
+    parts_of submissions (steps_of client all) ++ parts_from (client + 1) all more
 
 abbrev pub is_marked_item : Item → Bool
 is_marked_item (item.Call true call answers draws) = true
@@ -49,11 +50,13 @@ if_decided false one since = one ∷ since
 abbrev pub shown_since : ℕ → List ShownCall → List ShownCall → List ShownCall
 shown_since zero since shown = reverse since
 shown_since (suc more) since [] = reverse since
-shown_since (suc more) since (one ∷ shown) = shown_since more (if_decided (ends_decided one.answers) one since) shown
+shown_since (suc more) since (one ∷ shown) =
+    shown_since more (if_decided (ends_decided one.answers) one since) shown
 
 -- how many calls were shown before an event
 abbrev pub shown_before : List Step → ℕ → ℕ
-shown_before steps event = length (filter (λ step. is_some (showing_at step) && nat_lt step.event event) steps)
+shown_before steps event = length (filter (λ step. is_some (showing_at step)
+    && nat_lt step.event event) steps)
 
 abbrev pub is_step_of : ℕ → Part → Bool
 is_step_of event part = list_any (λ step. step.event == event) part.steps
@@ -67,14 +70,17 @@ acquired_by parts acquired = first_of (is_step_of acquired.event) parts
 -- whose connection was lost may serve its calls when more were shown on a later one.
 abbrev pub draws_shown : ℕ → ℕ → Part → List Draw
 draws_shown acquired place part =
-    option_map_or (λ shown. shown.draws) (slice_get (shown_since (shown_before part.steps acquired) [] part.submission.copy.calls) place) []
+    option_map_or (λ shown. shown.draws)
+    (slice_get (shown_since (shown_before part.steps acquired) [] part.submission.copy.calls)
+    place) []
 
 -- how many calls with the mark the turn has
 abbrev pub place_in : Turn → ℕ
 place_in turn = length (filter is_marked turn.calls)
 
 abbrev pub kept_since : List Part → ℕ → Acquired → List Draw
-kept_since parts place acquired = option_map_or (draws_shown acquired.event place) (acquired_by parts acquired) []
+kept_since parts place acquired = option_map_or (draws_shown acquired.event place)
+    (acquired_by parts acquired) []
 
 abbrev pub kept_in_turn : List Part → Turn → List Draw
 kept_in_turn parts turn = option_map_or (kept_since parts (place_in turn)) turn.acquired []
@@ -85,4 +91,5 @@ kept_on_link parts link = option_map_or (kept_in_turn parts) link.turn []
 -- The draws that a call was shown with which its session serves with the mark; none where the notes
 -- give no such call. (The connections are those before the item.)
 abbrev pub kept_at : List Part → Seen → SessionId → List Draw
-kept_at parts seen session = option_map_or (kept_on_link parts) (link_of_session session seen.links) []
+kept_at parts seen session = option_map_or (kept_on_link parts) (link_of_session session seen.links)
+    []

@@ -9,4 +9,5 @@ use Rattle.shown_clauses.specs.meaning.LegalItems.{items_of, outsides_fit}
 -- `Legal` of a report: what was served is legal, with the report's entries and alerts.
 abbrev pub legal_of : Document → Report → Bool
 legal_of document report =
-    outsides_fit document.schedule report.notes && legal (service_base document) (items_of document report) report.entries report.alerts
+    outsides_fit document.schedule report.notes
+    && legal (service_base document) (items_of document report) report.entries report.alerts

@@ -22,7 +22,10 @@ use Rattle.shown_clauses.specs.meaning.Things.{outcome_of, thing_of}
 
 -- an item of this event, with the ticks before it
 abbrev pub did_at : ℕ → ℕ → SessionId → Thing → Item
-did_at at now session thing = Did at now (record { incarnation = session.incarnation; session = session.session }) thing
+did_at at now session thing = Did at now (record {
+  incarnation = session.incarnation;
+  session = session.session;
+}) thing
 
 -- ---- a served item
 
@@ -32,7 +35,8 @@ kept_if true parts front one = kept_at parts front.place.seen one.session
 kept_if false parts front one = []
 
 abbrev pub item_of : List Part → Front → ℕ → Served → Item
-item_of parts front now one = did_at one.event now one.session (thing_of (kept_if (is_marked_item one.item) parts front one) one.item)
+item_of parts front now one = did_at one.event now one.session
+    (thing_of (kept_if (is_marked_item one.item) parts front one) one.item)
 
 -- ---- a run from outside
 
@@ -46,15 +50,18 @@ calls_of _ = []
 abbrev pub things_of : List Call → List NoteRun → List Thing
 things_of [] runs = []
 things_of (call ∷ calls) [] = MetBlock false call ∷ []
-things_of (call ∷ calls) (run ∷ runs) = Called false [] call run.answers run.draws ∷ things_of calls runs
+things_of (call ∷ calls) (run ∷ runs) = Called false [] call run.answers run.draws
+    ∷ things_of calls runs
 
 abbrev pub all_did : ℕ → ℕ → SessionId → List Thing → List Item
 all_did at now session [] = []
-all_did at now session (thing ∷ things) = did_at at now session thing ∷ all_did at now session things
+all_did at now session (thing ∷ things) =
+    did_at at now session thing ∷ all_did at now session things
 
 -- what its session did: it begins without settings
 abbrev pub outside_items : ℕ → ℕ → SessionId → List Call → List NoteRun → List Item
-outside_items at now session calls runs = all_did at now session (Connected ∷ Began [] ∷ things_of calls runs)
+outside_items at now session calls runs =
+    all_did at now session (Connected ∷ Began [] ∷ things_of calls runs)
 
 -- The note has one pair for each call of its event, or fewer.
 abbrev pub runs_fit : Option Event → List NoteRun → Bool
@@ -68,18 +75,29 @@ outside_fits one _ = true
 -- each note, beside the event of the schedule that it is of
 abbrev pub outsides_fit : List Event → List Note → Bool
 outsides_fit schedule [] = true
-outsides_fit schedule (first ∷ notes) = outside_fits (first_item schedule) first && outsides_fit (rest_items schedule) notes
+outsides_fit schedule (first ∷ notes) = outside_fits (first_item schedule) first
+    && outsides_fit (rest_items schedule) notes
 
 -- ---- all of them
 
 -- the items of a moment that the front has reached
 abbrev pub items_at : List Part → Front → ℕ → ℕ → Happened → List Item
-items_at parts front at now (ServedItem session served) = item_of parts front now (record { event = at; session = session; item = served }) ∷ []
-items_at parts front at now (RanOutside ran) = outside_items at now (session_of ran.ltxid) (calls_of (first_item front.place.schedule)) ran.runs
+items_at parts front at now (ServedItem session served) = item_of parts front now (record {
+  event = at;
+  session = session;
+  item = served;
+}) ∷ []
+items_at parts front at now (RanOutside ran) =
+    outside_items at now (session_of ran.ltxid) (calls_of (first_item front.place.schedule))
+    ran.runs
 items_at parts front at now (Asked x told) = AskTold at x (outcome_of told) ∷ []
 
 abbrev pub after_moment : Front → ℕ → Happened → Front
-after_moment front at (ServedItem session served) = after_served front (record { event = at; session = session; item = served })
+after_moment front at (ServedItem session served) = after_served front (record {
+  event = at;
+  session = session;
+  item = served;
+})
 after_moment front at (RanOutside ran) = front
 after_moment front at (Asked x told) = front
 
@@ -93,4 +111,5 @@ items_from parts notes front (moment ∷ more) =
 
 -- The items of a report, in the order of events.
 abbrev pub items_of : Document → Report → List Item
-items_of document report = items_from (parts document report) report.notes (first_front document report) (moments report)
+items_of document report = items_from (parts document report) report.notes
+    (first_front document report) (moments report)

@@ -69,18 +69,28 @@ link_of_session session links = first_of (has_session session) links
 -- `connect` item gives the session.
 abbrev pub new_link : ℕ → SessionId → List Served → Link
 new_link connection session replies =
-    record { connection = connection; session = session; replies = replies; ended = 0; acquired = None; turn = None }
+    record {
+      connection = connection;
+      session = session;
+      replies = replies;
+      ended = 0;
+      acquired = None;
+      turn = None;
+    }
 
 abbrev pub add_reply : ℕ → Served → List Link → List Link
-add_reply connection one links = with_changed (is_link connection) (λ link. record link { replies = link.replies ++ one ∷ [] }) links
+add_reply connection one links = with_changed (is_link connection)
+    (λ link. record link { replies = link.replies ++ one ∷ [] }) links
 
 abbrev pub connected : ℕ → Served → Option Link → List Link → List Link
 connected connection one None links = new_link connection one.session (one ∷ []) ∷ links
 connected connection one (Some link) links = add_reply connection one links
 
 abbrev pub served_on : ℕ → Served → Item → List Link → List Link
-served_on connection one item.Connect links = connected connection one (link_of connection links) links
-served_on connection one (item.Call replay call answers draws) links = add_reply connection one links
+served_on connection one item.Connect links =
+    connected connection one (link_of connection links) links
+served_on connection one (item.Call replay call answers draws) links =
+    add_reply connection one links
 served_on connection one (item.Blocked call) links = add_reply connection one links
 served_on connection one (item.Outcome x result) links = add_reply connection one links
 served_on connection one (item.Refused cause) links = add_reply connection one links
@@ -92,7 +102,8 @@ stopped_connected connection one None links = new_link connection one.session []
 stopped_connected connection one (Some link) links = links
 
 abbrev pub stopped_on : ℕ → Served → Item → List Link → List Link
-stopped_on connection one item.Connect links = stopped_connected connection one (link_of connection links) links
+stopped_on connection one item.Connect links =
+    stopped_connected connection one (link_of connection links) links
 stopped_on connection one _ links = links
 
 -- The connection of a session that answered Blocked or Refused is ended by that event, if it was
@@ -105,17 +116,27 @@ abbrev pub end_link : ℕ → Link → Link
 end_link event link = record link { ended = end_at event link.ended }
 
 abbrev pub end_session : ℕ → SessionId → Item → List Link → List Link
-end_session event session (item.Blocked call) links = with_changed (has_session session) (end_link event) links
-end_session event session (item.Refused cause) links = with_changed (has_session session) (end_link event) links
+end_session event session (item.Blocked call) links =
+    with_changed (has_session session) (end_link event) links
+end_session event session (item.Refused cause) links =
+    with_changed (has_session session) (end_link event) links
 end_session event session _ links = links
 
 -- ---- turns
 
 abbrev pub add_call : Bool → Call → Turn → Turn
-add_call replay call turn = record turn { calls = record { replay = replay; call = call } ∷ turn.calls }
+add_call replay call turn = record turn {
+  calls = record {
+    replay = replay;
+    call = call;
+  } ∷ turn.calls;
+}
 
 abbrev pub call_served : Bool → Call → Link → Link
-call_served replay call link = record link { turn = option_map_or (λ turn. Some (add_call replay call turn)) link.turn None }
+call_served replay call link = record link {
+  turn =
+      option_map_or (λ turn. Some (add_call replay call turn)) link.turn None;
+}
 
 abbrev pub turn_begun : Link → Link
 turn_begun link = record link { turn = Some (record { acquired = link.acquired; calls = [] }) }
@@ -123,9 +144,12 @@ turn_begun link = record link { turn = Some (record { acquired = link.acquired; 
 -- the connection with this session after it served the item
 abbrev pub in_turn : SessionId → Item → List Link → List Link
 in_turn session (item.Begin settings) links = with_changed (has_session session) turn_begun links
-in_turn session (item.Call replay call answers draws) links = with_changed (has_session session) (call_served replay call) links
-in_turn session (item.Blocked call) links = with_changed (has_session session) (call_served false call) links
-in_turn session (item.CrashedCall replay call) links = with_changed (has_session session) (call_served replay call) links
+in_turn session (item.Call replay call answers draws) links =
+    with_changed (has_session session) (call_served replay call) links
+in_turn session (item.Blocked call) links =
+    with_changed (has_session session) (call_served false call) links
+in_turn session (item.CrashedCall replay call) links =
+    with_changed (has_session session) (call_served replay call) links
 in_turn session _ links = links
 
 -- the turn that a connection has
@@ -160,7 +184,12 @@ after_item event noted seen one =
     }
 
 abbrev pub acquire : ℕ → ℕ → Link → Link
-acquire client event link = record link { acquired = Some (record { client = client; event = event }) }
+acquire client event link = record link {
+  acquired = Some (record {
+    client = client;
+    event = event;
+  });
+}
 
 -- The n-th `took` of a connection takes its n-th reply; one that takes a Hello acquires the
 -- session.
@@ -177,17 +206,21 @@ acquire_if true client event link = acquire client event link
 acquire_if false client event link = link
 
 abbrev pub take_reply : ℕ → ℕ → Link → Link
-take_reply client event link = acquire_if (is_hello (first_item link.replies)) client event (record link { replies = rest_items link.replies })
+take_reply client event link = acquire_if (is_hello (first_item link.replies)) client event
+    (record link { replies = rest_items link.replies })
 
 abbrev pub after_go : ℕ → ℕ → GoNote → List Link → List Link
-after_go client event (go.Lent connection) links = with_changed (is_link connection) (acquire client event) links
-after_go client event (go.Took connection sent) links = with_changed (is_link connection) (take_reply client event) links
+after_go client event (go.Lent connection) links =
+    with_changed (is_link connection) (acquire client event) links
+after_go client event (go.Took connection sent) links =
+    with_changed (is_link connection) (take_reply client event) links
 after_go client event _ links = links
 
 -- A connection is ended by a cut of it, and by a crash.
 abbrev pub after_note : ℕ → Note → List Link → List Link
 after_note event (note.Go client did) links = after_go client event did links
-after_note event (note.Cut connection (Some reached)) links = with_changed (is_link connection) (end_link event) links
+after_note event (note.Cut connection (Some reached)) links =
+    with_changed (is_link connection) (end_link event) links
 after_note event (note.Crash connection false) links = map (end_link event) links
 after_note event _ links = links
 

@@ -42,7 +42,10 @@ abbrev pub parts_from : ℕ → List Submission → List Counted → List Part
 parts_from before [] steps = []
 parts_from before (submission ∷ submissions) steps =
     let upto : ℕ = before + length submission.copy.sessions in
-    record { submission = submission; steps = map (λ counted. counted.step) (front_of (is_acquired_by upto) steps) }
+    record {
+      submission = submission;
+      steps = map (λ counted. counted.step) (front_of (is_acquired_by upto) steps);
+    }
     ∷ parts_from upto submissions (rest_of (is_acquired_by upto) steps)
 
 abbrev pub parts_of : List Submission → List Step → List Part
@@ -50,12 +53,15 @@ parts_of submissions steps = parts_from 0 submissions (counted_from 0 steps)
 
 -- the first step that is of no submission, since it acquires a session of none
 abbrev pub left_from : ℕ → List Submission → List Counted → Option Step
-left_from before [] steps = option_map (λ counted. counted.step) (first_item (rest_of (is_acquired_by before) steps))
-left_from before (submission ∷ submissions) steps = left_from (before + length submission.copy.sessions) submissions steps
+left_from before [] steps = option_map (λ counted. counted.step)
+    (first_item (rest_of (is_acquired_by before) steps))
+left_from before (submission ∷ submissions) steps =
+    left_from (before + length submission.copy.sessions) submissions steps
 
 abbrev pub left_of : List Submission → List Step → Option Step
 left_of submissions steps = left_from 0 submissions (counted_from 0 steps)
 
 -- The sessions of the report are those that its steps acquired, in order.
 abbrev pub has_its_sessions : Part → Bool
-has_its_sessions part = pointwise same_session part.submission.copy.sessions (filter_map (λ step. step.session) part.steps)
+has_its_sessions part = pointwise same_session part.submission.copy.sessions
+    (filter_map (λ step. step.session) part.steps)

@@ -24,7 +24,10 @@ pub record Front : Type 0 where
 
 abbrev pub first_front : Document → Report → Front
 first_front document report =
-    record { place = record { event = 1; tick = 0; schedule = document.schedule; seen = nothing_seen }; notes = report.notes }
+    record {
+      place = record { event = 1; tick = 0; schedule = document.schedule; seen = nothing_seen };
+      notes = report.notes;
+    }
 
 abbrev pub with_note : ℕ → Note → Seen → Seen
 with_note event first seen = record seen { links = after_note event first seen.links }
@@ -43,7 +46,8 @@ behind first place =
 abbrev pub reach_from : ℕ → Bool → Note → List Note → Place → Front
 reach_from event false first notes place = record { place = place; notes = first ∷ notes }
 reach_from event true first [] place = record { place = behind first place; notes = [] }
-reach_from event true first (next ∷ notes) place = reach_from event (nat_lt (place.event + 1) event) next notes (behind first place)
+reach_from event true first (next ∷ notes) place =
+    reach_from event (nat_lt (place.event + 1) event) next notes (behind first place)
 
 abbrev pub reach_in : ℕ → List Note → Place → Front
 reach_in event [] place = record { place = place; notes = [] }
@@ -85,4 +89,8 @@ with_seen place seen = record place { seen = seen }
 -- the front after an item
 abbrev pub after_served : Front → Served → Front
 after_served front one =
-    record { place = with_seen front.place (after_item one.event (noted_at front one.event) front.place.seen one); notes = front.notes }
+    record {
+      place = with_seen front.place (after_item one.event (noted_at front one.event)
+          front.place.seen one);
+      notes = front.notes;
+    }

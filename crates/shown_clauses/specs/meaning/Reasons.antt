@@ -29,7 +29,8 @@ asked_at _ index = None
 -- Settings(i): at the submission of call i, a `set`, where failover is `transaction` and
 -- consistency is static
 abbrev pub settings_at : Failover → Consistency → Call → ℕ → Option Reason
-settings_at failover.Transaction consistency.Static (call.Set name value) index = Some (reason.Settings index)
+settings_at failover.Transaction consistency.Static (call.Set name value) index =
+    Some (reason.Settings index)
 settings_at _ _ _ index = None
 
 -- AfterCommit: at the showing of answers that end with Committed or Conflict, where failover is
@@ -46,11 +47,13 @@ full_at limit since = if nat_le limit since then Some (reason.Full limit) else N
 -- of several at one submission or showing, the first in the table
 abbrev pub submission_reason : ServiceOf → Call → ℕ → Option Reason
 submission_reason service call index =
-    option_or (off_at service.failover) (option_or (asked_at call index) (settings_at service.failover service.consistency call index))
+    option_or (off_at service.failover) (option_or (asked_at call index)
+    (settings_at service.failover service.consistency call index))
 
 abbrev pub showing_reason : ServiceOf → ℕ → List Answer → Option Reason
 showing_reason service since answers =
-    if ends_decided answers then after_commit_at service.failover service.consistency else full_at service.record_limit since
+    if ends_decided answers then after_commit_at service.failover service.consistency else
+    full_at service.record_limit since
 
 -- how many calls were shown since the last one that ended with Committed or Conflict
 abbrev pub since_now : ℕ → List Answer → ℕ
@@ -59,9 +62,11 @@ since_now since answers = if ends_decided answers then 0 else since + 1
 -- the earliest of these
 abbrev pub reason_from : ServiceOf → ℕ → List Fact → Option Reason
 reason_from service since [] = None
-reason_from service since (Submitted call index tick ∷ facts) = option_or (submission_reason service call index) (reason_from service since facts)
+reason_from service since (Submitted call index tick ∷ facts) =
+    option_or (submission_reason service call index) (reason_from service since facts)
 reason_from service since (Showed call answers ∷ facts) =
-    option_or (showing_reason service since answers) (reason_from service (since_now since answers) facts)
+    option_or (showing_reason service since answers)
+    (reason_from service (since_now since answers) facts)
 
 -- the reason that stands after these facts of a request, from its first on
 abbrev pub reason_of : ServiceOf → List Fact → Option Reason

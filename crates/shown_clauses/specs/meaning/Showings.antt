@@ -49,15 +49,24 @@ showings steps = filter_map showing_at steps
 
 -- the outcome that a taken reply tells
 abbrev pub outcome_told : Item → Option Outcome
-outcome_told (item.Outcome x (told.Committed completed)) = Some (record { ltxid = x; committed = true; completed = completed })
-outcome_told (item.Outcome x told.Uncommitted) = Some (record { ltxid = x; committed = false; completed = false })
+outcome_told (item.Outcome x (told.Committed completed)) = Some (record {
+  ltxid = x;
+  committed = true;
+  completed = completed;
+})
+outcome_told (item.Outcome x told.Uncommitted) = Some (record {
+  ltxid = x;
+  committed = false;
+  completed = false;
+})
 outcome_told _ = None
 
 abbrev pub outcome_at : Step → Option Outcome
 outcome_at step = option_and_then (λ one. outcome_told one.item) step.taken
 
 abbrev pub same_outcome : Outcome → Outcome → Bool
-same_outcome a b = same_ltxid a.ltxid b.ltxid && (same_bool a.committed b.committed && same_bool a.completed b.completed)
+same_outcome a b = same_ltxid a.ltxid b.ltxid
+    && (same_bool a.committed b.committed && same_bool a.completed b.completed)
 
 -- ---- each shown call with its showing
 
@@ -76,18 +85,26 @@ tried_by_call copy = flat_map (λ txn. map (λ shown. txn.tried) txn.shown) (txn
 -- the calls side by side; what has no fellow is left out
 abbrev pub shown_with : List Call → List (List Ltxid) → List ShownCall → List Served → List Shown
 shown_with (call ∷ calls) (ids ∷ tried) (shown ∷ more) (one ∷ items) =
-    record { call = call; tried = ids; shown = shown; showing = one } ∷ shown_with calls tried more items
+    record {
+      call = call;
+      tried = ids;
+      shown = shown;
+      showing = one;
+    } ∷ shown_with calls tried more items
 shown_with _ _ _ _ = []
 
 abbrev pub shown_calls : Part → List Shown
 shown_calls part =
-    shown_with part.submission.request.calls (tried_by_call part.submission.copy) part.submission.copy.calls (showings part.steps)
+    shown_with part.submission.request.calls (tried_by_call part.submission.copy)
+    part.submission.copy.calls (showings part.steps)
 
 -- A request's calls are, in order, the replies to calls without the mark that its steps took, and
 -- [Committed] for each outcome taken that says committed and completed.
 abbrev pub is_shown_by : Shown → Item → Bool
-is_shown_by one (item.Call replay call answers draws) = same_answers one.shown.answers answers && same_draws one.shown.draws draws
-is_shown_by one _ = same_answers one.shown.answers (answer.Committed ∷ []) && is_empty one.shown.draws
+is_shown_by one (item.Call replay call answers draws) =
+    same_answers one.shown.answers answers && same_draws one.shown.draws draws
+is_shown_by one _ = same_answers one.shown.answers (answer.Committed ∷ [])
+    && is_empty one.shown.draws
 
 abbrev pub has_its_showings : Part → Bool
 has_its_showings part =
@@ -102,21 +119,29 @@ abbrev pub says_completed : Ltxid → Outcome → Bool
 says_completed x outcome = same_ltxid outcome.ltxid x && (outcome.committed && outcome.completed)
 
 abbrev pub is_served : RequestReport → Shown → Item → Bool
-is_served copy one (item.Call replay call answers draws) = same_call one.call call && list_any (same_session one.showing.session) copy.sessions
-is_served copy one (item.Outcome x result) = is_lone_commit one.call && (holds one.tried x && list_any (says_completed x) copy.outcomes)
+is_served copy one (item.Call replay call answers draws) =
+    same_call one.call call && list_any (same_session one.showing.session) copy.sessions
+is_served copy one (item.Outcome x result) =
+    is_lone_commit one.call && (holds one.tried x && list_any (says_completed x) copy.outcomes)
 is_served copy one _ = false
 
 abbrev pub calls_served : Part → Bool
-calls_served part = list_all (λ one. is_served part.submission.copy one one.showing.item) (shown_calls part)
+calls_served part = list_all (λ one. is_served part.submission.copy one one.showing.item)
+    (shown_calls part)
 
 -- The identifier shown has the session of that item. Its number is that of the session's entries
 -- stored up to the event of that item.
 abbrev pub identifier_at : List Entry → List StoredEntry → Served → Ltxid
 identifier_at image stored one =
-    record { incarnation = one.session.incarnation; session = one.session.session; number = stored_up_to image stored one.session one.event }
+    record {
+      incarnation = one.session.incarnation;
+      session = one.session.session;
+      number = stored_up_to image stored one.session one.event;
+    }
 
 abbrev pub has_identifier : List Entry → List StoredEntry → Shown → Bool
-has_identifier image stored one = same_ltxid one.shown.ltxid (identifier_at image stored one.showing)
+has_identifier image stored one = same_ltxid one.shown.ltxid
+    (identifier_at image stored one.showing)
 
 abbrev pub have_identifiers : List Entry → List StoredEntry → Part → Bool
 have_identifiers image stored part = list_all (has_identifier image stored) (shown_calls part)

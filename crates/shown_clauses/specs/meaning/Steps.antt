@@ -29,7 +29,8 @@ pub record Step : Type 0 where
 
 -- the reply that a step takes
 abbrev pub reply_at : List Link → GoNote → Option Served
-reply_at links (go.Took connection sent) = option_and_then (λ link. first_item link.replies) (link_of connection links)
+reply_at links (go.Took connection sent) =
+    option_and_then (λ link. first_item link.replies) (link_of connection links)
 reply_at links _ = None
 
 -- the session of a Hello
@@ -39,7 +40,8 @@ greeted false reply = None
 
 -- the session that it acquires: that of the connection which it was lent, or whose Hello it took
 abbrev pub session_at : List Link → GoNote → Option Served → Option SessionId
-session_at links (go.Lent connection) reply = option_map (λ link. link.session) (link_of connection links)
+session_at links (go.Lent connection) reply =
+    option_map (λ link. link.session) (link_of connection links)
 session_at links _ reply = greeted (is_hello reply) reply
 
 abbrev pub asked_of : Item → Option Ltxid
@@ -48,7 +50,8 @@ asked_of _ = None
 
 -- the connection of the session of the identifier whose outcome it takes
 abbrev pub lost_at : List Link → Option Served → Option Link
-lost_at links reply = option_and_then (λ x. link_of_session (session_of x) links) (option_and_then (λ one. asked_of one.item) reply)
+lost_at links reply = option_and_then (λ x. link_of_session (session_of x) links)
+    (option_and_then (λ one. asked_of one.item) reply)
 
 abbrev pub step_at : List Link → Happening → ℕ → GoNote → Step
 step_at links happening client did =
@@ -71,7 +74,9 @@ steps_at seen happening _ = []
 
 abbrev pub steps_from : Seen → List Happening → List Step
 steps_from seen [] = []
-steps_from seen (happening ∷ happenings) = steps_at seen happening happening.noted ++ steps_from (after_happening seen happening) happenings
+steps_from seen (happening ∷ happenings) =
+    steps_at seen happening happening.noted
+    ++ steps_from (after_happening seen happening) happenings
 
 -- `annotate`: the steps of all clients, in order
 abbrev pub steps : Report → List Step

@@ -12,8 +12,12 @@ pub record Submission : Type 0 where
   pub copy : RequestReport
 
 abbrev pub submissions_of : Copies → List Submission
-submissions_of copies = map (λ copy. record { request = copies.request; copy = copy }) copies.reports
+submissions_of copies = map (λ copy. record {
+  request = copies.request;
+  copy = copy;
+}) copies.reports
 
 -- for each client, in order
 abbrev pub submissions_by_client : Document → Report → List (List Submission)
-submissions_by_client document report = map (flat_map submissions_of) (copies_by_client document.clients report.clients)
+submissions_by_client document report = map (flat_map submissions_of)
+    (copies_by_client document.clients report.clients)

@@ -30,14 +30,16 @@ are_these false marked since = false
 
 -- Call i can be this call, and the calls before it those with the mark, the newest first.
 abbrev pub fits_here : Call → List Call → List Call → Call → Bool
-fits_here first marked since call = are_these (same_call call first && (length since == length marked)) marked since
+fits_here first marked since call = are_these
+    (same_call call first && (length since == length marked)) marked since
 
 -- there is such an i, among the calls that were shown and the next one
 abbrev pub fits_from : Call → List Call → List Call → List Call → List ShownCall → Bool
 fits_from first marked since [] shown = false
 fits_from first marked since (call ∷ calls) [] = fits_here first marked since call
 fits_from first marked since (call ∷ calls) (one ∷ shown) =
-    fits_here first marked since call || fits_from first marked (shown_since (ends_decided one.answers) call since) calls shown
+    fits_here first marked since call || fits_from first marked
+    (shown_since (ends_decided one.answers) call since) calls shown
 
 abbrev pub is_marked : Marked → Bool
 is_marked one = one.replay
@@ -48,7 +50,8 @@ abbrev pub begins_with : Submission → List Marked → List Marked → Bool
 begins_with submission marked [] = true
 begins_with submission marked (first ∷ more) =
     list_all (λ one. not one.replay) more
-    && fits_from first.call (reverse (map (λ one. one.call) marked)) [] submission.request.calls submission.copy.calls
+    && fits_from first.call (reverse (map (λ one. one.call) marked)) [] submission.request.calls
+    submission.copy.calls
 
 abbrev pub is_turn_right : Submission → Turn → Bool
 is_turn_right submission turn =
@@ -68,7 +71,8 @@ owned_if true event turn = Some (record { event = event; turn = turn })
 owned_if false event turn = None
 
 abbrev pub owned_by : ℕ → Turn → Option Owned
-owned_by client turn = option_and_then (λ acquired. owned_if (acquired.client == client) acquired.event turn) turn.acquired
+owned_by client turn = option_and_then (λ acquired. owned_if (acquired.client == client)
+    acquired.event turn) turn.acquired
 
 -- the turns of the sessions that a client acquired
 abbrev pub turns_of : ℕ → List Turn → List Owned
@@ -77,14 +81,16 @@ turns_of client turns = filter_map (owned_by client) turns
 -- the turns whose acquisition is one of these steps of the client, all that there are between its
 -- first and its last
 abbrev pub owned_between : ℕ → ℕ → List Owned → List Owned
-owned_between first last owned = filter (λ one. nat_le first one.event && nat_le one.event last) owned
+owned_between first last owned = filter (λ one. nat_le first one.event && nat_le one.event last)
+    owned
 
 abbrev pub owned_in : Option Step → Option Step → List Owned → List Owned
 owned_in (Some first) (Some last) owned = owned_between first.event last.event owned
 owned_in _ _ owned = []
 
 abbrev pub turns_right : List Owned → Part → Bool
-turns_right owned part = list_all (λ one. is_turn_right part.submission one.turn) (owned_in (first_item part.steps) (last_or None part.steps) owned)
+turns_right owned part = list_all (λ one. is_turn_right part.submission one.turn)
+    (owned_in (first_item part.steps) (last_or None part.steps) owned)
 
 -- The notes give the request of the `begin`: it was acquired before the first step that is of no
 -- submission.
@@ -94,4 +100,5 @@ has_request (Some step) one = nat_lt one.event step.event
 
 -- its session was acquired by one of so many clients
 abbrev pub has_client : ℕ → Turn → Bool
-has_client clients turn = option_map_or (λ acquired. nat_lt 0 acquired.client && nat_le acquired.client clients) turn.acquired false
+has_client clients turn = option_map_or (λ acquired. nat_lt 0 acquired.client
+    && nat_le acquired.client clients) turn.acquired false

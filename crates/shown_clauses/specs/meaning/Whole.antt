@@ -27,7 +27,12 @@ pub record Evidence : Type 0 where
 
 abbrev pub told_by : Document → Report → Evidence
 told_by document report =
-    record { image = (journal_before document).entries; stored = stored_entries report; steps = steps report; turns = turns report }
+    record {
+      image = (journal_before document).entries;
+      stored = stored_entries report;
+      steps = steps report;
+      turns = turns report;
+    }
 
 -- The notes give what each step took.
 abbrev pub takes : GoNote → Bool
@@ -55,16 +60,20 @@ abbrev pub is_client_whole : Evidence → ℕ → List Submission → Bool
 is_client_whole told client submissions =
     let mine : List Step = steps_of client told.steps in
     let its : List Owned = turns_of client told.turns in
-    list_all (has_request (left_of submissions mine)) its && list_all (is_part_whole told its) (parts_of submissions mine)
+    list_all (has_request (left_of submissions mine)) its
+    && list_all (is_part_whole told its) (parts_of submissions mine)
 
 abbrev pub are_clients_whole : Evidence → ℕ → List (List Submission) → Bool
 are_clients_whole told client [] = true
-are_clients_whole told client (submissions ∷ more) = is_client_whole told client submissions && are_clients_whole told (client + 1) more
+are_clients_whole told client (submissions ∷ more) =
+    is_client_whole told client submissions && are_clients_whole told (client + 1) more
 
 abbrev pub is_told_whole : Evidence → List (List Submission) → Bool
 is_told_whole told submissions =
-    are_taken told.steps && (list_all (has_client (length submissions)) told.turns && are_clients_whole told 1 submissions)
+    are_taken told.steps && (list_all (has_client (length submissions)) told.turns
+    && are_clients_whole told 1 submissions)
 
 -- `Whole`
 abbrev pub whole : Document → Report → Bool
-whole document report = has_its_reports document report && is_told_whole (told_by document report) (submissions_by_client document report)
+whole document report = has_its_reports document report
+    && is_told_whole (told_by document report) (submissions_by_client document report)

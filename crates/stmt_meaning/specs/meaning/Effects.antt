@@ -40,26 +40,33 @@ refused refusal = only (answer.Refused refusal)
 
 -- one row was written, or taken away
 abbrev pub wrote : List ℕ → Value → Option (List Value) → Effect
-wrote table key row = record { answer = answer.Done 1; write = Some (record { table = table; key = key; row = row }) }
+wrote table key row = record {
+  answer = answer.Done 1;
+  write = Some (record { table = table; key = key; row = row });
+}
 
 abbrev pub added : List ℕ → Value → ℕ → List Value → ℤ → Effect
-added table key at row sum = if fits_i64 sum then wrote table key (Some (slice_set row at (value.Int sum))) else refused fault.SumRange
+added table key at row sum = if fits_i64 sum then
+    wrote table key (Some (slice_set row at (value.Int sum))) else refused fault.SumRange
 
 -- On the row of a key. A missing row is nothing to change, and an insert wants none there.
 abbrev pub row_effect : List ℕ → Value → RowWork → Option (List Value) → Effect
 row_effect table key (row_work.Insert row) None = wrote table key (Some row)
 row_effect table key (row_work.Insert row) (Some there) = refused fault.DuplicateKey
 row_effect table key (row_work.Set at to) None = only (answer.Done 0)
-row_effect table key (row_work.Set at to) (Some there) = wrote table key (Some (slice_set there at to))
+row_effect table key (row_work.Set at to) (Some there) =
+    wrote table key (Some (slice_set there at to))
 row_effect table key (row_work.Add at by) None = only (answer.Done 0)
-row_effect table key (row_work.Add at by) (Some there) = added table key at there (number_at there at +ℤ by)
+row_effect table key (row_work.Add at by) (Some there) =
+    added table key at there (number_at there at +ℤ by)
 row_effect table key row_work.Delete None = only (answer.Done 0)
 row_effect table key row_work.Delete (Some there) = wrote table key None
 row_effect table key row_work.Get None = only (answer.Rows [])
 row_effect table key row_work.Get (Some there) = only (answer.Rows (there ∷ []))
 
 abbrev pub limited : List (List Value) → Answer
-limited rows = if nat_lt 32 (length rows) then answer.Refused fault.TooManyRows else answer.Rows rows
+limited rows = if nat_lt 32 (length rows) then answer.Refused fault.TooManyRows else
+    answer.Rows rows
 
 abbrev pub summed : ℤ → Answer
 summed sum = if fits_i64 sum then answer.Number sum else answer.Refused fault.SumRange

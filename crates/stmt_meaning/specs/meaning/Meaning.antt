@@ -33,10 +33,20 @@ pub record OneDone : Type 0 where
 
 abbrev pub done_at : List PlainRow → Reading Plan → Option OneDone
 done_at tables None = None
-done_at tables (Some (Err refusal, left)) = Some (record { answer = answer.Refused refusal; writes = []; reads = []; rest = left })
+done_at tables (Some (Err refusal, left)) = Some (record {
+  answer = answer.Refused refusal;
+  writes = [];
+  reads = [];
+  rest = left;
+})
 done_at tables (Some (Ok asked, left)) =
     let done = effect asked (seen_at tables (place_of asked)) in
-    Some (record { answer = done.answer; writes = option_to_list done.write; reads = option_to_list (place_of asked); rest = left })
+    Some (record {
+      answer = done.answer;
+      writes = option_to_list done.write;
+      reads = option_to_list (place_of asked);
+      rest = left;
+    })
 
 -- One statement: what its text and operands ask for, done on the rows at its place. None where the
 -- draws differ from those asked for.
@@ -57,10 +67,22 @@ pub record AllDone : Type 0 where
 
 abbrev pub after_first : OneDone → Option AllDone → Option AllDone
 after_first one None = None
-after_first one (Some more) = Some (record { answers = one.answer ∷ more.answers; writes = one.writes ++ more.writes; reads = one.reads ++ more.reads; rest = more.rest; refused = more.refused })
+after_first one (Some more) = Some (record {
+  answers = one.answer ∷ more.answers;
+  writes = one.writes ++ more.writes;
+  reads = one.reads ++ more.reads;
+  rest = more.rest;
+  refused = more.refused;
+})
 
 abbrev pub ended_by : OneDone → Option AllDone
-ended_by one = Some (record { answers = one.answer ∷ []; writes = []; reads = one.reads; rest = one.rest; refused = true })
+ended_by one = Some (record {
+  answers = one.answer ∷ [];
+  writes = [];
+  reads = one.reads;
+  rest = one.rest;
+  refused = true;
+})
 
 abbrev pub and_on : Option OneDone → (OneDone → Option AllDone) → Option AllDone
 and_on None next = None
@@ -68,10 +90,18 @@ and_on (Some one) next = if is_refusal one.answer then ended_by one else after_f
 
 -- The statements in order, each on the tables with the writes of those before it. The first refusal
 -- ends them.
-abbrev pub statements_done : Shape → List PlainRow → NamedValues → List Statement → List Draw → Option AllDone
-statements_done shape tables settings [] draws = Some (record { answers = []; writes = []; reads = []; rest = draws; refused = false })
+abbrev pub statements_done : Shape → List PlainRow → NamedValues → List Statement → List Draw
+    → Option AllDone
+statements_done shape tables settings [] draws = Some (record {
+  answers = [];
+  writes = [];
+  reads = [];
+  rest = draws;
+  refused = false;
+})
 statements_done shape tables settings (first ∷ rest) draws =
-    and_on (mean1 shape tables settings first draws) (λ one. statements_done shape (with_writes tables one.writes) settings rest one.rest)
+    and_on (mean1 shape tables settings first draws)
+    (λ one. statements_done shape (with_writes tables one.writes) settings rest one.rest)
 
 -- what a call does: its answers, the tables and settings after it, its writes, the places that it
 -- read, and the draws that are left
@@ -84,7 +114,14 @@ pub record Meant : Type 0 where
   pub rest : List Draw
 
 abbrev pub alone : List PlainRow → NamedValues → List Draw → Answer → Option Meant
-alone tables settings draws a = Some (record { answers = a ∷ []; tables = tables; settings = settings; writes = []; reads = []; rest = draws })
+alone tables settings draws a = Some (record {
+  answers = a ∷ [];
+  tables = tables;
+  settings = settings;
+  writes = [];
+  reads = [];
+  rest = draws;
+})
 
 abbrev pub commit_answer : Bool → List Answer
 commit_answer commit = if commit then answer.Committed ∷ [] else []
@@ -94,13 +131,29 @@ abbrev pub worked : List PlainRow → NamedValues → Bool → Option AllDone �
 worked tables settings commit None = None
 worked tables settings commit (Some done) =
     if done.refused
-    then Some (record { answers = done.answers; tables = tables; settings = settings; writes = []; reads = done.reads; rest = done.rest })
-    else Some (record { answers = done.answers ++ commit_answer commit; tables = with_writes tables done.writes; settings = settings; writes = done.writes; reads = done.reads; rest = done.rest })
+    then Some (record {
+      answers = done.answers;
+      tables = tables;
+      settings = settings;
+      writes = [];
+      reads = done.reads;
+      rest = done.rest;
+    })
+    else Some (record {
+      answers = done.answers ++ commit_answer commit;
+      tables = with_writes tables done.writes;
+      settings = settings;
+      writes = done.writes;
+      reads = done.reads;
+      rest = done.rest;
+    })
 
 -- One call. None where the draws don't begin with those that it asks for.
 abbrev pub mean : Shape → List PlainRow → NamedValues → Call → List Draw → Option Meant
-mean shape tables settings (call.Work statements commit) draws = worked tables settings commit (statements_done shape tables settings statements draws)
-mean shape tables settings (call.Set name x) draws = alone tables (put_setting settings name x) draws (answer.Done 1)
+mean shape tables settings (call.Work statements commit) draws =
+    worked tables settings commit (statements_done shape tables settings statements draws)
+mean shape tables settings (call.Set name x) draws =
+    alone tables (put_setting settings name x) draws (answer.Done 1)
 mean shape tables settings (call.Alter line) draws = alone tables settings draws (answer.Done 1)
 mean shape tables settings call.Disable draws = alone tables settings draws (answer.Done 0)
 mean shape tables settings call.Rollback draws = alone tables settings draws answer.RolledBack

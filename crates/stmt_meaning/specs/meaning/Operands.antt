@@ -34,7 +34,10 @@ Some (Ok x, draws) >>= next = next x draws
 -- the first of the draws, where it is of the kind
 abbrev pub take_draw : DrawKind → List Draw → Reading Value
 take_draw asked [] = None
-take_draw asked (first ∷ rest) = if is_of_kind asked first then Some (Ok (drawn_value first), rest) else None
+take_draw asked (first ∷ rest) = if is_of_kind asked first then Some (
+  Ok (drawn_value first),
+  rest,
+) else None
 
 -- what an operand stands for: a value that is there, or one that is to be drawn
 pub data Wanted : Type 0 where
@@ -46,7 +49,8 @@ wanted_setting None = Err fault.NoVar
 wanted_setting (Some x) = Ok (Known x)
 
 abbrev pub wanted_draw : List (List ℕ) → DrawKind → Result Wanted StatementFault
-wanted_draw sequences (kind.Seq name) = if is_name_of sequences name then Ok (Drawn (kind.Seq name)) else Err fault.NoSequence
+wanted_draw sequences (kind.Seq name) = if is_name_of sequences name then
+    Ok (Drawn (kind.Seq name)) else Err fault.NoSequence
 wanted_draw sequences kind.Clock = Ok (Drawn kind.Clock)
 wanted_draw sequences kind.Id = Ok (Drawn kind.Id)
 
@@ -68,4 +72,5 @@ value_of sequences settings asked draws = taken (wanted sequences settings asked
 abbrev pub values_of : List (List ℕ) → NamedValues → List Operand → List Draw → Reading (List Value)
 values_of sequences settings [] draws = Some (Ok [], draws)
 values_of sequences settings (first ∷ rest) draws =
-    value_of sequences settings first draws >>= λ x left. values_of sequences settings rest left >>= λ xs over. Some (Ok (x ∷ xs), over)
+    value_of sequences settings first draws >>= λ x left. values_of
+    sequences settings rest left >>= λ xs over. Some (Ok (x ∷ xs), over)

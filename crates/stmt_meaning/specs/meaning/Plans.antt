@@ -34,7 +34,8 @@ pub record Aim : Type 0 where
   pub columns : List Column
   pub at : ℕ
 
-abbrev pub in_table : Option Schema → (List Column → Result Aim StatementFault) → Result Aim StatementFault
+abbrev pub in_table : Option Schema → (List Column → Result Aim StatementFault)
+    → Result Aim StatementFault
 in_table None next = Err fault.NoTable
 in_table (Some schema) next = next schema.columns
 
@@ -57,10 +58,12 @@ but_key (Ok aim) = if aim.at == 0 then Err fault.KeyColumn else Ok aim
 -- key.
 abbrev pub aim_of : List Schema → Statement → Result Aim StatementFault
 aim_of schemas (statement.Insert table operands) = in_table (schema_of schemas table) whole
-aim_of schemas (statement.Update table key column by) = but_key (in_table (schema_of schemas table) (in_column column))
+aim_of schemas (statement.Update table key column by) =
+    but_key (in_table (schema_of schemas table) (in_column column))
 aim_of schemas (statement.Delete table key) = in_table (schema_of schemas table) whole
 aim_of schemas (statement.Get table key) = in_table (schema_of schemas table) whole
-aim_of schemas (statement.Select table column test operand) = in_table (schema_of schemas table) (in_column column)
+aim_of schemas (statement.Select table column test operand) =
+    in_table (schema_of schemas table) (in_column column)
 aim_of schemas (statement.Count table) = in_table (schema_of schemas table) whole
 aim_of schemas (statement.Sum table column) = in_table (schema_of schemas table) (in_column column)
 aim_of schemas (statement.Show operand) = whole []
@@ -71,24 +74,31 @@ if_kinds_fit fits asked = if fits then Ok asked else Err fault.KindDiffers
 -- (A statement has a value for each of its operands, so that none is missing in what follows.)
 abbrev pub key_plan : Aim → List ℕ → RowWork → Option Value → Result Plan StatementFault
 key_plan aim table work None = Err fault.KindDiffers
-key_plan aim table work (Some key) = if_kinds_fit (key_fits aim.columns key) (plan.AtRow table key work)
+key_plan aim table work (Some key) = if_kinds_fit (key_fits aim.columns key)
+    (plan.AtRow table key work)
 
 abbrev pub set_plan : Aim → List ℕ → Option Value → Option Value → Result Plan StatementFault
 set_plan aim table key None = Err fault.KindDiffers
-set_plan aim table key (Some to) = if is_column_kind aim.columns aim.at (kind_of to) then key_plan aim table (row_work.Set aim.at to) key else Err fault.KindDiffers
+set_plan aim table key (Some to) = if is_column_kind aim.columns aim.at (kind_of to) then
+    key_plan aim table (row_work.Set aim.at to) key else Err fault.KindDiffers
 
 -- a number is added, and to an integer
 abbrev pub add_plan : Aim → List ℕ → Option Value → Option Value → Result Plan StatementFault
-add_plan aim table key (Some (value.Int by)) = if is_column_kind aim.columns aim.at kind.Int then key_plan aim table (row_work.Add aim.at by) key else Err fault.KindDiffers
+add_plan aim table key (Some (value.Int by)) =
+    if is_column_kind aim.columns aim.at kind.Int then key_plan aim table (row_work.Add aim.at by)
+    key else Err fault.KindDiffers
 add_plan aim table key _ = Err fault.KindDiffers
 
-abbrev pub change_plan : Aim → List ℕ → Change → Option Value → Option Value → Result Plan StatementFault
+abbrev pub change_plan : Aim → List ℕ → Change → Option Value → Option Value
+    → Result Plan StatementFault
 change_plan aim table (change.To operand) key to = set_plan aim table key to
 change_plan aim table (change.Plus operand) key by = add_plan aim table key by
 
 abbrev pub select_plan : Aim → List ℕ → Test → Option Value → Result Plan StatementFault
 select_plan aim table test None = Err fault.KindDiffers
-select_plan aim table test (Some than) = if_kinds_fit (is_column_kind aim.columns aim.at (kind_of than)) (plan.InTable table (table_work.Select aim.at test than))
+select_plan aim table test (Some than) =
+    if_kinds_fit (is_column_kind aim.columns aim.at (kind_of than))
+    (plan.InTable table (table_work.Select aim.at test than))
 
 abbrev pub show_plan : Option Value → Result Plan StatementFault
 show_plan None = Err fault.KindDiffers
@@ -96,18 +106,28 @@ show_plan (Some shown) = Ok (plan.Show shown)
 
 -- What is to be done with the operands' values, if their kinds are the columns'.
 abbrev pub plan_for : Aim → Statement → List Value → Result Plan StatementFault
-plan_for aim (statement.Insert table operands) values = if_kinds_fit (row_fits aim.columns values) (plan.AtRow table (key_of values) (row_work.Insert values))
-plan_for aim (statement.Update table key column by) values = change_plan aim table by (slice_get values 0) (slice_get values 1)
-plan_for aim (statement.Delete table key) values = key_plan aim table row_work.Delete (slice_get values 0)
+plan_for aim (statement.Insert table operands) values =
+    if_kinds_fit (row_fits aim.columns values)
+    (plan.AtRow table (key_of values) (row_work.Insert values))
+plan_for aim (statement.Update table key column by) values =
+    change_plan aim table by (slice_get values 0) (slice_get values 1)
+plan_for aim (statement.Delete table key) values =
+    key_plan aim table row_work.Delete (slice_get values 0)
 plan_for aim (statement.Get table key) values = key_plan aim table row_work.Get (slice_get values 0)
-plan_for aim (statement.Select table column test operand) values = select_plan aim table test (slice_get values 0)
+plan_for aim (statement.Select table column test operand) values =
+    select_plan aim table test (slice_get values 0)
 plan_for aim (statement.Count table) values = Ok (plan.InTable table table_work.Count)
-plan_for aim (statement.Sum table column) values = if_kinds_fit (is_column_kind aim.columns aim.at kind.Int) (plan.InTable table (table_work.Sum aim.at))
+plan_for aim (statement.Sum table column) values =
+    if_kinds_fit (is_column_kind aim.columns aim.at kind.Int)
+    (plan.InTable table (table_work.Sum aim.at))
 plan_for aim (statement.Show operand) values = show_plan (slice_get values 0)
 
-abbrev pub plan_at : Shape → NamedValues → Statement → List Draw → Result Aim StatementFault → Reading Plan
+abbrev pub plan_at : Shape → NamedValues → Statement → List Draw → Result Aim StatementFault
+    → Reading Plan
 plan_at shape settings asked draws (Err refusal) = Some (Err refusal, draws)
-plan_at shape settings asked draws (Ok aim) = values_of shape.sequences settings (operands_of asked) draws >>= λ values left. Some (plan_for aim asked values, left)
+plan_at shape settings asked draws (Ok aim) =
+    values_of shape.sequences settings (operands_of asked) draws >>= λ values left.
+    Some (plan_for aim asked values, left)
 
 -- The checks in their order: the names, the operands from left to right, and then the kinds.
 abbrev pub plan_of : Shape → NamedValues → Statement → List Draw → Reading Plan

@@ -10,7 +10,8 @@ use Rattle.svc_values.specs.meaning.SettingsList.{NamedValues}
 
 -- The piece's call, run on these tables and settings with the piece's draws, uses them all and
 -- gives exactly the piece's answers.
-pub record Replays (shape : Shape) (tables : List PlainRow) (settings : NamedValues) (piece : Piece) (meant : Meant) : Type 0 where
+pub record Replays (shape : Shape) (tables : List PlainRow) (settings : NamedValues) (piece : Piece)
+    (meant : Meant) : Type 0 where
   pub run : mean shape tables settings piece.call piece.draws ≡ Some meant
   pub draws : meant.rest ≡ []
   pub answers : meant.answers ≡ piece.answers
@@ -19,12 +20,16 @@ pub record Replays (shape : Shape) (tables : List PlainRow) (settings : NamedVal
 abbrev pub Transaction : Shape → List PlainRow → NamedValues → List Piece → List PlainRow → Type 0
 Transaction shape before settings [] after = ⊥
 Transaction shape before settings (piece ∷ []) after =
-    (meant : Meant) × (Replays shape before settings piece meant × ((ends_committed piece.answers ≡ true) × (after ≡ meant.tables)))
+    (meant : Meant) × (Replays shape before settings piece meant
+    × ((ends_committed piece.answers ≡ true) × (after ≡ meant.tables)))
 Transaction shape before settings (piece ∷ next ∷ more) after =
-    (meant : Meant) × (Replays shape before settings piece meant × ((ends_committed piece.answers ≡ false) × Transaction shape meant.tables meant.settings (next ∷ more) after))
+    (meant : Meant) × (Replays shape before settings piece meant
+    × ((ends_committed piece.answers ≡ false)
+    × Transaction shape meant.tables meant.settings (next ∷ more) after))
 
 -- Entries run one after the other, each beginning with its settings.
 abbrev pub Serial : Shape → List PlainRow → List Entry → List PlainRow → Type 0
 Serial shape start [] after = after ≡ start
 Serial shape start (entry ∷ entries) after =
-    (between : List PlainRow) × (Transaction shape start entry.settings entry.pieces between × Serial shape between entries after)
+    (between : List PlainRow) × (Transaction shape start entry.settings entry.pieces between
+    × Serial shape between entries after)

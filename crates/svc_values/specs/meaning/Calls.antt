@@ -28,7 +28,8 @@ work_length statements commit = length statements + cond commit 1 0
 
 -- one to eight statements, the commit counted; each other call is one as it stands
 abbrev pub is_made : Call → Bool
-is_made (call.Work statements commit) = nat_le 1 (work_length statements commit) && nat_le (work_length statements commit) 8
+is_made (call.Work statements commit) = nat_le 1 (work_length statements commit)
+    && nat_le (work_length statements commit) 8
 is_made _ = true
 
 -- the operands in the order in which they are read
@@ -57,5 +58,6 @@ from_sequences operands = sum_by from_sequence operands
 -- how many operands of a frame's call are the next value of a sequence: none where the frame has no
 -- call
 abbrev pub sequences_in : Up → ℕ
-sequences_in (up.Call replay kept (call.Work statements commit)) = sum_by (λ one. from_sequences (operands_of one)) statements
+sequences_in (up.Call replay kept (call.Work statements commit)) =
+    sum_by (λ one. from_sequences (operands_of one)) statements
 sequences_in _ = 0

@@ -33,4 +33,5 @@ ends_conflict answers = ends_with is_conflict answers
 
 -- the transaction is over: committed, in conflict or rolled back
 abbrev pub ends_transaction : List Answer → Bool
-ends_transaction answers = ends_with (λ a. is_committed a || (is_conflict a || is_rolled_back a)) answers
+ends_transaction answers = ends_with (λ a. is_committed a || (is_conflict a || is_rolled_back a))
+    answers

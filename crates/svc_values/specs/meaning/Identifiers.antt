@@ -25,4 +25,8 @@ is_of_session session x = same_session (session_of x) session
 
 -- the session's identifier of this number
 abbrev pub ltxid_of : SessionId → ℕ → Ltxid
-ltxid_of session number = record { incarnation = session.incarnation; session = session.session; number = number }
+ltxid_of session number = record {
+  incarnation = session.incarnation;
+  session = session.session;
+  number = number;
+}

@@ -22,7 +22,8 @@ same_kind _ _ = false
 -- one value for each column, of its kind
 abbrev pub row_fits : List Column → List Value → Bool
 row_fits [] [] = true
-row_fits (column ∷ columns) (value ∷ values) = same_kind column.kind (kind_of value) && row_fits columns values
+row_fits (column ∷ columns) (value ∷ values) =
+    same_kind column.kind (kind_of value) && row_fits columns values
 row_fits _ _ = false
 
 abbrev pub has_column : List Column → List ℕ → Bool
@@ -31,4 +32,5 @@ has_column columns name = list_any (λ column. bytes_eq column.name name) column
 -- no name stands twice
 abbrev pub have_distinct_names : List Column → Bool
 have_distinct_names [] = true
-have_distinct_names (column ∷ columns) = not (has_column columns column.name) && have_distinct_names columns
+have_distinct_names (column ∷ columns) =
+    not (has_column columns column.name) && have_distinct_names columns

@@ -94,11 +94,14 @@ same_test test.Ge test.Ge = true
 same_test _ _ = false
 
 abbrev pub same_statement : Statement → Statement → Bool
-same_statement (statement.Insert t a) (statement.Insert u b) = bytes_eq t u && pointwise same_operand a b
-same_statement (statement.Update t k c a) (statement.Update u l d b) = bytes_eq t u && same_operand k l && bytes_eq c d && same_change a b
+same_statement (statement.Insert t a) (statement.Insert u b) =
+    bytes_eq t u && pointwise same_operand a b
+same_statement (statement.Update t k c a) (statement.Update u l d b) =
+    bytes_eq t u && same_operand k l && bytes_eq c d && same_change a b
 same_statement (statement.Delete t k) (statement.Delete u l) = bytes_eq t u && same_operand k l
 same_statement (statement.Get t k) (statement.Get u l) = bytes_eq t u && same_operand k l
-same_statement (statement.Select t c p a) (statement.Select u d q b) = bytes_eq t u && bytes_eq c d && same_test p q && same_operand a b
+same_statement (statement.Select t c p a) (statement.Select u d q b) =
+    bytes_eq t u && bytes_eq c d && same_test p q && same_operand a b
 same_statement (statement.Count t) (statement.Count u) = bytes_eq t u
 same_statement (statement.Sum t c) (statement.Sum u d) = bytes_eq t u && bytes_eq c d
 same_statement (statement.Show a) (statement.Show b) = same_operand a b
@@ -119,11 +122,13 @@ abbrev pub same_draws : List Draw → List Draw → Bool
 same_draws = pointwise same_draw
 
 abbrev pub same_piece : Piece → Piece → Bool
-same_piece a b = same_call a.call b.call && same_answers a.answers b.answers && same_draws a.draws b.draws
+same_piece a b = same_call a.call b.call && same_answers a.answers b.answers
+    && same_draws a.draws b.draws
 
 -- of one table and key, with the same values
 abbrev pub same_row : PlainRow → PlainRow → Bool
-same_row a b = bytes_eq a.table b.table && (same_value a.key b.key && pointwise same_value a.row b.row)
+same_row a b = bytes_eq a.table b.table && (same_value a.key b.key
+    && pointwise same_value a.row b.row)
 
 abbrev pub same_rows : List PlainRow → List PlainRow → Bool
 same_rows = pointwise same_row

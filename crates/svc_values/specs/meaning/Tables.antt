@@ -23,12 +23,14 @@ rows_at tables at = filter (is_at at) tables
 
 -- the row comes first in that order
 abbrev pub comes_before : PlainRow → PlainRow → Bool
-comes_before a b = match_ordering (slice_cmp nat_cmp a.table b.table) true (match_ordering (value_cmp a.key b.key) true false false) false
+comes_before a b = match_ordering (slice_cmp nat_cmp a.table b.table) true
+    (match_ordering (value_cmp a.key b.key) true false false) false
 
 -- the row put in at its place in the order
 abbrev pub put_row : PlainRow → List PlainRow → List PlainRow
 put_row row [] = row ∷ []
-put_row row (first ∷ rest) = if comes_before row first then row ∷ first ∷ rest else first ∷ put_row row rest
+put_row row (first ∷ rest) = if comes_before row first then row ∷ first ∷ rest else first
+    ∷ put_row row rest
 
 -- the rows with other tables or keys
 abbrev pub without : List PlainRow → List ℕ → Value → List PlainRow
@@ -36,12 +38,17 @@ without tables table key = filter (λ row. not (is_at (place.Row table key) row)
 
 abbrev pub put_if_any : List PlainRow → List ℕ → Value → Option (List Value) → List PlainRow
 put_if_any tables table key None = tables
-put_if_any tables table key (Some row) = put_row (record { table = table; key = key; row = row }) tables
+put_if_any tables table key (Some row) = put_row (record {
+  table = table;
+  key = key;
+  row = row;
+}) tables
 
 -- the tables after a write: what stood at its table and key is gone, and its row, if it has one, is
 -- there
 abbrev pub with_write : List PlainRow → Write → List PlainRow
-with_write tables write = put_if_any (without tables write.table write.key) write.table write.key write.row
+with_write tables write = put_if_any (without tables write.table write.key) write.table write.key
+    write.row
 
 -- the tables after writes, in their order
 abbrev pub with_writes : List PlainRow → List Write → List PlainRow

@@ -49,7 +49,8 @@ connection_of doing = unwrap_or doing.connection 0
 -- after this act of the request, which stands so now
 abbrev pub acts : Setting → Machine → ℕ → Doing → Bool → Act → Machine
 acts setting m client doing holds_slot act = record m {
-  links = changed (sends m.event (map (sent_by (owner_at m client) (call_in doing.talk.phase)) (frames_of m.pool (connection_of doing) act))) m.links (connection_of doing);
+  links = changed (sends m.event (map (sent_by (owner_at m client) (call_in doing.talk.phase))
+      (frames_of m.pool (connection_of doing) act))) m.links (connection_of doing);
   clients = after_step setting m.clients client doing act.hold;
   pool = released m.pool client (connection_of doing) holds_slot act.hold;
 }
@@ -60,8 +61,11 @@ act_at setting m doing input = (step_at setting.terms m.event m.tick doing input
 
 -- the client hears the input, and acts
 abbrev pub steps : Setting → Machine → ℕ → Doing → Bool → Input → Machine
-steps setting m client doing holds_slot input = acts setting m client (heard setting.terms m.event m.tick doing input) holds_slot (act_at setting m doing input)
+steps setting m client doing holds_slot input =
+    acts setting m client (heard setting.terms m.event m.tick doing input) holds_slot
+    (act_at setting m doing input)
 
 -- the connection of the request is gone, ended by this event
 abbrev pub loses : Setting → Machine → ℕ → Doing → Option ℕ → Machine
-loses setting m client doing ended = steps setting m client (record doing { connection = None }) true (Gone (unwrap_or ended 0))
+loses setting m client doing ended = steps setting m client (record doing { connection = None })
+    true (Gone (unwrap_or ended 0))

@@ -66,30 +66,48 @@ is_unfinished client = is_some client.now || is_some client.next
 
 -- what is done at an input of this event and tick
 abbrev pub step_at : Terms → ℕ → ℕ → Doing → Input → Step
-step_at terms event tick doing input = record { event = event; done = done_at terms doing.talk (input, tick) }
+step_at terms event tick doing input = record {
+  event = event;
+  done = done_at terms doing.talk (input, tick);
+}
 
 abbrev pub heard : Terms → ℕ → ℕ → Doing → Input → Doing
-heard terms event tick doing input = record doing { talk = talk_at terms doing.talk (input, tick); steps = doing.steps ++ step_at terms event tick doing input ∷ [] }
+heard terms event tick doing input = record doing {
+  talk = talk_at terms doing.talk (input, tick);
+  steps = doing.steps ++ step_at terms event tick doing input ∷ [];
+}
 
 -- a request that begins now
 abbrev pub begun : Terms → ℕ → ℕ → Request → Doing
-begun terms event tick request = heard terms event tick (record { request = request; talk = requested request.settings request.calls; connection = None; steps = [] }) Start
+begun terms event tick request = heard terms event tick (record {
+  request = request;
+  talk = requested request.settings request.calls;
+  connection = None;
+  steps = [];
+}) Start
 
 -- the request in course, or else the next one, which begins now
 abbrev pub doing_of : Terms → ℕ → ℕ → Client → Option Doing
-doing_of terms event tick client = option_or client.now (option_map (begun terms event tick) client.next)
+doing_of terms event tick client = option_or client.now
+    (option_map (begun terms event tick) client.next)
 
 abbrev pub past_of : Terms → Doing → Past
-past_of terms doing = record { request = doing.request; steps = doing.steps; report = report_of terms doing.request (map (λ step. step.done) doing.steps) }
+past_of terms doing = record {
+  request = doing.request;
+  steps = doing.steps;
+  report = report_of terms doing.request (map (λ step. step.done) doing.steps);
+}
 
 -- The request goes on, or it is over.
 abbrev pub after_hold : Setting → ℕ → Client → Doing → Hold → Client
 after_hold setting number client doing Keep = record client { now = Some doing }
-after_hold setting number client doing _ = resting (script_at setting number) (client.past ++ past_of setting.terms doing ∷ [])
+after_hold setting number client doing _ =
+    resting (script_at setting number) (client.past ++ past_of setting.terms doing ∷ [])
 
 abbrev pub after_step : Setting → List Client → ℕ → Doing → Hold → List Client
 after_step setting clients number doing hold =
-    option_map_or (λ client. with_client clients number (after_hold setting number client doing hold)) (client_at clients number) clients
+    option_map_or (λ client. with_client clients number
+    (after_hold setting number client doing hold)) (client_at clients number) clients
 
 -- how many requests the client submitted before the one in course
 abbrev pub place_of : List Client → ℕ → ℕ

@@ -21,7 +21,8 @@ use Rattle.world_model.specs.meaning.Serving.{Front, front_at, is_of_front, is_o
 
 -- the frame was stopped before its reply
 abbrev pub is_crashed_item : Up → Item → Bool
-is_crashed_item (up.Call replay kept call) (item.CrashedCall marked served) = same_bool marked replay && same_call served call
+is_crashed_item (up.Call replay kept call) (item.CrashedCall marked served) =
+    same_bool marked replay && same_call served call
 is_crashed_item (up.Outcome ltxid) (item.CrashedOutcome asked) = same_ltxid asked ltxid
 is_crashed_item _ _ = false
 
@@ -29,7 +30,8 @@ is_crashed_item _ _ = false
 -- operand.
 abbrev pub is_stopped : Machine → ℕ → Front → Served → Bool
 is_stopped m after front served =
-    is_of_front m front served && (is_crashed_item front.first.frame served.item && nat_lt after (m.server.per_record * (1 + sequences_in front.first.frame)))
+    is_of_front m front served && (is_crashed_item front.first.frame served.item
+    && nat_lt after (m.server.per_record * (1 + sequences_in front.first.frame)))
 
 abbrev pub is_alert : Item → Bool
 is_alert (item.Call marked (call.Alter line) answers draws) = true
@@ -37,7 +39,9 @@ is_alert _ = false
 
 -- an identifier that was not blocked, and that no crashed item carries
 abbrev pub is_new_block : Server → Item → Bool
-is_new_block server (item.Outcome asked result) = is_uncommitted result && not (is_blocked server.blocked asked || is_blocked server.doubtful asked)
+is_new_block server (item.Outcome asked result) =
+    is_uncommitted result && not (is_blocked server.blocked asked
+    || is_blocked server.doubtful asked)
 is_new_block server _ = false
 
 -- an entry, an alert line or a block was added
@@ -46,7 +50,8 @@ has_stored server one = is_commit one || (is_alert one || is_new_block server on
 
 -- The frame was served before the stop: what it added took one record.
 abbrev pub is_over : Machine → ℕ → Front → Served → Bool
-is_over m after front served = is_ordinary m front served && (not (has_stored m.server served.item) || nat_le m.server.per_record after)
+is_over m after front served = is_ordinary m front served
+    && (not (has_stored m.server served.item) || nat_le m.server.per_record after)
 
 -- AFTERWARDS --------------------------------------------------------------------------------------
 
@@ -55,16 +60,30 @@ with_doubt server (item.CrashedOutcome asked) = record server { doubtful = asked
 with_doubt server _ = server
 
 abbrev pub after_stopped : Machine → ℕ → Front → Served → Machine
-after_stopped m number front served = record m { links = with_link m.links number (after_front front served None); server = with_doubt m.server served.item }
+after_stopped m number front served = record m {
+  links =
+      with_link m.links number (after_front front served None);
+  server =
+      with_doubt m.server served.item;
+}
 
 -- no connection is open, no session lives, and nothing is on its way but the replies that a cut let
 -- arrive before
 abbrev pub fallen_link : ℕ → Link → Link
-fallen_link event link = record (ends event link) { is_living = false; up = []; down = if link.is_cut then link.down else [] }
+fallen_link event link = record (ends event link) {
+  is_living = false;
+  up = [];
+  down =
+      if link.is_cut then link.down else [];
+}
 
 -- after a failover there is one store
 abbrev pub fallen_server : Bool → Server → Server
-fallen_server failover server = record server { is_up = false; per_record = if failover then 4 else server.per_record }
+fallen_server failover server = record server {
+  is_up = false;
+  per_record =
+      if failover then 4 else server.per_record;
+}
 
 -- each connection that was open leaves the pool, if it was idle
 abbrev pub falls : Bool → Machine → Machine
@@ -75,7 +94,8 @@ falls failover m = record m {
 }
 
 -- the one item of the frame that stands first, and none where none does
-abbrev pub serves_last : Machine → ℕ → ℕ → List Served → Option Front → Option (Machine × List Served)
+abbrev pub serves_last : Machine → ℕ → ℕ → List Served → Option Front
+    → Option (Machine × List Served)
 serves_last m number after items None = Some (m, items)
 serves_last m number after [] (Some front) = None
 serves_last m number after (served ∷ items) (Some front) =
@@ -83,9 +103,12 @@ serves_last m number after (served ∷ items) (Some front) =
     else only_if (is_over m after front served) (after_served m number front served, items)
 
 abbrev pub crashes : Machine → ℕ → ℕ → Bool → List Served → Option (Machine × List Served)
-crashes m number after failover items = option_map (λ next. (falls failover next.0, next.1)) (serves_last m number after items (front_at m.links number))
+crashes m number after failover items = option_map (λ next. (falls failover next.0, next.1))
+    (serves_last m number after items (front_at m.links number))
 
 -- The note says down exactly where the server is down, and then nothing happens.
-abbrev pub follow_crash : Machine → ℕ → ℕ → Bool → Bool → List Served → Option (Machine × List Served)
+abbrev pub follow_crash : Machine → ℕ → ℕ → Bool → Bool → List Served
+    → Option (Machine × List Served)
 follow_crash m number after failover down items =
-    if m.server.is_up then (if down then None else crashes m number after failover items) else only_if down (m, items)
+    if m.server.is_up then (if down then None else crashes m number after failover items) else
+    only_if down (m, items)

@@ -28,15 +28,18 @@ Next = Option (Event × Place)
 
 -- the number of the first one behind so many that meets the test
 abbrev pub first_behind : {A : Type 0} → (A → Bool) → ℕ → List A → Option ℕ
-first_behind test passed all = option_map (λ index. passed + index + 1) (position test (drop passed all))
+first_behind test passed all = option_map (λ index. passed + index + 1)
+    (position test (drop passed all))
 
 -- the first connection on which a whole frame may be served, and else one tick
 abbrev pub serves_or_ticks : Machine → Next
-serves_or_ticks m = option_map_or (λ number. Some (event.Serve number, AtLinks)) (first_behind (λ link. is_some (front_of link)) 0 m.links) (Some (event.Tick, AtRound))
+serves_or_ticks m = option_map_or (λ number. Some (event.Serve number, AtLinks))
+    (first_behind (λ link. is_some (front_of link)) 0 m.links) (Some (event.Tick, AtRound))
 
 -- the next client that is not finished, and else the connections
 abbrev pub goes_or_serves : Machine → ℕ → Next
-goes_or_serves m last = option_map_or (λ number. Some (event.Go number, AtClients number)) (first_behind is_unfinished last m.clients) (serves_or_ticks m)
+goes_or_serves m last = option_map_or (λ number. Some (event.Go number, AtClients number))
+    (first_behind is_unfinished last m.clients) (serves_or_ticks m)
 
 -- a round, as long as a client is not finished
 abbrev pub next_round : Machine → Next
@@ -44,7 +47,8 @@ next_round m = if list_any is_unfinished m.clients then goes_or_serves m 0 else 
 
 -- the next orphan, and else the rounds
 abbrev pub reaps_or_goes : Machine → Next
-reaps_or_goes m = option_map_or (λ number. Some (event.Reap number, AtOrphans)) (first_behind is_orphan 0 m.links) (next_round m)
+reaps_or_goes m = option_map_or (λ number. Some (event.Reap number, AtOrphans))
+    (first_behind is_orphan 0 m.links) (next_round m)
 
 -- the server is opened where it is down
 abbrev pub opens_or_reaps : Machine → Next
@@ -63,6 +67,9 @@ Finished = Option (Machine × List Served)
 
 -- The walk over the finish has one note for each of its events, and no more.
 abbrev pub walk_finish : Setting → Machine → Place → List Note → List Served → Finished
-walk_finish setting m place [] items = if is_none (next_finish m place) then Some (m, items) else None
+walk_finish setting m place [] items = if is_none (next_finish m place) then Some (m, items) else
+    None
 walk_finish setting m place (note ∷ notes) items =
-    option_and_then (λ made. option_and_then (λ next. walk_finish setting next.0 made.1 notes next.1) (follow setting m made.0 note items)) (next_finish m place)
+    option_and_then (λ made. option_and_then
+    (λ next. walk_finish setting next.0 made.1 notes next.1)
+    (follow setting m made.0 note items)) (next_finish m place)

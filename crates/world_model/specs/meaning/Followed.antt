@@ -17,7 +17,8 @@ use Rattle.world_model.specs.meaning.Finishing.{Finished, AtServer, walk_finish}
 -- the whole run: the schedule, and then the finish
 abbrev pub run_of : Document → Report → Finished
 run_of document report =
-    option_and_then (λ walked. walk_finish (setting_of document) walked.machine AtServer walked.notes walked.items)
+    option_and_then (λ walked. walk_finish (setting_of document) walked.machine AtServer
+    walked.notes walked.items)
     (walk (setting_of document) (start_of document) document.schedule report.notes report.served)
 
 -- what the clients of a state were shown
@@ -25,7 +26,8 @@ abbrev pub transcripts_of : Machine → List (List RequestReport)
 transcripts_of m = map (λ client. reports_of client.past) m.clients
 
 abbrev pub same_outcome : Outcome → Outcome → Bool
-same_outcome a b = same_ltxid a.ltxid b.ltxid && (same_bool a.committed b.committed && same_bool a.completed b.completed)
+same_outcome a b = same_ltxid a.ltxid b.ltxid
+    && (same_bool a.committed b.committed && same_bool a.completed b.completed)
 
 -- as many lists, each with the same identifiers in the same order
 abbrev pub same_lists : List (List Ltxid) → List (List Ltxid) → Bool
@@ -38,7 +40,9 @@ same_lists lists others = pointwise (pointwise same_ltxid) lists others
 -- Committed (`tried_of` of client_model, which is that of run_clauses).
 abbrev pub tells_steps : RequestReport → RequestReport → Bool
 tells_steps told reported =
-    pointwise same_session told.sessions reported.sessions && (pointwise same_outcome told.outcomes reported.outcomes && same_lists told.tried reported.tried)
+    pointwise same_session told.sessions reported.sessions
+    && (pointwise same_outcome told.outcomes reported.outcomes
+    && same_lists told.tried reported.tried)
 
 abbrev pub tell_steps : List (List RequestReport) → List (List RequestReport) → Bool
 tell_steps told reported = pointwise (pointwise tells_steps) told reported

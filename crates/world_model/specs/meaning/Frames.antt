@@ -39,4 +39,5 @@ down_size reply = length (down_frame reply.frame)
 -- those that lie whole in the first so many bytes
 abbrev pub whole_front : {A : Type 0} → (A → ℕ) → ℕ → List A → List A
 whole_front size bytes [] = []
-whole_front size bytes (first ∷ later) = if nat_le (size first) bytes then first ∷ whole_front size (bytes - size first) later else []
+whole_front size bytes (first ∷ later) =
+    if nat_le (size first) bytes then first ∷ whole_front size (bytes - size first) later else []

@@ -31,7 +31,20 @@ pub record Link : Type 0 where
   pub down : List Reply
 
 abbrev pub new_link : Link
-new_link = record { is_open = true; is_cut = false; is_living = true; ended = None; session = None; commits = 0; held = None; sent = []; served = []; taken = []; up = []; down = [] }
+new_link = record {
+  is_open = true;
+  is_cut = false;
+  is_living = true;
+  ended = None;
+  session = None;
+  commits = 0;
+  held = None;
+  sent = [];
+  served = [];
+  taken = [];
+  up = [];
+  down = [];
+}
 
 -- connections are numbered from 1
 abbrev pub link_at : List Link → ℕ → Option Link
@@ -44,7 +57,8 @@ with_link links (suc index) link = slice_set links index link
 
 -- where there is one of this number, it becomes that
 abbrev pub changed : (Link → Link) → List Link → ℕ → List Link
-changed change links number = option_map_or (λ link. with_link links number (change link)) (link_at links number) links
+changed change links number = option_map_or (λ link. with_link links number (change link))
+    (link_at links number) links
 
 -- the event ends it, if it is open
 abbrev pub ends : ℕ → Link → Link
@@ -69,7 +83,12 @@ told_by _ = None
 
 -- The first reply is taken, and these are left.
 abbrev pub takes : Input → Reply → List Reply → Link → Link
-takes input reply left link = record link { down = left; taken = link.taken ++ reply ∷ []; held = option_or (told_by input) link.held }
+takes input reply left link = record link {
+  down = left;
+  taken = link.taken ++ reply ∷ [];
+  held =
+      option_or (told_by input) link.held;
+}
 
 -- its connection was cut, and the session goes on
 abbrev pub is_orphan : Link → Bool

@@ -38,7 +38,15 @@ per_record_of service = if service.standby then 8 else 4
 
 -- after the opening before event 1
 abbrev pub first_server : ServiceOf → Journal → Server
-first_server service journal = record { is_up = true; incarnation = journal.incarnation + 1; stopped = 0; sessions = 0; per_record = per_record_of service; blocked = journal.blocked; doubtful = [] }
+first_server service journal = record {
+  is_up = true;
+  incarnation = journal.incarnation + 1;
+  stopped = 0;
+  sessions = 0;
+  per_record = per_record_of service;
+  blocked = journal.blocked;
+  doubtful = [];
+}
 
 abbrev pub start_of : Document → Machine
 start_of document = record {

@@ -31,14 +31,19 @@ pub data Noted : Type 0 where
 -- The note is one of this event: it is of its kind, and names what the event names.
 abbrev pub matched : Event → Note → Option Noted
 matched (event.Go client) (note.Go named did) = only_if (named == client) (Went client did)
-matched (event.Serve connection) (note.Serve named frame) = only_if (named == connection) (ServedOn connection frame)
-matched (event.Cut connection up down) (note.Cut named reached) = only_if (named == connection) (CutOff connection up down reached)
-matched (event.Reap connection) (note.Reap named reaped) = only_if (named == connection) (Reaped connection reaped)
-matched (event.Crash connection after pick) (note.Crash named down) = only_if (named == connection) (Crashed connection after (is_failover pick) down)
+matched (event.Serve connection) (note.Serve named frame) =
+    only_if (named == connection) (ServedOn connection frame)
+matched (event.Cut connection up down) (note.Cut named reached) =
+    only_if (named == connection) (CutOff connection up down reached)
+matched (event.Reap connection) (note.Reap named reaped) =
+    only_if (named == connection) (Reaped connection reaped)
+matched (event.Crash connection after pick) (note.Crash named down) =
+    only_if (named == connection) (Crashed connection after (is_failover pick) down)
 matched event.Up (note.Up incarnation) = Some (Opened incarnation)
 matched (event.UpCrash after pick) (note.UpCrash made) = Some (OpeningStopped made)
 matched event.Tick note.Tick = Some Ticked
 matched (event.Outside calls) (note.Outside ran) = Some (RanOutside ran)
-matched (event.Ask ltxid) (note.Ask named told) = only_if (same_ltxid named ltxid) (Asked ltxid told)
+matched (event.Ask ltxid) (note.Ask named told) =
+    only_if (same_ltxid named ltxid) (Asked ltxid told)
 matched event.Drain (note.Drain closed) = Some (Drained closed)
 matched _ _ = None

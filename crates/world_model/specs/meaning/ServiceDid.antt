@@ -16,4 +16,5 @@ item_telling session commits (item.CrashedOutcome asked) = Stopped
 item_telling session commits one = telling_of (reply_of session commits one)
 
 abbrev pub front_telling : Front → Served → Telling
-front_telling front served = item_telling served.session (commits_after front.link served.item) served.item
+front_telling front served = item_telling served.session (commits_after front.link served.item)
+    served.item

@@ -48,7 +48,8 @@ front_at links number = option_and_then front_of (link_at links number)
 abbrev pub is_item_of : Up → Item → Bool
 is_item_of up.Connect item.Connect = true
 is_item_of (up.Begin settings) (item.Begin begun) = same_settings begun settings
-is_item_of (up.Call replay kept call) (item.Call marked served answers draws) = same_bool marked replay && same_call served call
+is_item_of (up.Call replay kept call) (item.Call marked served answers draws) =
+    same_bool marked replay && same_call served call
 is_item_of (up.Call replay kept call) (item.Blocked served) = same_call served call
 is_item_of (up.Outcome ltxid) (item.Outcome asked result) = same_ltxid asked ltxid
 is_item_of up.End item.End = true
@@ -62,7 +63,8 @@ is_served_by server link frame session = option_map_or (same_session session) li
 
 -- the item is of this event and of the session that serves the frame
 abbrev pub is_of_front : Machine → Front → Served → Bool
-is_of_front m front served = (served.event == m.event) && is_served_by m.server front.link front.first.frame served.session
+is_of_front m front served = (served.event == m.event)
+    && is_served_by m.server front.link front.first.frame served.session
 
 -- the ordinary item of the frame
 abbrev pub is_ordinary : Machine → Front → Served → Bool
@@ -71,7 +73,11 @@ is_ordinary m front served = is_of_front m front served && is_item_of front.firs
 -- THE REPLY ---------------------------------------------------------------------------------------
 
 abbrev pub identifier : SessionId → ℕ → Ltxid
-identifier session number = record { incarnation = session.incarnation; session = session.session; number = number }
+identifier session number = record {
+  incarnation = session.incarnation;
+  session = session.session;
+  number = number;
+}
 
 -- the frame for an outcome
 abbrev pub outcome_frame : AskResult → Down
@@ -84,7 +90,8 @@ outcome_frame (told.Forgotten horizon) = down.OutcomeRefused ahead.Forgotten hor
 -- what a session that has answered so many commits replies
 abbrev pub reply_of : SessionId → ℕ → Item → Option Down
 reply_of session commits item.Connect = Some (down.Hello (identifier session commits))
-reply_of session commits (item.Call marked call answers draws) = Some (down.Reply answers draws (identifier session commits))
+reply_of session commits (item.Call marked call answers draws) =
+    Some (down.Reply answers draws (identifier session commits))
 reply_of session commits (item.Blocked call) = Some down.Blocked
 reply_of session commits (item.Outcome asked result) = Some (outcome_frame result)
 reply_of session commits _ = None
@@ -110,7 +117,10 @@ commits_after link one = link.commits + cond (is_commit one) 1 0
 
 -- a reply to this frame, on its way to the client while the connection is open
 abbrev pub on_its_way : Link → Sent → Option Down → List Reply
-on_its_way link sent reply = if link.is_open then option_to_list (option_map (λ frame. record { to = sent; frame = frame }) reply) else []
+on_its_way link sent reply = if link.is_open then option_to_list (option_map (λ frame. record {
+  to = sent;
+  frame = frame;
+}) reply) else []
 
 -- with the frame served, and this reply given
 abbrev pub after_front : Front → Served → Option Down → Link
@@ -126,7 +136,8 @@ after_front front served reply = record front.link {
 -- Blocked ends the connection.
 abbrev pub handled : ℕ → Front → Served → Link
 handled event front served =
-    let after : Link = after_front front served (reply_of served.session (commits_after front.link served.item) served.item) in
+    let after : Link = after_front front served
+    (reply_of served.session (commits_after front.link served.item) served.item) in
     if is_blocked served.item then ends event after else after
 
 -- an idle connection that ends leaves the pool
@@ -135,7 +146,8 @@ pool_after pool number one = if is_blocked one then after_gone pool number else 
 
 abbrev pub server_after : Server → Item → Server
 server_after server item.Connect = record server { sessions = server.sessions + 1 }
-server_after server (item.Outcome asked result) = if is_uncommitted result then record server { blocked = asked ∷ server.blocked } else server
+server_after server (item.Outcome asked result) =
+    if is_uncommitted result then record server { blocked = asked ∷ server.blocked } else server
 server_after server _ = server
 
 -- after the event that served the first frame of this connection
@@ -148,10 +160,14 @@ after_served m number front served = record m {
 
 -- The note names the frame, and there is one item, the frame's. Without a frame the note is none,
 -- and there is no item.
-abbrev pub serves : Machine → ℕ → Option FrameName → List Served → Option Front → Option (Machine × List Served)
+abbrev pub serves : Machine → ℕ → Option FrameName → List Served → Option Front
+    → Option (Machine × List Served)
 serves m number None items None = Some (m, items)
-serves m number (Some name) (served ∷ items) (Some front) = only_if (same_name name (name_of front.first.frame) && is_ordinary m front served) (after_served m number front served, items)
+serves m number (Some name) (served ∷ items) (Some front) =
+    only_if (same_name name (name_of front.first.frame) && is_ordinary m front served)
+    (after_served m number front served, items)
 serves m number _ _ _ = None
 
-abbrev pub follow_serve : Machine → ℕ → Option FrameName → List Served → Option (Machine × List Served)
+abbrev pub follow_serve : Machine → ℕ → Option FrameName → List Served
+    → Option (Machine × List Served)
 follow_serve m number frame items = serves m number frame items (front_at m.links number)

@@ -22,10 +22,21 @@ rules_of failover.Off consistent = off_rules
 rules_of failover.Auto consistent = auto_rules
 
 abbrev pub limits_of : ServiceOf → Clocked
-limits_of service = record { retries = service.retries; delay = service.delay; timeout = service.timeout; replays = service.replays; wait = service.pool.wait }
+limits_of service = record {
+  retries = service.retries;
+  delay = service.delay;
+  timeout = service.timeout;
+  replays = service.replays;
+  wait = service.pool.wait;
+}
 
 abbrev pub terms_of : ServiceOf → Terms
-terms_of service = record { rules = rules_of service.failover service.consistency; limits = limits_of service; recorded = service.record_limit; digest = digest }
+terms_of service = record {
+  rules = rules_of service.failover service.consistency;
+  limits = limits_of service;
+  recorded = service.record_limit;
+  digest = digest;
+}
 
 -- the script of each client, and the terms of all
 pub record Setting : Type 0 where
@@ -33,4 +44,7 @@ pub record Setting : Type 0 where
   pub terms : Terms
 
 abbrev pub setting_of : Document → Setting
-setting_of document = record { scripts = map (λ client. client.requests) document.clients; terms = terms_of document.service }
+setting_of document = record {
+  scripts = map (λ client. client.requests) document.clients;
+  terms = terms_of document.service;
+}

@@ -25,9 +25,11 @@ leaving items next = option_map (λ m. (m, items)) next
 abbrev pub by_kind : Setting → Machine → List Served → Noted → After
 by_kind setting m items (Went client did) = leaving items (follow_go setting m client did)
 by_kind setting m items (ServedOn connection frame) = follow_serve m connection frame items
-by_kind setting m items (CutOff connection up down reached) = leaving items (follow_cut m connection up down reached)
+by_kind setting m items (CutOff connection up down reached) =
+    leaving items (follow_cut m connection up down reached)
 by_kind setting m items (Reaped connection reaped) = leaving items (follow_reap m connection reaped)
-by_kind setting m items (Crashed connection after failover down) = follow_crash m connection after failover down items
+by_kind setting m items (Crashed connection after failover down) =
+    follow_crash m connection after failover down items
 by_kind setting m items (Opened incarnation) = leaving items (follow_up m incarnation)
 by_kind setting m items (OpeningStopped made) = leaving items (follow_upcrash m made)
 by_kind setting m items Ticked = leaving items (Some (ticked m))
@@ -37,7 +39,8 @@ by_kind setting m items (Drained closed) = leaving items (follow_drain m closed)
 
 -- Events are numbered from 1.
 abbrev pub follow : Setting → Machine → Event → Note → List Served → After
-follow setting m event note items = option_and_then (by_kind setting (record m { event = m.event + 1 }) items) (matched event note)
+follow setting m event note items = option_and_then
+    (by_kind setting (record m { event = m.event + 1 }) items) (matched event note)
 
 -- where the walk has come to, with the notes and items that are left
 pub record Walked : Type 0 where
@@ -48,4 +51,6 @@ pub record Walked : Type 0 where
 abbrev pub walk : Setting → Machine → List Event → List Note → List Served → Option Walked
 walk setting m [] notes items = Some (record { machine = m; notes = notes; items = items })
 walk setting m (event ∷ events) [] items = None
-walk setting m (event ∷ events) (note ∷ notes) items = option_and_then (λ next. walk setting next.0 events notes next.1) (follow setting m event note items)
+walk setting m (event ∷ events) (note ∷ notes) items =
+    option_and_then (λ next. walk setting next.0 events notes next.1)
+    (follow setting m event note items)

@@ -22,7 +22,9 @@ first_talk request = requested request.settings request.calls
 -- behind these inputs Gone is the next one
 abbrev pub gone_due : Terms → Talk → Bool → List Timed → Bool
 gone_due terms talk due [] = due
-gone_due terms talk due (one ∷ inputs) = gone_due terms (talk_at terms talk one) (is_gone_next one.0 (done_at terms talk one).act.hold) inputs
+gone_due terms talk due (one ∷ inputs) =
+    gone_due terms (talk_at terms talk one) (is_gone_next one.0 (done_at terms talk one).act.hold)
+    inputs
 
 -- the connection that the inputs left
 abbrev pub connected : Option ℕ → Input → Option ℕ
@@ -63,4 +65,5 @@ IsTalking terms (Some doing) = Talks terms false doing
 
 abbrev pub AllTalk : Terms → List Client → Type 0
 AllTalk terms [] = Unit {0}
-AllTalk terms (client ∷ clients) = (AreThrough terms client.past × IsTalking terms client.now) × AllTalk terms clients
+AllTalk terms (client ∷ clients) = (AreThrough terms client.past × IsTalking terms client.now)
+    × AllTalk terms clients

@@ -22,7 +22,8 @@ use Rattle.world_model.specs.Parts.{Numbered, links_of, is_out, count_reps, is_a
 
 -- H1: a connection that is open is one request's, or idle; one that is not open is not idle
 abbrev pub holders_of : List Course → ℕ → ℕ
-holders_of courses number = count_by (λ course. option_map_or (λ other. other == number) course.connection false) courses
+holders_of courses number = count_by (λ course. option_map_or (λ other. other == number)
+    course.connection false) courses
 
 abbrev pub idle_of : Traced → ℕ → ℕ
 idle_of t number = count_by (λ other. other == number) t.machine.pool.idle
@@ -41,14 +42,18 @@ is_end _ = false
 
 -- nothing is out on one that is idle, and End was sent last; it was opened after the last drain
 abbrev pub is_idle : Link → Bool
-is_idle link = link.is_open && (is_some link.held && ((count_reps link.sent == length link.taken) && option_map_or (λ sent. is_end sent.frame) (last_or None link.sent) false))
+is_idle link = link.is_open && (is_some link.held
+    && ((count_reps link.sent == length link.taken)
+    && option_map_or (λ sent. is_end sent.frame) (last_or None link.sent) false))
 
 abbrev pub are_idle : Traced → Bool
-are_idle t = list_all (λ number. option_map_or is_idle (link_at t.machine.links number) false && not (drains t.machine.pool number)) t.machine.pool.idle
+are_idle t = list_all (λ number. option_map_or is_idle (link_at t.machine.links number) false
+    && not (drains t.machine.pool number)) t.machine.pool.idle
 
 -- H2
 abbrev pub slots_held : Traced → Bool
-slots_held t = (t.machine.pool.lent == count_by (λ course. has_slot course.phase) (courses_of t)) && nat_le t.machine.pool.lent t.machine.pool.max
+slots_held t = (t.machine.pool.lent == count_by (λ course. has_slot course.phase) (courses_of t))
+    && nat_le t.machine.pool.lent t.machine.pool.max
 
 abbrev pub is_queued : Phase → Bool
 is_queued (Queued from) = true
@@ -64,7 +69,8 @@ joined_at [] = None
 joined_at (step ∷ steps) = if is_waiting step.done.input then Some step.event else joined_at steps
 
 abbrev pub joined_by : List Course → ℕ → List ℕ
-joined_by courses client = filter_map (λ course. joined_at course.steps) (filter (λ course. is_queued course.phase && (course.owner.client == client)) courses)
+joined_by courses client = filter_map (λ course. joined_at course.steps)
+    (filter (λ course. is_queued course.phase && (course.owner.client == client)) courses)
 
 -- the clients that wait, in the order in which they waited first, each once
 abbrev pub queue_is : Traced → List Course → Bool
@@ -78,7 +84,8 @@ abbrev pub are_queued : Traced → Bool
 are_queued t = queue_is t (courses_of t)
 
 abbrev pub are_opened : Traced → Bool
-are_opened t = (t.machine.pool.opened == length t.machine.links) && nat_le t.machine.pool.drained t.machine.pool.opened
+are_opened t = (t.machine.pool.opened == length t.machine.links)
+    && nat_le t.machine.pool.drained t.machine.pool.opened
 
 -- H3: a connection is held in these phases, and what is out on it is what the phase waits for
 abbrev pub holds_connection : Phase → Bool
@@ -109,12 +116,14 @@ is_awaited _ sent = false
 
 -- what was sent last is out, and is the request's
 abbrev pub waits_on : Course → Link → Bool
-waits_on course link = is_out link && option_map_or (λ sent. is_answered sent.frame && (owned_by course.owner sent && is_awaited course.phase sent)) (last_or None link.sent) false
+waits_on course link = is_out link && option_map_or (λ sent. is_answered sent.frame
+    && (owned_by course.owner sent && is_awaited course.phase sent)) (last_or None link.sent) false
 
 abbrev pub is_held : Traced → Course → Bool
 is_held t course =
     same_bool (is_some course.connection) (holds_connection course.phase)
-    && option_map_or (λ number. option_map_or (waits_on course) (link_at t.machine.links number) false) course.connection true
+    && option_map_or (λ number. option_map_or (waits_on course) (link_at t.machine.links number)
+    false) course.connection true
 
 abbrev pub are_held : Traced → Bool
 are_held t = list_all (is_held t) (courses_of t)
@@ -132,7 +141,9 @@ same_held (Some a) (Some b) = same_ltxid a b
 same_held _ _ = false
 
 abbrev pub is_by_held : Traced → Course → Bool
-is_by_held t course = option_map_or (λ number. option_map_or (λ link. same_held (goes_by course.phase) link.held) (link_at t.machine.links number) false) course.connection true
+is_by_held t course = option_map_or (λ number.
+    option_map_or (λ link. same_held (goes_by course.phase) link.held)
+    (link_at t.machine.links number) false) course.connection true
 
 abbrev pub are_by_held : Traced → Bool
 are_by_held t = list_all (is_by_held t) (courses_of t)

@@ -26,7 +26,8 @@ cond_held link = if is_some link.held then 1 else 0
 
 -- N1: h(k) ≤ n(k) ≤ h(k) + 1, and 0 before Hello was taken
 abbrev pub is_near : Traced → Link → Bool
-is_near t link = nat_le (held_number link) (number_of t.entries link) && nat_le (number_of t.entries link) (held_number link + cond_held link)
+is_near t link = nat_le (held_number link) (number_of t.entries link)
+    && nat_le (number_of t.entries link) (held_number link + cond_held link)
 
 abbrev pub are_near : Traced → Bool
 are_near t = list_all (is_near t) t.machine.links
@@ -37,10 +38,12 @@ is_stopped_call _ = false
 
 -- N1b: what the machine counts is n(k), but for a commit that was stopped, which is the last item
 abbrev pub last_is_stopped_commit : Link → Bool
-last_is_stopped_commit link = option_map_or (λ one. is_stopped_call one.served.item && is_commit_call one.sent) (last_or None link.served) false
+last_is_stopped_commit link = option_map_or (λ one. is_stopped_call one.served.item
+    && is_commit_call one.sent) (last_or None link.served) false
 
 abbrev pub is_counted : Traced → Link → Bool
-is_counted t link = (number_of t.entries link == link.commits) || ((number_of t.entries link == link.commits + 1) && last_is_stopped_commit link)
+is_counted t link = (number_of t.entries link == link.commits)
+    || ((number_of t.entries link == link.commits + 1) && last_is_stopped_commit link)
 
 abbrev pub are_counted : Traced → Bool
 are_counted t = list_all (is_counted t) t.machine.links
@@ -66,20 +69,24 @@ made_entry one = is_commit one || is_stopped_call one
 
 abbrev pub last_served_made : Link → Bool
 last_served_made link =
-    option_map_or (λ one. made_entry one.served.item && (is_commit_call one.sent && option_map_or (same_sent one.sent) (out_frame link) false)) (last_or None (served_reps link)) false
+    option_map_or (λ one. made_entry one.served.item
+    && (is_commit_call one.sent && option_map_or (same_sent one.sent) (out_frame link) false))
+    (last_or None (served_reps link)) false
 
 abbrev pub is_ahead : Traced → Link → Bool
 is_ahead t link = number_of t.entries link == held_number link + 1
 
 abbrev pub ahead_rightly : Traced → Link → Bool
-ahead_rightly t link = implies (is_ahead t link) (is_out link && (last_served_made link && not (list_any is_commit_call link.up)))
+ahead_rightly t link = implies (is_ahead t link)
+    (is_out link && (last_served_made link && not (list_any is_commit_call link.up)))
 
 abbrev pub are_ahead : Traced → Bool
 are_ahead t = list_all (ahead_rightly t) t.machine.links
 
 -- N2b: as many answered frames were served as were taken, or one more
 abbrev pub served_near : Link → Bool
-served_near link = nat_le (length link.taken) (length (served_reps link)) && nat_le (length (served_reps link)) (length link.taken + 1)
+served_near link = nat_le (length link.taken) (length (served_reps link))
+    && nat_le (length (served_reps link)) (length link.taken + 1)
 
 abbrev pub are_served_near : Traced → Bool
 are_served_near t = list_all served_near t.machine.links
@@ -94,7 +101,9 @@ blocks_next t = list_all (is_next t) t.blocked
 -- N5: the entries of a session have the numbers 0, 1, 2 and so on
 abbrev pub numbered_after : List Entry → List Entry → Bool
 numbered_after before [] = true
-numbered_after before (entry ∷ entries) = (entry.ltxid.number == entries_of before (session_of entry.ltxid)) && numbered_after (entry ∷ before) entries
+numbered_after before (entry ∷ entries) =
+    (entry.ltxid.number == entries_of before (session_of entry.ltxid))
+    && numbered_after (entry ∷ before) entries
 
 abbrev pub entries_numbered : Traced → Bool
 entries_numbered t = numbered_after [] t.entries
@@ -105,13 +114,15 @@ abbrev pub is_session : Ltxid → SessionId → Bool
 is_session x session = is_of_session session x
 
 abbrev pub is_of_run : Traced → Entry → Bool
-is_of_run t entry = list_any (λ link. option_map_or (is_session entry.ltxid) link.session false) t.machine.links || list_any (is_session entry.ltxid) t.outside
+is_of_run t entry = list_any (λ link. option_map_or (is_session entry.ltxid) link.session false)
+    t.machine.links || list_any (is_session entry.ltxid) t.outside
 
 abbrev pub is_known : Traced → SessionId → Bool
 is_known t session = nat_lt session.incarnation t.machine.server.incarnation || is_made t session
 
 abbrev pub known_so_far : Traced → Bool
-known_so_far t = list_all (λ entry. is_known t (session_of entry.ltxid)) t.entries && list_all (is_of_run t) (drop t.image t.entries)
+known_so_far t = list_all (λ entry. is_known t (session_of entry.ltxid)) t.entries
+    && list_all (is_of_run t) (drop t.image t.entries)
 
 -- N8: no entry has a blocked identifier
 abbrev pub none_blocked : Traced → Bool

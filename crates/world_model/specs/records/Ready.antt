@@ -47,7 +47,8 @@ is_right_request request = has_calls request && is_rightly_repeated request
 
 -- each request of the document has a call, and is one transaction where it is submitted again
 abbrev pub all_requests_right : Document → Bool
-all_requests_right document = list_all (λ client. list_all is_right_request client.requests) document.clients
+all_requests_right document = list_all (λ client. list_all is_right_request client.requests)
+    document.clients
 
 -- the setting is that of such a document
 pub record IsOfCalls (setting : Setting) : Type 0 where
@@ -98,7 +99,8 @@ alters_nothing talk = option_map_or (λ call. not (is_alter call)) (next_call ta
 
 abbrev pub records_rightly : Terms → Talk → Phase → Bool
 records_rightly terms talk (Replaying state) = repeats_rightly terms state.track
-records_rightly terms talk (Running state) = is_repeatable terms state.track && implies (is_none state.track.why) (alters_nothing talk)
+records_rightly terms talk (Running state) = is_repeatable terms state.track && implies
+    (is_none state.track.why) (alters_nothing talk)
 records_rightly terms talk phase = option_map_or (is_repeatable terms) (track_of phase) true
 
 -- REQUESTS ----------------------------------------------------------------------------------------
@@ -108,11 +110,13 @@ records_rightly terms talk phase = option_map_or (is_repeatable terms) (track_of
 abbrev pub is_ready : Terms → Doing → Bool
 is_ready terms doing =
     implies (is_unbegun doing.talk.phase) (not (length doing.talk.left == 0))
-    && (implies (is_waiting doing.talk.phase) (length (held_in doing.steps) == 0) && records_rightly terms doing.talk doing.talk.phase)
+    && (implies (is_waiting doing.talk.phase) (length (held_in doing.steps) == 0)
+    && records_rightly terms doing.talk doing.talk.phase)
 
 -- the one in course is ready, and the one that is submitted next has a call
 abbrev pub is_ready_client : Terms → Client → Bool
-is_ready_client terms client = option_map_or (is_ready terms) client.now true && option_map_or has_calls client.next true
+is_ready_client terms client = option_map_or (is_ready terms) client.now true
+    && option_map_or has_calls client.next true
 
 abbrev pub are_ready : Traced → Bool
 are_ready t = list_all (is_ready_client t.setting.terms) t.machine.clients

@@ -24,7 +24,8 @@ abbrev pub nothing_cut : Link → Bool
 nothing_cut link = link.is_open || (is_closed link && (link.is_living && not link.is_cut))
 
 abbrev pub is_sent_front : Link → Bool
-is_sent_front link = is_front same_sent (up_of link) link.sent && implies (nothing_cut link) (length (up_of link) == length link.sent)
+is_sent_front link = is_front same_sent (up_of link) link.sent
+    && implies (nothing_cut link) (length (up_of link) == length link.sent)
 
 abbrev pub sent_fronts : Traced → Bool
 sent_fronts t = list_all is_sent_front t.machine.links
@@ -37,7 +38,8 @@ abbrev pub replies_of : Link → List Reply
 replies_of link = filter_map reply_to link.served
 
 abbrev pub is_reply_front : Link → Bool
-is_reply_front link = is_front same_reply (link.taken ++ link.down) (replies_of link) && implies link.is_open (length (link.taken ++ link.down) == length (replies_of link))
+is_reply_front link = is_front same_reply (link.taken ++ link.down) (replies_of link)
+    && implies link.is_open (length (link.taken ++ link.down) == length (replies_of link))
 
 abbrev pub reply_fronts : Traced → Bool
 reply_fronts t = list_all is_reply_front t.machine.links
@@ -51,7 +53,8 @@ same_replies _ _ = false
 
 abbrev pub is_handled : ℕ → Handled → Bool
 is_handled commits one =
-    (is_item_of one.sent.frame one.served.item && same_replies one.reply (reply_of one.served.session commits one.served.item))
+    (is_item_of one.sent.frame one.served.item
+    && same_replies one.reply (reply_of one.served.session commits one.served.item))
     || (is_crashed_item one.sent.frame one.served.item && is_none one.reply)
 
 -- a commit is answered with the number behind it
@@ -60,7 +63,8 @@ counted_with commits one = if is_commit one then commits + 1 else commits
 
 abbrev pub handled_from : ℕ → List Handled → Bool
 handled_from commits [] = true
-handled_from commits (one ∷ others) = is_handled (counted_with commits one.served.item) one && handled_from (counted_with commits one.served.item) others
+handled_from commits (one ∷ others) = is_handled (counted_with commits one.served.item) one
+    && handled_from (counted_with commits one.served.item) others
 
 abbrev pub are_handled : Traced → Bool
 are_handled t = list_all (λ link. handled_from 0 link.served) t.machine.links
@@ -92,13 +96,17 @@ next_stage New owner up.Connect = stage_if (is_some owner) (Greeted owner)
 next_stage (Greeted one) owner (up.Outcome x) = stage_if (same_owners one owner) (Told owner)
 next_stage (Greeted one) owner (up.Begin settings) = stage_if (same_owners one owner) (Begun owner)
 next_stage (Told one) owner (up.Begin settings) = stage_if (same_owners one owner) (Repeated owner)
-next_stage (Repeated one) owner (up.Call true kept call) = stage_if (same_owners one owner && not (is_alter call)) (Repeated owner)
-next_stage (Repeated one) owner (up.Call false kept call) = stage_if (same_owners one owner) (Begun owner)
-next_stage (Begun one) owner (up.Call false kept call) = stage_if (same_owners one owner) (Begun owner)
+next_stage (Repeated one) owner (up.Call true kept call) =
+    stage_if (same_owners one owner && not (is_alter call)) (Repeated owner)
+next_stage (Repeated one) owner (up.Call false kept call) =
+    stage_if (same_owners one owner) (Begun owner)
+next_stage (Begun one) owner (up.Call false kept call) =
+    stage_if (same_owners one owner) (Begun owner)
 next_stage (Begun one) owner up.End = stage_if (same_owners one owner) (Rested owner)
 next_stage (Told one) owner up.End = stage_if (same_owners one owner) (Rested owner)
 next_stage (Repeated one) owner up.End = stage_if (same_owners one owner) (Rested owner)
-next_stage (Rested one) owner (up.Begin settings) = stage_if (is_some owner && not (same_owners one owner)) (Begun owner)
+next_stage (Rested one) owner (up.Begin settings) =
+    stage_if (is_some owner && not (same_owners one owner)) (Begun owner)
 next_stage (Rested one) owner up.Close = stage_if (is_none owner || same_owners one owner) Shut
 next_stage (Greeted one) owner up.Close = stage_if (same_owners one owner) Shut
 next_stage (Told one) owner up.Close = stage_if (same_owners one owner) Shut
@@ -118,7 +126,8 @@ in_grammar t = list_all (λ link. is_right (stage_of link)) t.machine.links
 
 -- wire4: at most one answered frame is out, and none is taken that was not sent
 abbrev pub one_is_out : Link → Bool
-one_is_out link = nat_le (length link.taken) (count_reps link.sent) && nat_le (count_reps link.sent) (length link.taken + 1)
+one_is_out link = nat_le (length link.taken) (count_reps link.sent)
+    && nat_le (count_reps link.sent) (length link.taken + 1)
 
 abbrev pub one_out : Traced → Bool
 one_out t = list_all one_is_out t.machine.links
@@ -129,7 +138,8 @@ abbrev pub reps_of : Link → List Sent
 reps_of link = filter is_rep link.sent
 
 abbrev pub is_answered_in_order : Link → Bool
-is_answered_in_order link = is_front same_sent (map (λ reply. reply.to) (link.taken ++ link.down)) (reps_of link)
+is_answered_in_order link = is_front same_sent (map (λ reply. reply.to) (link.taken ++ link.down))
+    (reps_of link)
 
 abbrev pub answered_in_order : Traced → Bool
 answered_in_order t = list_all is_answered_in_order t.machine.links
@@ -137,7 +147,9 @@ answered_in_order t = list_all is_answered_in_order t.machine.links
 -- wire6: the session that may still serve a frame served all before it without a stop: where frames
 -- are left to be served it lives, or was cut off
 abbrev pub up_lives : Traced → Bool
-up_lives t = list_all (λ link. link.is_living || (list_any (λ one. is_last one.served.item) link.served || ((length link.up == 0) || link.is_cut))) t.machine.links
+up_lives t = list_all (λ link. link.is_living
+    || (list_any (λ one. is_last one.served.item) link.served
+    || ((length link.up == 0) || link.is_cut))) t.machine.links
 
 -- wire7: before Hello was taken only Connect was sent
 abbrev pub is_fresh : Link → Bool
