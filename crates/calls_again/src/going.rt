@@ -3,7 +3,8 @@ ghost use Rattle.std.specs.Prelude.{◌≡◌, ◌++◌, ◌∷◌, [], List, If
 ghost use Rattle.std.specs.Option.{option_copied};
 ghost use Rattle.stmt_meaning.specs.meaning.Reads.{Read};
 ghost use Rattle.stmt_meaning.specs.Reads.{IsConflict};
-ghost use Rattle.table_txn.specs.Readings.{AreReadings};
+ghost use Rattle.table_txn.specs.Knowing.{is_known};
+ghost use Rattle.table_txn.specs.Readings.{AreReadings, StandWhere};
 ghost use Rattle.calls_again.specs.OnWay.{begun_with, probed};
 
 use std::alloc::Global;
@@ -14,7 +15,7 @@ use svc_values::{
     copies,
 };
 use table_store::Tables;
-use table_txn::Txn;
+use table_txn::{Known, Txn};
 
 /// The transaction of a session on its way, with the settings of now and those at its start.
 #[derive(Drop)]
@@ -97,12 +98,13 @@ impl Going {
 
     /// A place that was read and has something else committed now than at the read, or two reads of
     /// which found different things. Linear in the places that were read, and in the rows of the
-    /// tables that were read whole.
-    pub fn conflicts(&self, tables: &Tables) -> Option<&Place>
+    /// tables that were read whole and are not known to have what they had.
+    pub fn conflicts(&self, tables: &Tables, known: Known) -> Option<&Place>
+        requires { StandWhere (is_known known) tables.now.rows self.now.readings }
         ensures { (reads : List Read) → AreReadings self.now.readings reads
             → IsConflict reads tables.now.rows (option_copied result) }
     {
-        self.txn.conflicts(tables)
+        self.txn.conflicts(tables, known)
     }
 
     /// Ends the transaction, and begins the next one with the settings of now. What was written is

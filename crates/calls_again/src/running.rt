@@ -1,24 +1,22 @@
 //! Calls that are run again.
-ghost use Rattle.std.specs.Prelude.{◌≡◌, Option, Some, IfOk, IfErr, OnOk, IsTrue};
+ghost use Rattle.std.specs.Prelude.{◌≡◌, Option, Some, IfOk, OnOk, IsTrue};
 ghost use Rattle.svc_values.specs.declared.call.Call.TheVariants as call_variant;
 ghost use Rattle.svc_values.specs.meaning.Fitting.{writes_fit};
 ghost use Rattle.svc_values.specs.meaning.SettingsList.{NamedValues, put_setting};
-ghost use Rattle.stmt_meaning.specs.Drawing.{DrewAll};
 ghost use Rattle.stmt_meaning.specs.Laws.{closed_by};
-ghost use Rattle.stmt_meaning.specs.Listed.{TakesFirst};
-ghost use Rattle.table_txn.specs.Readings.{AreUnchanged, StayUnchanged};
-ghost use Rattle.table_txn.specs.Transactions.{HasRun, HasEnded};
+ghost use Rattle.table_txn.specs.Knowing.{is_known};
+ghost use Rattle.table_txn.specs.Readings.{StandWhere};
 ghost use Rattle.calls_again.specs.OnWay.{on_way, started_with, if_none_left, answered_alone, taken_with, GoesBy};
 
 use crate::going::Going;
 use std::alloc::Global;
-use stmt_meaning::{ListDraws, TxnFault, ends_refused};
+use stmt_meaning::{ListDraws, ends_refused};
 use svc_values::{
     Answer, Answers, Call, Draw, Draws, Name, Names, NoMemory, Settings, Statements, TryCopy,
     Value, copies,
 };
 use table_store::Tables;
-use table_txn::{Ran, Txn};
+use table_txn::{Known, Ran, Txn, TxnFault};
 
 /// The answers of a call's statements, and that of a commit behind them where one is asked for and
 /// none of them was refused.
@@ -63,51 +61,25 @@ fn source_of(alloc: Global, names: &Names, draws: &[Draw]) -> Result<ListDraws, 
     Ok(ListDraws::new(names, Draws::from_vec(copies(alloc, draws)?)))
 }
 
-/// Runs statements where each place that was read is known to have what it had, or is not.
-fn run_known(
-    txn: &mut Txn,
-    tables: &Tables,
-    settings: &Settings,
-    statements: &Statements,
-    source: &mut ListDraws,
-    is_unchanged: bool,
-) -> Result<Ran, TxnFault>
-    requires fits { IsTrue (writes_fit tables.now.schemas txn.old.writes) }
-    requires unchanged { IsTrue is_unchanged → AreUnchanged tables.now.rows txn.old.readings }
-    ensures ran { IfOk result (λ ran. HasRun tables.now source.old.names settings.now txn.old
-        statements.now ran.answers ran.draws txn.new
-        × DrewAll TakesFirst source.old ran.draws source.new) }
-    ensures ended { IfErr result (λ ended. HasEnded tables.now source.old.names settings.now txn.old
-        statements.now TakesFirst source.old ended source.new) }
-    ensures fits { OnOk result (IsTrue (writes_fit tables.now.schemas txn.new.writes)) }
-    ensures unchanged { OnOk result
-        (StayUnchanged tables.now.rows txn.old.readings txn.new.readings) }
-{
-    if is_unchanged {
-        return txn.run_unchanged(tables, settings, statements, source);
-    }
-    txn.run(tables, settings, statements, source)
-}
-
 /// Runs statements with all draws of a source.
 fn work(
     txn: &mut Txn,
     tables: &Tables,
+    known: Known,
     settings: &Settings,
     statements: &Statements,
     commit: bool,
     source: &mut ListDraws,
-    is_unchanged: bool,
 ) -> Result<Option<Answers>, NoMemory>
     requires fits { IsTrue (writes_fit tables.now.schemas txn.old.writes) }
-    requires unchanged { IsTrue is_unchanged → AreUnchanged tables.now.rows txn.old.readings }
+    requires stands { StandWhere (is_known known) tables.now.rows txn.old.readings }
     ensures { IfOk result (λ told. (earlier : Option NamedValues)
         → GoesBy tables.now (on_way settings.now earlier txn.old)
         (taken_with tables.now source.old.names (on_way settings.now earlier txn.old)
         (call_variant.Work statements.now commit) source.old.draws) told
         (on_way settings.now earlier txn.new)) }
 {
-    match run_known(txn, tables, settings, statements, source, is_unchanged) {
+    match txn.run(tables, known, settings, statements, source) {
         Ok(ran) => told_of(ran, commit, source.len()),
         Err(TxnFault::NoMemory) => Err(NoMemory),
         Err(TxnFault::Stopped) => Ok(None),
@@ -132,54 +104,20 @@ fn keep_earlier(
 impl Going {
     /// Runs a call with these draws: what it answers, a commit that it reaches as `Committed`, and
     /// `None` exactly where it does not ask for these draws and no other. Behind `None` the
-    /// transaction is of no more use. A call with statements takes their time, the first one that
-    /// sets a name that of the settings, and each other one constant time.
+    /// transaction is of no more use. What was read before is compared where it is not known to
+    /// have what it had. A call with statements takes their time, the first one that sets a name
+    /// that of the settings, and each other one constant time.
     pub fn run(
         &mut self,
         alloc: Global,
         tables: &Tables,
-        names: &Names,
-        call: &Call,
-        draws: &[Draw],
-    ) -> Result<Option<Answers>, NoMemory>
-        requires { IsTrue (writes_fit tables.now.schemas self.old.writes) }
-        ensures { IfOk result (λ told. GoesBy tables.now self.old
-            (taken_with tables.now names.now self.old call.now draws.now) told self.new) }
-    {
-        self.run_on(alloc, tables, names, call, draws, false)
-    }
-
-    /// The same where each place that was read has what it had, as in a transaction beside which
-    /// none committed since: a table that was read before is not compared.
-    pub fn run_unchanged(
-        &mut self,
-        alloc: Global,
-        tables: &Tables,
+        known: Known,
         names: &Names,
         call: &Call,
         draws: &[Draw],
     ) -> Result<Option<Answers>, NoMemory>
         requires fits { IsTrue (writes_fit tables.now.schemas self.old.writes) }
-        requires unchanged { AreUnchanged tables.now.rows self.old.readings }
-        ensures { IfOk result (λ told. GoesBy tables.now self.old
-            (taken_with tables.now names.now self.old call.now draws.now) told self.new) }
-    {
-        self.run_on(alloc, tables, names, call, draws, true)
-    }
-
-    /// Runs a call on tables in which each place that was read is known to have what it had, or is
-    /// not.
-    fn run_on(
-        &mut self,
-        alloc: Global,
-        tables: &Tables,
-        names: &Names,
-        call: &Call,
-        draws: &[Draw],
-        is_unchanged: bool,
-    ) -> Result<Option<Answers>, NoMemory>
-        requires fits { IsTrue (writes_fit tables.now.schemas self.old.writes) }
-        requires unchanged { IsTrue is_unchanged → AreUnchanged tables.now.rows self.old.readings }
+        requires stands { StandWhere (is_known known) tables.now.rows self.old.readings }
         ensures { IfOk result (λ told. GoesBy tables.now self.old
             (taken_with tables.now names.now self.old call.now draws.now) told self.new) }
     {
@@ -190,11 +128,11 @@ impl Going {
                 work(
                     txn,
                     tables,
+                    known,
                     settings,
                     statements,
                     *commit,
                     &mut source,
-                    is_unchanged,
                 )
             }
             Call::Set { name, value } => {

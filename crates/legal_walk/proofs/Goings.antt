@@ -15,10 +15,11 @@ use Rattle.server_model.specs.meaning.Walk.{Performed, Transaction, begun, grown
 use Rattle.calls_again.specs.OnWay.{HasGone}
 use Rattle.legal_walk.specs.declared.ongoing.Ongoing.{Ongoing}
 use Rattle.legal_walk.specs.declared.service.Service.{Service}
-use Rattle.legal_walk.specs.Alone.{HoldsSince, begun_at}
+use Rattle.table_txn.specs.Changes.{begun_at}
+use Rattle.table_txn.proofs.Offered.{holds_then}
+use Rattle.legal_walk.specs.Holds.{HoldsSince}
 use Rattle.legal_walk.specs.Going.{AllGo, GoesAt, begins_with, ongoing_in, with_piece}
 use Rattle.legal_walk.specs.Judging.{ended_if}
-use Rattle.legal_walk.proofs.Holding.{holds_then}
 use Rattle.legal_walk.proofs.Keyed.{same_is}
 
 -- ---- one transaction
@@ -35,7 +36,7 @@ goes_begun service transaction settings is = record {
 
 -- it goes on by one call
 pub goes_grown : (service : Service) (committed : List PlainRow) (transaction : Transaction) (p : Performed) (meant : Meant) (old ran : Ongoing) → committed ≡ service.tables.rows → GoesAt service transaction old
-    → HasGone service.tables old.going meant ran.going → ran.since ≡ begun_at old.since service.commits → GoesAt service (grown committed transaction p meant) (with_piece ran (record { call = p.called; answers = p.answers; draws = p.draws }))
+    → HasGone service.tables old.going meant ran.going → ran.since ≡ begun_at old.since service.changes.commits → GoesAt service (grown committed transaction p meant) (with_piece ran (record { call = p.called; answers = p.answers; draws = p.draws }))
 goes_grown service committed transaction p meant old ran stands at gone since = record {
   goes = record {
     settings = gone.settings;
@@ -45,7 +46,7 @@ goes_grown service committed transaction p meant old ran stands at gone since = 
     reads = subst (λ (rows : List PlainRow). AreReadings ran.going.readings (transaction.reads ++ reads_at rows meant.reads)) (sym stands) (gone.was_read transaction.reads at.goes.reads);
     fits = gone.fits;
   };
-  holds = subst (λ (s : Option ℕ). HoldsSince service s ran.going.readings) (sym since) (holds_then service old.since old.going.readings ran.going.readings at.holds gone.unchanged);
+  holds = subst (λ (s : Option ℕ). HoldsSince service s ran.going.readings) (sym since) (holds_then service.changes service.tables.rows old.since old.going.readings ran.going.readings at.holds gone.unchanged);
 }
 
 -- and may end

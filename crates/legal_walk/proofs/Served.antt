@@ -24,7 +24,7 @@ use Rattle.calls_again.specs.OnWay.{OnWay, GoesBy, HasGone, if_used, taken_with}
 use Rattle.legal_walk.specs.declared.ongoing.Ongoing.{Ongoing}
 use Rattle.legal_walk.specs.declared.service.Service.{Service}
 use Rattle.legal_walk.specs.declared.walker.Walker.{Walker}
-use Rattle.legal_walk.specs.Alone.{begun_at}
+use Rattle.table_txn.specs.Changes.{begun_at}
 use Rattle.legal_walk.specs.Beside.{Beside, Moves}
 use Rattle.legal_walk.specs.Going.{AllGo, Goes, GoesAt, ongoing_in, with_piece}
 use Rattle.legal_walk.specs.Judging.{ended_if}
@@ -85,7 +85,7 @@ four_apart false f s d = refl
 
 module _ (old : Walker) (p : Performed) (one ran noted : Ongoing) (answers : List Answer) (found : one ≡ ongoing_in old.sessions p.session)
     (goes_by : GoesBy old.service.tables one.going (taken_with old.service.tables old.service.names one.going p.called p.draws) (Some answers) ran.going)
-    (since : ran.since ≡ begun_at one.since old.service.commits)
+    (since : ran.since ≡ begun_at one.since old.service.changes.commits)
     (is_noted : noted ≡ with_piece ran (record { call = p.called; answers = p.answers; draws = p.draws }))
     (base : Base) (walk : Walk) (walks : Walks base walk old) where
   abbrev pub tables : Stored
@@ -132,14 +132,14 @@ module _ (old : Walker) (p : Performed) (one ran noted : Ongoing) (answers : Lis
 
     module _ (drawn : true ≡ draws_hold base walk p) (taken put : List ((ℕ × ℕ) × Ongoing)) (after settled : Service) (closed : Ongoing)
         (others : (other : SessionId) → same_session p.session other ≡ false → ongoing_in taken other ≡ ongoing_in old.sessions other)
-        (moved : Beside base (with_numbers base walk p) after) (same : after.tables ≡ tables) (counts : after.commits ≡ old.service.commits)
+        (moved : Beside base (with_numbers base walk p) after) (same : after.tables ≡ tables) (changes : after.changes ≡ old.service.changes)
         (settles : Moves after (λ w. if_commits (ends_committed p.answers) w noted.going.writes) settled) (is_closed : closed ≡ ended_if (ends p.answers) noted)
         (is_put : (other : SessionId) → ongoing_in put other ≡ cond (same_session p.session other) closed (ongoing_in taken other)) where
       -- a transaction goes on beside what comes of the call
       goes_on : (transaction : Transaction) (going : Ongoing) → GoesAt old.service transaction going → GoesAt settled transaction going
       goes_on transaction going at =
           goes_later after settled transaction going settles.schemas settles.on
-          (goes_later old.service after transaction going (ap (λ (t : Stored). t.schemas) same) (moves_none old.service after counts (ap (λ (t : Stored). t.rows) same)) at)
+          (goes_later old.service after transaction going (ap (λ (t : Stored). t.schemas) same) (moves_none old.service after changes (ap (λ (t : Stored). t.rows) same)) at)
 
       abbrev ended : Transaction
       ended = if_ended (ends p.answers) (with_call walk p meant)

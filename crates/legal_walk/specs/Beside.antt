@@ -6,7 +6,7 @@ use Rattle.table_txn.specs.Transactions.{shape_of}
 use Rattle.server_model.specs.meaning.Base.{Base}
 use Rattle.server_model.specs.meaning.Walk.{Walk}
 use Rattle.legal_walk.specs.declared.service.Service.{Service}
-use Rattle.legal_walk.specs.Alone.{MovesOn}
+use Rattle.legal_walk.specs.Holds.{MovesOn}
 
 -- all of the walk but its sessions, and what stays so of the base
 pub record Beside (base : Base) (walk : Walk) (service : Service) : Type 0 where

@@ -11,7 +11,7 @@ use Rattle.server_model.specs.meaning.Walk.{Transaction, transaction_in}
 use Rattle.calls_again.specs.OnWay.{begun_with}
 use Rattle.legal_walk.specs.declared.ongoing.Ongoing.{Ongoing}
 use Rattle.legal_walk.specs.declared.service.Service.{Service}
-use Rattle.legal_walk.specs.Alone.{HoldsSince}
+use Rattle.legal_walk.specs.Holds.{HoldsSince}
 use Rattle.legal_walk.specs.Counts.{key_of, same_key}
 
 -- one that has called and read nothing
@@ -39,7 +39,7 @@ pub record Goes (schemas : List Schema) (transaction : Transaction) (one : Ongoi
   pub reads : AreReadings one.going.readings transaction.reads
   pub fits : IsTrue (writes_fit schemas one.going.writes)
 
--- and a service that has counted no commit since it began to read has what it read
+-- and what it read of a table that no commit has written since stands in the service
 pub record GoesAt (service : Service) (transaction : Transaction) (one : Ongoing) : Type 0 where
   pub goes : Goes service.tables.schemas transaction one
   pub holds : HoldsSince service one.since one.going.readings

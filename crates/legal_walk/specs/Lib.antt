@@ -1,4 +1,4 @@
-pub mod Alone
+pub mod Holds
 pub mod Beside
 pub mod Counts
 pub mod Going

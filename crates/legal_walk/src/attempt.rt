@@ -7,6 +7,7 @@ use legal_draws::{Trial, drawn_whole};
 use std::alloc::Global;
 use svc_values::{Call, Draw, Names, NoMemory, ends_committed};
 use table_store::Tables;
+use table_txn::Known;
 
 /// A call of a session, whose transaction it leaves as it is. Each trial copies what the session
 /// wrote in it.
@@ -27,7 +28,14 @@ impl Trial for Attempt<'_> {
 
     fn meets(&self, draws: &[Draw]) -> Result<bool, NoMemory> {
         let mut going = self.going.probe(self.alloc)?;
-        match going.run(self.alloc, self.tables, self.names, self.call, draws)? {
+        match going.run(
+            self.alloc,
+            self.tables,
+            Known::All,
+            self.names,
+            self.call,
+            draws,
+        )? {
             Some(answers) => Ok(ends_committed(answers.as_slice())),
             None => Ok(false),
         }
@@ -39,7 +47,14 @@ impl Trial for Attempt<'_> {
         let whole = drawn_whole(self.alloc, self.call, draws.len())?;
         let first = &draws[..whole];
         let mut going = self.going.probe(self.alloc)?;
-        match going.run(self.alloc, self.tables, self.names, self.call, first)? {
+        match going.run(
+            self.alloc,
+            self.tables,
+            Known::All,
+            self.names,
+            self.call,
+            first,
+        )? {
             Some(answers) => Ok(!ends_committed(answers.as_slice())),
             None => Ok(false),
         }

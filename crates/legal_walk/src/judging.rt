@@ -9,7 +9,7 @@ ghost use Rattle.table_txn.specs.Readings.{AreReadings};
 ghost use Rattle.server_model.specs.meaning.Base.{Base};
 ghost use Rattle.server_model.specs.meaning.Legal.{answers_hold, differs, is_free, stores};
 ghost use Rattle.server_model.specs.meaning.Walk.{Walk, ends as ends_def, if_commits, with_call};
-ghost use Rattle.legal_walk.specs.Alone.{HoldsSince};
+ghost use Rattle.legal_walk.specs.Holds.{HoldsSince};
 ghost use Rattle.legal_walk.specs.Beside.{Beside, Moves};
 ghost use Rattle.legal_walk.specs.Going.{Goes};
 ghost use Rattle.legal_walk.specs.Judging.{answered_by, ended_if, is_free_at, stores_with};
@@ -51,8 +51,7 @@ impl Service<'_> {
     }
 
     /// Whether a call that means these answers was told so. A commit beside which others have
-    /// committed since its transaction began to read is linear in what that read, and each other
-    /// call in its answers.
+    /// written what its transaction read is linear in that, and each other call in its answers.
     fn is_told_so(
         &self,
         ongoing: &Ongoing,
@@ -65,20 +64,13 @@ impl Service<'_> {
             → so ≡ same_answers performed.entry.now.answers.now
             (answered_by answers performed.entry.now.replay (differs self.now.tables.rows reads))) }
     {
-        let is_unchanged = self.is_alone(ongoing.since);
+        let known = self.changes.since(ongoing.since);
         let Performed {
             replay,
             answers: told,
             ..
         } = performed;
-        is_told_so(
-            &self.tables,
-            &ongoing.going,
-            is_unchanged,
-            *replay,
-            answers,
-            told,
-        )
+        is_told_so(&self.tables, &ongoing.going, known, *replay, answers, told)
     }
 
     /// Whether a call that means these answers was told as it has to be, and stores what it has to:

@@ -1,7 +1,6 @@
 //! Whether what a service did is legal, item after item, by what was told of it alone.
 #![tactic(auto)]
 
-mod alone;
 mod attempt;
 mod counts;
 mod judging;

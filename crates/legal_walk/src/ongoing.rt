@@ -2,7 +2,8 @@
 ghost use Rattle.std.specs.Prelude.{◌≡◌, IsTrue, IfOk, OnOk};
 ghost use Rattle.svc_values.specs.meaning.Fitting.{writes_fit};
 ghost use Rattle.calls_again.specs.OnWay.{GoesBy, taken_with};
-ghost use Rattle.legal_walk.specs.Alone.{HoldsSince, begun_at};
+ghost use Rattle.table_txn.specs.Changes.{begun_at};
+ghost use Rattle.legal_walk.specs.Holds.{HoldsSince};
 ghost use Rattle.legal_walk.specs.Going.{begins_with, with_piece};
 ghost use Rattle.legal_walk.specs.Moving.{piece_of};
 
@@ -31,8 +32,8 @@ impl Ongoing {
         }
     }
 
-    /// Runs a call with its draws, as `Going::run` does. Where none has committed since the
-    /// transaction began to read, no table that it read is compared.
+    /// Runs a call with its draws, as `Going::run` does. A table that no commit has written since
+    /// the transaction began to read is not compared.
     pub(crate) fn run(
         &mut self,
         service: &Service<'_>,
@@ -43,10 +44,10 @@ impl Ongoing {
         ensures goes { IfOk result (λ told. GoesBy service.now.tables self.old.going
             (taken_with service.now.tables service.now.names self.old.going
             performed.entry.now.call.now performed.entry.now.draws.now) told self.new.going) }
-        ensures since { self.new.since ≡ begun_at self.old.since service.now.commits }
+        ensures since { self.new.since ≡ begun_at self.old.since service.now.changes.commits }
     {
-        let is_alone = service.is_alone(self.since);
-        self.since = self.since.or(Some(service.commits));
+        let known = service.changes.since(self.since);
+        self.since = self.since.or(Some(service.changes.commits()));
         let Performed { call, draws, .. } = performed;
         let Service {
             alloc,
@@ -54,10 +55,7 @@ impl Ongoing {
             names,
             ..
         } = service;
-        if is_alone {
-            return self.going.run_unchanged(*alloc, tables, names, call, draws);
-        }
-        self.going.run(*alloc, tables, names, call, draws)
+        self.going.run(*alloc, tables, known, names, call, draws)
     }
 
     /// Keeps a call with its answers and draws.

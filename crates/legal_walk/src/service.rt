@@ -14,7 +14,6 @@ ghost use Rattle.legal_walk.specs.Items.{standing};
 ghost use Rattle.legal_walk.specs.Moving.{entered_at, may_block, passed, performed_as, stopped_at};
 ghost use Rattle.legal_walk.specs.Starting.{IsStart};
 
-use crate::alone::counted;
 use crate::ledger::Ledger;
 use crate::performed::Performed;
 use crate::start::Start;
@@ -25,6 +24,7 @@ use outage_schedule::AskResult;
 use std::alloc::Global;
 use svc_values::{Call, Entry, Ltxid, Names, NoMemory, Piece, SessionId, Writes};
 use table_store::Tables;
+use table_txn::Changes;
 
 /// The tables, the entries, the identifiers that are or may be blocked, and the numbers that were
 /// drawn. `is_over` tells that nothing more can come of this opening.
@@ -32,8 +32,8 @@ use table_store::Tables;
 pub(crate) struct Service<'a> {
     pub(crate) alloc: Global,
     pub(crate) tables: Tables,
-    /// How many commits were applied to the tables. The largest number stands for all above it.
-    pub(crate) commits: u64,
+    /// Which tables the commits have written.
+    pub(crate) changes: Changes,
     pub(crate) names: Names,
     sequences: Vec<Sequence>,
     grants: Grants,
@@ -85,7 +85,7 @@ impl<'a> Service<'a> {
         Ok(Service {
             alloc,
             tables,
-            commits: 0,
+            changes: Changes::new(alloc),
             names,
             sequences,
             grants,
@@ -211,7 +211,7 @@ impl<'a> Service<'a> {
         ensures moves { OnOk result ((base : Base) (walk : Walk) → Beside base walk self.old
             → Beside base (with_numbers base walk (performed_as performed.entry.now)) self.new) }
         ensures tables { self.new.tables ≡ self.old.tables }
-        ensures commits { self.new.commits ≡ self.old.commits }
+        ensures changes { self.new.changes ≡ self.old.changes }
     {
         let kept = granted(
             self.alloc,
@@ -231,8 +231,9 @@ impl<'a> Service<'a> {
         requires { IsTrue (writes_fit self.old.tables.schemas writes.now) }
         ensures { OnOk result (Moves self.old (λ walk. if_commits true walk writes.now) self.new) }
     {
+        let _ = self.tables.schemas();
         self.tables.apply(writes)?;
-        self.commits = counted(self.commits);
+        self.changes.note(writes)?;
         self.ledger.store()?;
         Ok(())
     }

@@ -7,7 +7,7 @@ use mutable_values::{Drawn, Grants, Kept, SeqState, Source};
 use std::alloc::Global;
 use std::process::Abort;
 use svc_values::{Draw, DrawKind, Draws, Names, Settings, is_of_kind, is_there};
-use table_txn::{DrawFrom, DrawFromFault, Txn};
+use table_txn::{DrawFrom, DrawFromFault, Known, Txn};
 
 /// A source whose reservations are stored at once, with the draws that are kept.
 #[derive(Drop)]
@@ -96,7 +96,13 @@ fn shows(rt: &impl Abort, alloc: Global, source: &mut Reserving, wanted: i64) ->
     let tables = no_rows(rt, alloc);
     let mut txn = Txn::new(alloc);
     let ran = txn
-        .run(&tables, &Settings::new(alloc), &statements, source)
+        .run(
+            &tables,
+            Known::All,
+            &Settings::new(alloc),
+            &statements,
+            source,
+        )
         .expect(rt, "answers");
     ran.answers.get(0) == Some(&answer(rt, alloc, Says::Value(wanted)))
 }

@@ -1,5 +1,7 @@
 //! A teller: a transaction on committed tables, beside which other sessions commit; and scripts of
 //! it.
+ghost use Rattle.std.specs.Prelude.{◌≡◌, ℕ, List, false};
+ghost use Rattle.table_txn.specs.Knowing.{is_known};
 
 use crate::makers::{draws_of_s, no_rows, sequences, write};
 use crate::script::{Does, Says, answer, statements};
@@ -7,12 +9,13 @@ use std::alloc::Global;
 use std::process::Abort;
 use svc_values::{Answers, Settings, Statements, Value};
 use table_store::Tables;
-use table_txn::{ListDraws, Place, Txn, TxnFault};
+use table_txn::{Changes, Known, ListDraws, Place, Txn, TxnFault};
 
-/// A transaction beside the tables that it runs on.
+/// A transaction beside the tables that it runs on. It knows of no table that it has what it had.
 #[derive(Drop)]
 pub struct Teller {
     tables: Tables,
+    changes: Changes,
     txn: Txn,
     alloc: Global,
 }
@@ -21,6 +24,7 @@ pub struct Teller {
 pub fn teller_of(rt: &impl Abort, alloc: Global, balances: &[i64]) -> Teller {
     let mut teller = Teller {
         tables: no_rows(rt, alloc),
+        changes: Changes::new(alloc),
         txn: Txn::new(alloc),
         alloc,
     };
@@ -30,6 +34,13 @@ pub fn teller_of(rt: &impl Abort, alloc: Global, balances: &[i64]) -> Teller {
         teller.commit(rt, id, Some(*balance));
     }
     teller
+}
+
+/// Of no table is anything known.
+fn nothing_known(changes: &Changes) -> Known<'_>
+    ensures { (table : List ℕ) → is_known result table ≡ false }
+{
+    changes.since(Some(u64::MAX))
 }
 
 impl Teller {
@@ -55,7 +66,13 @@ impl Teller {
         if !self.tables.all_fit(self.txn.writes()) {
             return Err(TxnFault::NoMemory);
         }
-        let ran = self.txn.run(&self.tables, &settings, statements, source)?;
+        let ran = self.txn.run(
+            &self.tables,
+            nothing_known(&self.changes),
+            &settings,
+            statements,
+            source,
+        )?;
         Ok(ran.answers)
     }
 
@@ -68,7 +85,10 @@ impl Teller {
 
     /// Whether the conflict is that of this account.
     fn conflicts_at(&self, id: i64) -> bool {
-        match self.txn.conflicts(&self.tables) {
+        match self
+            .txn
+            .conflicts(&self.tables, nothing_known(&self.changes))
+        {
             Some(Place::Row { key, .. }) => *key == Value::Int(id),
             _ => false,
         }
@@ -76,7 +96,11 @@ impl Teller {
 
     /// Whether it is that of a whole table.
     fn conflicts_on_a_table(&self) -> bool {
-        matches!(self.txn.conflicts(&self.tables), Some(Place::Table { .. }))
+        matches!(
+            self.txn
+                .conflicts(&self.tables, nothing_known(&self.changes)),
+            Some(Place::Table { .. })
+        )
     }
 
     /// Whether the transaction would write no row.
@@ -85,7 +109,9 @@ impl Teller {
     }
 
     fn is_clear(&self) -> bool {
-        self.txn.conflicts(&self.tables).is_none()
+        self.txn
+            .conflicts(&self.tables, nothing_known(&self.changes))
+            .is_none()
     }
 }
 

@@ -13,6 +13,7 @@ use equality_laws::tests_equality;
 use std::alloc::Global;
 use svc_values::{Answers, Names, NoMemory, Piece, ends_committed};
 use table_store::Tables;
+use table_txn::Known;
 
 /// Whether these are a piece's answers.
 fn is_answered(piece: &Piece, answers: &Answers) -> bool
@@ -44,7 +45,7 @@ fn replays(
         → AreUnchanged tables.now.rows going.new.readings) }
 {
     let draws = piece.draws.as_slice();
-    match going.run_unchanged(alloc, tables, names, &piece.call, draws)? {
+    match going.run(alloc, tables, Known::All, names, &piece.call, draws)? {
         Some(answers) => Ok(is_answered(piece, &answers)),
         None => Ok(false),
     }

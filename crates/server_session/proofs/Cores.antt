@@ -1,5 +1,5 @@
 -- A core fits its disk with one record more.
-use Rattle.std.proofs.Common.{◌≡◌, ◌≤◌, ℕ, ◌+◌, ◌&&◌, Bool, true, false, List, [], ◌∷◌, refl, sym, ◌∙◌, ap, subst, arith}
+use Rattle.std.proofs.Common.{◌≡◌, ℕ, ◌+◌, ◌&&◌, Bool, true, false, List, [], ◌∷◌, refl, sym, ◌∙◌, ap, subst, arith}
 use Rattle.std.proofs.lemmas.Bool.{le-leb}
 use Rattle.std.proofs.lemmas.Bool.Decides.{nat_tests}
 use Rattle.std.specs.Prelude.{IsTrue, Result, Ok, Err, nat_le, if◌then◌else◌}
@@ -28,14 +28,16 @@ use Rattle.commit_log.proofs.Offered.{may_beside, notes_commit, block_beside, no
 use Rattle.server_model.specs.declared.fault.ServeFault.{ServeFault}
 use Rattle.server_model.specs.declared.fault.ServeFault.TheVariants as fault
 use Rattle.server_session.specs.declared.shared.Core.{Core}
-use Rattle.server_session.specs.Alone.{MovesOn, counted}
+use Rattle.table_txn.specs.Changes.{Written, HasNoted}
+use Rattle.svc_values.specs.Tables.{AreTables}
+use Rattle.server_session.specs.Holds.{MovesOn}
 use Rattle.server_session.specs.Fits.{Fits, Belongs, tables_of}
 use Rattle.server_session.specs.Leaving.{StaysTrue, StillEnds}
 use Rattle.server_session.specs.SeenSession.{SeenSession}
 use Rattle.server_session.specs.Serving.{HasLacked}
 use Rattle.server_session.specs.Stored.{stored_as}
 use Rattle.server_session.specs.Storing.{HasStored, Stores}
-use Rattle.server_session.proofs.Holding.{holds_later, moves_none, moves_one}
+use Rattle.server_session.proofs.Holding.{moves_none, moves_one}
 use Rattle.server_session.proofs.Gaining.{gained_one, halted_one}
 use Rattle.server_session.proofs.Plains.{reads_more, tables_with-more}
 
@@ -162,11 +164,11 @@ tables_after core journal entry tables are is =
     is ∙ (λ i. record { schemas = (are i).schemas; rows = with_writes (are i).rows entry.writes })
     ∙ (λ i. record { schemas = schemas_of journal.base; rows = sym (tables_with-more (start_of journal.base) journal.entries entry) i })
 
-pub commit_stores : (core : Core) (disk : DiskState) (entry : Entry) (tables : Stored) (commits : ℕ) (book : Contents) (log : Log) (end : DiskState) → Fits core disk
+pub commit_stores : (core : Core) (disk : DiskState) (entry : Entry) (tables : Stored) (changes : Written) (book : Contents) (log : Log) (end : DiskState) → Fits core disk
     → IsTrue (may_note (sessions_in core.book) entry.ltxid) → sessions_in book ≡ after_commit (sessions_in core.book) entry.ltxid entry.completed
     → tables ≡ record { schemas = core.tables.schemas; rows = with_writes core.tables.rows entry.writes }
-    → commits ≡ counted core.commits → core.commits ≤ commits → Adds (Ok tt) log disk end (kept.Commit entry) → HasStored (kept.Commit entry) core disk (record core { tables = tables; commits = commits; book = book; log = log }) end
-commit_stores core disk entry tables commits book log end fits may says wrote counts rises adds =
+    → AreTables core.tables.rows → HasNoted core.changes entry.writes changes → Adds (Ok tt) log disk end (kept.Commit entry) → HasStored (kept.Commit entry) core disk (record core { tables = tables; changes = changes; book = book; log = log }) end
+commit_stores core disk entry tables changes book log end fits may says wrote ordered noted adds =
     let stands = notes_commit core.book book fits.journal entry fits.book may says in
     record {
       gained = gained_one log disk end (kept.Commit entry) adds;
@@ -182,7 +184,7 @@ commit_stores core disk entry tables commits book log end fits may says wrote co
       };
       book = says;
       schemas = ap (λ (t : Stored). t.schemas) wrote;
-      moves = moves_one core _ counts rises;
+      moves = moves_one core _ entry.writes ordered noted (ap (λ (t : Stored). t.rows) wrote);
       source = refl;
       grants = refl;
     }
@@ -220,5 +222,5 @@ belongs_with core later seen schemas moves incarnation next belongs = record {
   number = belongs.number ∙ sym next;
   writes = ap (λ s. writes_fit s seen.txn.writes) schemas ∙ belongs.writes;
   calls = belongs.calls;
-  holds = holds_later core later seen.since seen.txn.readings moves belongs.holds;
+  holds = moves.on seen.since seen.txn.readings belongs.holds;
 }

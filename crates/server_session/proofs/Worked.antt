@@ -21,7 +21,7 @@ use Rattle.server_model.specs.declared.fault.ServeFault.TheVariants as fault
 use Rattle.server_model.specs.Draws.{brought}
 use Rattle.server_model.specs.Sessions.{piece_of}
 use Rattle.server_session.specs.declared.shared.Core.{Core}
-use Rattle.server_session.specs.Alone.{begun_at}
+use Rattle.table_txn.specs.Changes.{begun_at}
 use Rattle.server_session.specs.Dealing.{AtDesk}
 use Rattle.server_session.specs.Fits.{Fits, Belongs}
 use Rattle.server_session.specs.Running.{Ground, HasRunOver, RunsOver}
@@ -45,12 +45,12 @@ abbrev pub core_after : Core → AtDesk → Core
 core_after core desk = record core { source = desk.opening; log = desk.log }
 
 abbrev pub seen_after : Core → SeenSession → Transaction → SeenSession
-seen_after core old txn = record old { txn = txn; since = begun_at old.since core.commits }
+seen_after core old txn = record old { txn = txn; since = begun_at old.since core.changes.commits }
 
 -- as it stands in the code
-pub seen_is : (core : Core) (inside old : SeenSession) (txn : Transaction) (since : Option ℕ) → inside ≡ old → since ≡ begun_at inside.since core.commits
+pub seen_is : (core : Core) (inside old : SeenSession) (txn : Transaction) (since : Option ℕ) → inside ≡ old → since ≡ begun_at inside.since core.changes.commits
     → ◌≡◌ {A = SeenSession} (record inside { txn = txn; since = since }) (seen_after core old txn)
-seen_is core inside old txn since same is = λ i. record (same i) { txn = txn; since = (is ∙ ap (λ (s : SeenSession). begun_at s.since core.commits) same) i }
+seen_is core inside old txn since same is = λ i. record (same i) { txn = txn; since = (is ∙ ap (λ (s : SeenSession). begun_at s.since core.changes.commits) same) i }
 
 module _ (statements : List Statement) (commit replay : Bool) (marks : List Draw) (now : ℕ) (old : SeenSession) (core : Core) (disk : DiskState) (fits : Fits core disk) (belongs : Belongs core old)
     (one : Call) (is : one ≡ call.Work statements commit) (left : List Draw) (left_is : left ≡ brought core.grants core.source replay marks) where

@@ -51,7 +51,7 @@ use Rattle.server_model.specs.Serve.{Commits, Means, Works, Answers, Reaches, Ha
 use Rattle.server_session.specs.declared.shared.Core.{Core}
 use Rattle.server_model.specs.declared.fault.ServeFault.{ServeFault}
 use Rattle.server_model.specs.declared.fault.ServeFault.TheVariants as fault
-use Rattle.server_session.specs.Alone.{begun_at}
+use Rattle.table_txn.specs.Changes.{begun_at}
 use Rattle.server_session.specs.Adding.{HasGained, HasHalted}
 use Rattle.server_session.specs.Dealing.{AtDesk, HaltsAtFront, IsPrepared, reserving, reservation_of, with_reserved}
 use Rattle.server_session.specs.Fits.{Fits, Belongs, IsSourceOf, sequence_of, tables_of}
@@ -60,7 +60,8 @@ use Rattle.server_session.specs.Plain.{IsStored, IsPlain}
 use Rattle.server_session.specs.Running.{Ground, HasRunOver, HasHaltedOver, RunsOver}
 use Rattle.server_session.specs.SeenSession.{SeenSession, sess_of}
 use Rattle.server_session.specs.Serving.{HasServed, HasStopped, HasLacked, Serves, StopsAtFronts, called_as, commits_as, told_of}
-use Rattle.server_session.proofs.Holding.{holds_then, moves_none}
+use Rattle.table_txn.proofs.Offered.{holds_then}
+use Rattle.server_session.proofs.Holding.{moves_none}
 use Rattle.server_session.proofs.Committing.{same_rows}
 use Rattle.server_session.proofs.Cores.{belongs_with, same_journal, stays_true}
 use Rattle.server_session.proofs.Desks.{given_few, with_meant}
@@ -117,7 +118,7 @@ module _ (statements : List Statement) (commit replay : Bool) (marks : List Draw
   core_at desk = record core { source = desk.opening; log = desk.log }
 
   abbrev pub seen_at : Transaction → SeenSession
-  seen_at txn = record old { txn = txn; since = begun_at old.since core.commits }
+  seen_at txn = record old { txn = txn; since = begun_at old.since core.changes.commits }
 
   pub prepared_here : IsPrepared core.source core.log disk
   prepared_here = record { ready = fits.log; journal = fits.journal; reads = fits.reads; source = fits.source; sequences = fits.sequences }
@@ -160,7 +161,7 @@ module _ (statements : List Statement) (commit replay : Bool) (marks : List Draw
       number = belongs.number;
       writes = writes;
       calls = subst (AllByRecursion IsMadePiece) (sym pieces) belongs.calls;
-      holds = holds_then core old.since old.txn.readings txn.readings belongs.holds unchanged;
+      holds = holds_then core.changes core.tables.rows old.since old.txn.readings txn.readings belongs.holds unchanged;
     }
 
   -- ---- what the statements mean to the plain server

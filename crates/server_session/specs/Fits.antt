@@ -19,7 +19,7 @@ use Rattle.table_store.specs.Stored.{Stored}
 use Rattle.server_model.specs.meaning.Base.{Sequence}
 use Rattle.server_model.specs.Core.{tables_with}
 use Rattle.server_session.specs.declared.shared.Core.{Core}
-use Rattle.server_session.specs.Alone.{HoldsSince}
+use Rattle.server_session.specs.Holds.{HoldsSince}
 use Rattle.server_session.specs.SeenSession.{SeenSession}
 
 -- the tables of a journal: those that it began with, and what its entries wrote
@@ -61,7 +61,7 @@ pub record Fits (core : Core) (disk : DiskState) : Type 0 where
 
 -- The session is one of the core's incarnation, and its number is the next one by the book. Its
 -- transaction can be stored: the writes fit the tables, and its calls are such as are made;
--- and what it read is there still where none has committed since.
+-- and what it read of a table is there still where no commit has written the table since.
 pub record Belongs (core : Core) (seen : SeenSession) : Type 0 where
   pub incarnation : seen.ltxid.incarnation ≡ core.source.incarnation
   pub number : seen.ltxid.number ≡ ((sessions_in core.book).state seen.ltxid.incarnation

@@ -1,5 +1,5 @@
 pub mod Adding
-pub mod Alone
+pub mod Holds
 pub mod Dealing
 pub mod Desks
 pub mod Fits

@@ -23,7 +23,7 @@ use Rattle.server_session.specs.declared.shared.Core.{Core}
 use Rattle.server_model.specs.declared.fault.ServeFault.{ServeFault}
 use Rattle.server_model.specs.declared.fault.ServeFault.TheVariants as fault
 use Rattle.server_session.specs.Adding.{HasGained, HasHalted}
-use Rattle.server_session.specs.Alone.{HoldsSince}
+use Rattle.server_session.specs.Holds.{HoldsSince}
 use Rattle.server_session.specs.Fits.{Fits, Belongs}
 use Rattle.server_session.specs.Leaving.{StaysTrue}
 use Rattle.server_session.specs.Plain.{IsStored, IsPlain}

@@ -76,11 +76,11 @@ impl Session {
             (D.state disk.old) self.new core.new (D.state disk.new) }
     {
         let mut left = brought(self.alloc, &core.source, &core.grants, replay, kept)?;
-        let is_alone = self.is_alone(core);
+        let known = core.changes.since(self.since);
         let Ran { answers, draws } = run_over(
             &mut self.txn,
-            is_alone,
             &core.tables,
+            known,
             &self.state.settings,
             statements,
             &mut core.source,
@@ -89,7 +89,7 @@ impl Session {
             disk,
             now,
         )?;
-        self.since = self.since.or(Some(core.commits));
+        self.since = self.since.or(Some(core.changes.commits()));
         let answers = closed(answers, commit)?;
         if ends_committed(answers.as_slice()) {
             return self.commit(core, disk, replay, call, answers, draws);

@@ -1,5 +1,6 @@
 //! A commit that is reached.
-ghost use Rattle.std.specs.Prelude.{◌≡◌, ◌≤◌, [], IsTrue, IfOk};
+ghost use Rattle.std.specs.Prelude.{◌≡◌, [], List, IsTrue, IfOk};
+ghost use Rattle.std.specs.Option.{option_copied};
 ghost use Rattle.svc_values.specs.declared.frame.Down.TheVariants as down;
 ghost use Rattle.svc_values.specs.Calls.{IsMade};
 ghost use Rattle.svc_values.specs.meaning.Fitting.{writes_fit};
@@ -8,9 +9,11 @@ ghost use Rattle.ltxid_book.specs.Sessions.{sessions_in};
 ghost use Rattle.canon_bytes.specs.Entries.{IsMadeEntry};
 ghost use Rattle.commit_log.specs.declared.records.Record.TheVariants as kept;
 ghost use Rattle.stmt_meaning.specs.Laws.{closed_by};
+ghost use Rattle.stmt_meaning.specs.meaning.Reads.{Read};
+ghost use Rattle.stmt_meaning.specs.Reads.{IsConflict};
+ghost use Rattle.table_txn.specs.Readings.{AreReadings};
 ghost use Rattle.server_model.specs.Serve.{with_last as with_last_def};
 ghost use Rattle.server_model.specs.Sessions.{entry_of};
-ghost use Rattle.server_session.specs.Alone.{counted as counted_def};
 ghost use Rattle.server_session.specs.Fits.{Fits, Belongs};
 ghost use Rattle.server_session.specs.SeenSession.{begun_so, sess_of, started_with};
 ghost use Rattle.server_session.specs.Serving.{Serves, commits_as, stores_as};
@@ -25,7 +28,7 @@ use std::alloc::Global;
 use std::mem;
 use stmt_meaning::ends_refused;
 use svc_values::{
-    Answer, Answers, Call, Down, Draws, Entry, ListFault, NoMemory, Piece, Settings, TryCopy,
+    Answer, Answers, Call, Down, Draws, Entry, ListFault, NoMemory, Piece, Place, Settings, TryCopy,
 };
 use table_txn::Txn;
 
@@ -70,14 +73,6 @@ fn settings_before(
     }
 }
 
-/// One commit more: the largest number stands for all above it.
-fn counted(commits: u64) -> u64
-    ensures counted { result ≡ counted_def commits }
-    ensures rises { commits ≤ result }
-{
-    commits.saturating_add(1)
-}
-
 /// Stores an entry. The tables and the book have it once its record is written, so a stop leaves
 /// both as the records before it have them.
 fn store_entry<D: Disk>(core: &mut Core, disk: &mut D, entry: &Entry) -> Result<(), ServeFault>
@@ -89,10 +84,11 @@ fn store_entry<D: Disk>(core: &mut Core, disk: &mut D, entry: &Entry) -> Result<
     ensures { Stores (kept.Commit entry.now) result core.old (D.state disk.old) core.new
         (D.state disk.new) }
 {
+    let _ = core.tables.schemas();
     stored(core.log.commit(disk, entry))?;
     core.tables.apply(&entry.writes)?;
     core.book.commit(&entry.ltxid, entry.completed)?;
-    core.commits = counted(core.commits);
+    core.changes.note(&entry.writes)?;
     Ok(())
 }
 
@@ -128,6 +124,18 @@ impl Session {
             return Ok(Some(told));
         }
         self.store(core, disk, call, answers, draws)
+    }
+
+    /// A place that was read and has something else committed now; `None` exactly where there is no
+    /// such place. Where no commit has written a table since the transaction began to read, nothing
+    /// of it is compared.
+    fn conflicts(&self, core: &Core) -> Option<&Place>
+        requires { Belongs core.now self.now }
+        ensures { (reads : List Read) → AreReadings self.now.txn.readings reads
+            → IsConflict reads core.now.tables.rows (option_copied result) }
+    {
+        self.txn
+            .conflicts(&core.tables, core.changes.since(self.since))
     }
 
     /// Rolls the transaction back, and answers the call so.

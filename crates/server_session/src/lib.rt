@@ -2,7 +2,6 @@
 //! values and the log that all sessions share.
 #![tactic(auto)]
 
-mod alone;
 mod alter;
 mod calling;
 mod calls;

@@ -4,7 +4,8 @@ ghost use Rattle.svc_values.specs.declared.call.Call.TheVariants as call_variant
 ghost use Rattle.svc_values.specs.declared.frame.Up.TheVariants as up;
 ghost use Rattle.svc_values.specs.meaning.Calls.{sequences_in};
 ghost use Rattle.svc_values.specs.meaning.Fitting.{writes_fit};
-ghost use Rattle.table_txn.specs.Readings.{AreUnchanged};
+ghost use Rattle.table_txn.specs.Knowing.{is_known};
+ghost use Rattle.table_txn.specs.Readings.{StandWhere};
 ghost use Rattle.server_model.specs.Draws.{brought as brought_def};
 ghost use Rattle.server_session.specs.Dealing.{IsPrepared};
 ghost use Rattle.server_session.specs.Desks.{at_desk};
@@ -18,7 +19,7 @@ use server_model::ServeFault;
 use std::alloc::Global;
 use svc_values::{Draws, NoMemory, Settings, Statements};
 use table_store::Tables;
-use table_txn::{Ran, Txn, TxnFault};
+use table_txn::{Known, Ran, Txn, TxnFault};
 
 /// The kept draws that a call brings: with the mark those that are granted, without it none.
 pub(crate) fn brought(
@@ -37,12 +38,12 @@ pub(crate) fn brought(
     }
 }
 
-/// Runs statements, with draws from the source and the kept ones, at a tick. Where the transaction
-/// is known to be alone, what it read before is not compared.
+/// Runs statements, with draws from the source and the kept ones, at a tick. What the transaction
+/// read before is compared where it is not known to have what it had.
 pub(crate) fn run_over<D: Disk>(
     txn: &mut Txn,
-    is_alone: bool,
     tables: &Tables,
+    known: Known,
     settings: &Settings,
     statements: &Statements,
     source: &mut Source,
@@ -52,7 +53,7 @@ pub(crate) fn run_over<D: Disk>(
     tick: u64,
 ) -> Result<Ran, ServeFault>
     requires fits { IsTrue (writes_fit tables.now.schemas txn.old.writes) }
-    requires unchanged { IsTrue is_alone → AreUnchanged tables.now.rows txn.old.readings }
+    requires stands { StandWhere (is_known known) tables.now.rows txn.old.readings }
     requires prepared { IsPrepared source.old log.old (D.state disk.old) }
     ensures { RunsOver tick (record {
       tables = tables.now;
@@ -78,7 +79,7 @@ pub(crate) fn run_over<D: Disk>(
         disk,
         tick,
     };
-    desk.run(txn, is_alone, tables, settings, statements)
+    desk.run(txn, tables, known, settings, statements)
 }
 
 impl<D: Disk> Desk<'_, D> {
@@ -86,13 +87,13 @@ impl<D: Disk> Desk<'_, D> {
     fn run(
         &mut self,
         txn: &mut Txn,
-        is_alone: bool,
         tables: &Tables,
+        known: Known,
         settings: &Settings,
         statements: &Statements,
     ) -> Result<Ran, ServeFault>
         requires fits { IsTrue (writes_fit tables.now.schemas txn.old.writes) }
-        requires unchanged { IsTrue is_alone → AreUnchanged tables.now.rows txn.old.readings }
+        requires stands { StandWhere (is_known known) tables.now.rows txn.old.readings }
         requires prepared { IsPrepared self.old.source.now self.old.log.now
             (D.state self.old.disk.now) }
         ensures ran { RunsOver self.old.tick
@@ -110,10 +111,7 @@ impl<D: Disk> Desk<'_, D> {
         ensures log { self.new.log.ghost_name ≡ self.old.log.ghost_name }
         ensures disk { self.new.disk.ghost_name ≡ self.old.disk.ghost_name }
     {
-        if is_alone {
-            return ended_by(txn.run_unchanged(tables, settings, statements, self));
-        }
-        ended_by(txn.run(tables, settings, statements, self))
+        ended_by(txn.run(tables, known, settings, statements, self))
     }
 }
 

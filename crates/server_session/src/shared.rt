@@ -4,15 +4,15 @@ use commit_log::Log;
 use ltxid_book::Book;
 use mutable_values::{Grants, Source};
 use table_store::Tables;
+use table_txn::Changes;
 
 /// What the sessions of a service share: the committed tables, the book of commits and blocks, the
 /// source of drawn values, the log, and which draws are kept for a replay.
 #[derive(Drop)]
 pub struct Core {
     pub tables: Tables,
-    /// How many commits were applied to the tables since they were opened. The largest number
-    /// stands for all above it.
-    pub commits: u64,
+    /// Which tables the commits have written since they were opened.
+    pub changes: Changes,
     pub book: Book,
     pub source: Source,
     pub log: Log,

@@ -95,11 +95,11 @@ pub(crate) fn renewed(core: Core) -> Core
 {
     let Core {
         tables,
+        changes,
         book,
         source,
         log,
         grants,
-        ..
     } = core;
     let incarnation = source.incarnation() + 1;
     let mut sequences = source.into_sequences();
@@ -108,7 +108,7 @@ pub(crate) fn renewed(core: Core) -> Core
     }
     Core {
         tables,
-        commits: 0,
+        changes,
         book,
         source: Source::new(incarnation, sequences),
         log,

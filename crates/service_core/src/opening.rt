@@ -25,6 +25,7 @@ use server_session::Core;
 use std::alloc::Global;
 use svc_values::{NoMemory, TryCopy};
 use table_store::IndexOf;
+use table_txn::Changes;
 
 /// Opens the store of a disk for the next incarnation, with the outcomes of all incarnations below
 /// `horizon` forgotten: what its sessions share.
@@ -165,7 +166,7 @@ fn core_of(
     let tables = indexed_tables_of(alloc, base, entries.as_slice(), indexes)?;
     Ok(Core {
         tables,
-        commits: 0,
+        changes: Changes::new(alloc),
         book,
         source,
         log,

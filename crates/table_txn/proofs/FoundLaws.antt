@@ -1,8 +1,8 @@
 -- What is kept of places, as readings.
 use Rattle.std.proofs.Common.{◌≡◌, ◌⊎◌, inl, inr, ℕ, Bool, true, false, not, cond, List, [], ◌∷◌, get_or, refl, sym, ap, ◌∙◌, subst}
-use Rattle.std.specs.Prelude.{Option, Some, None, IsSome, option_map, ◌&&◌, ◌||◌}
-use Rattle.std.specs.List.{All}
-use Rattle.std.proofs.lemmas.List.Elements.{All-map}
+use Rattle.std.specs.Prelude.{Option, Some, None, IsSome, IfSome, IsTrue, option_map, ◌&&◌, ◌||◌}
+use Rattle.std.specs.List.{All, AllByRecursion}
+use Rattle.std.proofs.lemmas.List.Elements.{All-map, recursion_from_All}
 use Rattle.std.specs.BTreeMap.{BTreeMap, WritesThrough, is_at, insert_entry}
 use Rattle.std.specs.Map.{lookup, set_value}
 use Rattle.std.specs.declared.cmp.Ordering.{Ordering}
@@ -24,7 +24,7 @@ use Rattle.table_store.specs.Rows.{Keyed, plain_rows, row_if_any}
 use Rattle.table_txn.specs.declared.found.Found.{Found}
 use Rattle.table_txn.specs.declared.found.Found.TheVariants as found
 use Rattle.table_txn.specs.declared.readings.ReadPlace.{ReadPlace}
-use Rattle.table_txn.specs.Readings.{Reading, reading_of, read_more, HasRead, AreApart, first_changed}
+use Rattle.table_txn.specs.Readings.{Reading, reading_of, read_more, HasRead, HasStood, StandWhere, AreApart, first_changed, has_changed, table_in}
 use Rattle.table_store.specs.Held.{same_keyed}
 use Rattle.table_txn.specs.Found.{is_for, found_rows, same_optional, same_found, IsFoundAt, reading, readings_of, are_for, IsRead}
 use Rattle.table_txn.proofs.Same.{both, both_if, cmp_place_is, same_place_decides, same_place_sym}
@@ -194,11 +194,13 @@ pub changed_is : (rows : List PlainRow) (at : Place) (one : ReadPlace) (what : F
     → (one.is_torn || not (same_found one.found what)) ≡ ((reading (at, one)).is_torn || not (same_rows (reading (at, one)).found (rows_at rows at)))
 changed_is rows at one what fit stands = ap (λ b. one.is_torn || not b) (same_found_is at one.found what fit stands.kind ∙ ap (same_rows (found_rows at one.found)) (sym stands.stands))
 
-pub changed_here : (rows : List PlainRow) (entries rest : Entries) (at : Place) (one : ReadPlace) (what : Found) → entries ≡ (at, one) ∷ rest → are_for entries ≡ true → IsFoundAt rows at what
-    → (b : Bool) → b ≡ (one.is_torn || not (same_found one.found what)) → first_changed rows (readings_of entries) ≡ cond b (Some at) (first_changed rows (readings_of rest))
-changed_here rows entries rest at one what is all stands b tested =
-    let fit = both (is_for at one.found) (are_for rest) (sym (ap are_for is) ∙ all) in
-    ap (λ l. first_changed rows (readings_of l)) is ∙ ap (λ c. cond c (Some at) (first_changed rows (readings_of rest))) (sym (tested ∙ changed_is rows at one what fit.0 stands))
+pub changed_here : (rows : List PlainRow) (entries rest : Entries) (at : Place) (one : ReadPlace) → entries ≡ (at, one) ∷ rest
+    → (b : Bool) → b ≡ has_changed rows (reading (at, one)) → first_changed rows (readings_of entries) ≡ cond b (Some at) (first_changed rows (readings_of rest))
+changed_here rows entries rest at one is b tested =
+    ap (λ l. first_changed rows (readings_of l)) is ∙ ap (λ c. cond c (Some at) (first_changed rows (readings_of rest))) (sym tested)
+
+pub first_fits : (entries rest : Entries) (at : Place) (one : ReadPlace) → entries ≡ (at, one) ∷ rest → are_for entries ≡ true → is_for at one.found ≡ true
+first_fits entries rest at one is all = (both (is_for at one.found) (are_for rest) (sym (ap are_for is) ∙ all)).0
 
 pub rest_fits : (entries rest : Entries) (at : Place) (one : ReadPlace) → entries ≡ (at, one) ∷ rest → are_for entries ≡ true → are_for rest ≡ true
 rest_fits entries rest at one is all = (both (is_for at one.found) (are_for rest) (sym (ap are_for is) ∙ all)).1
@@ -206,3 +208,13 @@ rest_fits entries rest at one is all = (both (is_for at one.found) (are_for rest
 -- no place has two entries
 pub entries_apart : (entries : Entries) → All (λ e. looked_up entries e.0 ≡ Some e.1) entries → AreApart (readings_of entries)
 entries_apart entries all = All-map (λ n. reading_of (readings_of entries) n.at ≡ Some n) reading entries (λ k d lt. reading_of-lookup entries (get_or entries k d).0 ∙ ap (option_map (λ one. reading ((get_or entries k d).0, one))) (all k d lt))
+
+-- each entry in a known table has what it had
+abbrev pub EachStood : (List ℕ → Bool) → List PlainRow → Entries → Type 0
+EachStood known rows entries = AllByRecursion (λ entry. IsTrue (known (table_in entry.0)) → HasStood rows (reading entry)) entries
+
+pub each_stood : (known : List ℕ → Bool) (rows : List PlainRow) (entries : Entries) → All (λ e. looked_up entries e.0 ≡ Some e.1) entries → StandWhere known rows (readings_of entries) → EachStood known rows entries
+each_stood known rows entries all stand = recursion_from_All (λ entry. IsTrue (known (table_in entry.0)) → HasStood rows (reading entry)) entries (λ k d lt. at_entry (get_or entries k d) (all k d lt))
+  where
+    at_entry : (entry : Place × ReadPlace) → looked_up entries entry.0 ≡ Some entry.1 → IsTrue (known (table_in entry.0)) → HasStood rows (reading entry)
+    at_entry entry there is_known = subst (λ (o : Option Reading). IfSome o (λ one. (one.is_torn ≡ false) × (one.found ≡ rows_at rows entry.0))) (reading_of-lookup entries entry.0 ∙ ap (option_map (λ one. reading (entry.0, one))) there) (stand entry.0 is_known)

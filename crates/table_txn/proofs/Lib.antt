@@ -4,6 +4,7 @@ pub mod Same
 pub mod FoundLaws
 pub mod ReadingLaws
 pub mod Unchanged
+pub mod Changing
 pub mod Over
 pub mod Picks
 pub mod ScanSteps
@@ -11,3 +12,4 @@ pub mod Counts
 pub mod Statements
 pub mod Running
 pub mod Selects
+pub mod Offered

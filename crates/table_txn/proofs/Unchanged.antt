@@ -14,7 +14,7 @@ use Rattle.stmt_meaning.specs.declared.plan.Plan.{Plan}
 use Rattle.stmt_meaning.specs.meaning.Plans.{place_of}
 use Rattle.table_store.specs.Stored.{Stored}
 use Rattle.table_txn.specs.declared.readings.ReadPlace.{ReadPlace}
-use Rattle.table_txn.specs.Readings.{Reading, reading_of, read_more, HasReadIfAny, AreUnchanged, StayUnchanged}
+use Rattle.table_txn.specs.Readings.{Reading, reading_of, read_more, HasReadIfAny, HasStood, IsUnchangedAt, StayUnchanged, has_changed}
 use Rattle.table_txn.specs.declared.found.Found.{Found}
 use Rattle.table_txn.specs.Found.{is_for, found_rows, reading, readings_of, are_for, HasBefore, IsRead}
 use Rattle.table_txn.specs.InnerSteps.{HasWritten}
@@ -36,17 +36,18 @@ fresh now at (Some one) is = (not_torn now at one is, is.1)
 
 -- what had what it had has it after one more read
 pub stay_unchanged : (now : List PlainRow) (old new : List Reading) (at : Option Place) → HasReadIfAny now old at new → StayUnchanged now old new
-stay_unchanged now old new None same all q = subst (AreUnchanged now) (sym same) all q
-stay_unchanged now old new (Some at) has all q = by_place (cases_Bool (same_place at q))
+stay_unchanged now old new None same q is = subst (λ l. IsUnchangedAt now l q) (sym same) is
+stay_unchanged now old new (Some at) has q is = by_place (cases_Bool (same_place at q))
   where
-    made : Reading
-    made = read_more (reading_of old at) at (rows_at now at)
+    made : Place → Reading
+    made p = read_more (reading_of old p) p (rows_at now p)
 
     by_place : (same_place at q ≡ true) ⊎ (same_place at q ≡ false) → IfSome (reading_of new q) (IsWhole now q)
     by_place (inl here) =
-        subst (λ o. IfSome o (IsWhole now q)) (sym (has q ∙ ap (λ b. cond b (Some made) (reading_of old q)) here))
-        (subst (λ (p : Place). IsWhole now p made) ((same_place_decides at q).0 here) (fresh now at (reading_of old at) (all at)))
-    by_place (inr apart) = subst (λ o. IfSome o (IsWhole now q)) (sym (has q ∙ ap (λ b. cond b (Some made) (reading_of old q)) apart)) (all q)
+        let same : q ≡ at = sym ((same_place_decides at q).0 here) in
+        subst (λ o. IfSome o (IsWhole now q)) (sym (has q ∙ ap (λ b. cond b (Some (made at)) (reading_of old q)) here))
+        (subst (λ p. IsWhole now q (made p)) same (fresh now q (reading_of old q) is))
+    by_place (inr apart) = subst (λ o. IfSome o (IsWhole now q)) (sym (has q ∙ ap (λ b. cond b (Some (made at)) (reading_of old q)) apart)) is
 
 -- a place that was not read, or has what it had, has the same reading after one more
 pub read_as_before : (old new : BTreeMap Place ReadPlace) (at : Place) (one : ReadPlace) (what : Found) → are_for old.entries ≡ true → is_for at what ≡ true → HasBefore what at old.entries
@@ -73,8 +74,12 @@ read_as_before old new at one what all kind before is updated put = record {
         ap Some same
 
 -- what was found where nothing has changed is what is committed
-pub had_before : (now : List PlainRow) (entries : Entries) (at : Place) (what : Found) → AreUnchanged now (readings_of entries) → rows_at now at ≡ found_rows at what → HasBefore what at entries
-had_before now entries at what all stands = subst (λ rows. IfSome (reading_of (readings_of entries) at) (λ before. (before.is_torn ≡ false) × (before.found ≡ rows))) stands (all at)
+pub had_before : (now : List PlainRow) (entries : Entries) (at : Place) (what : Found) → IsUnchangedAt now (readings_of entries) at → rows_at now at ≡ found_rows at what → HasBefore what at entries
+had_before now entries at what is stands = subst (λ rows. IfSome (reading_of (readings_of entries) at) (λ before. (before.is_torn ≡ false) × (before.found ≡ rows))) stands is
+
+-- a reading whose place has what it had has not changed
+pub stood : (now : List PlainRow) (one : Reading) → HasStood now one → has_changed now one ≡ false
+stood now one is = not_torn now one.at one is
 
 -- a plan whose place was read, and then done
 pub worked_unchanged : {E : Type 0} (tables : Stored) (old between new : Transaction) (plan : Plan) (result : Result Answer E) → HasReadIfAny tables.rows old.readings (place_of plan) between.readings

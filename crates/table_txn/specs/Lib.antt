@@ -1,4 +1,6 @@
 pub mod Readings
+pub mod Changes
+pub mod Knowing
 pub mod Transactions
 pub mod Found
 pub mod InnerSteps

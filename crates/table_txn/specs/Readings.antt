@@ -1,7 +1,8 @@
 -- The readings of a transaction: each place that was read stands there once.
-use Rattle.std.specs.Prelude.{◌≡◌, ◌↔◌, Bool, false, not, ◌||◌, List, [], ◌∷◌, Option, Some, None, IfSome, map, filter, find, All, if◌then◌else◌}
+use Rattle.std.specs.Prelude.{◌≡◌, ◌↔◌, ℕ, Bool, false, not, ◌||◌, IsTrue, List, [], ◌∷◌, Option, Some, None, IfSome, map, filter, find, All, if◌then◌else◌}
 use Rattle.svc_values.specs.declared.tables.PlainRow.{PlainRow}
 use Rattle.svc_values.specs.declared.tables.Place.{Place}
+use Rattle.svc_values.specs.declared.tables.Place.TheVariants as place
 use Rattle.svc_values.specs.meaning.Tables.{rows_at}
 use Rattle.svc_values.specs.meaning.Same.{same_rows}
 use Rattle.svc_values.specs.Same.{same_place}
@@ -53,22 +54,42 @@ abbrev pub HasReadIfAny : List PlainRow → List Reading → Option Place → Li
 HasReadIfAny committed old None new = new ≡ old
 HasReadIfAny committed old (Some at) new = HasRead old at (rows_at committed at) new
 
--- each place that was read has what it had at each of its reads
+-- the table of a place
+abbrev pub table_in : Place → List ℕ
+table_in (place.Row table key) = table
+table_in (place.Table table) = table
+
+-- the place of a reading has what it had at each of its reads
+abbrev pub HasStood : List PlainRow → Reading → Type 0
+HasStood now reading = (reading.is_torn ≡ false) × (reading.found ≡ rows_at now reading.at)
+
+-- a place has, if it was read
+abbrev pub IsUnchangedAt : List PlainRow → List Reading → Place → Type 0
+IsUnchangedAt now readings at = IfSome (reading_of readings at)
+    (λ reading. (reading.is_torn ≡ false) × (reading.found ≡ rows_at now at))
+
+-- each place that was read has
 abbrev pub AreUnchanged : List PlainRow → List Reading → Type 0
-AreUnchanged now readings = (at : Place)
-    → IfSome (reading_of readings at) (λ reading. (reading.is_torn ≡ false)
-    × (reading.found ≡ rows_at now at))
+AreUnchanged now readings = (at : Place) → IsUnchangedAt now readings at
+
+-- and each one in these tables
+abbrev pub StandWhere : (List ℕ → Bool) → List PlainRow → List Reading → Type 0
+StandWhere known now readings = (at : Place) → IsTrue (known (table_in at))
+    → IsUnchangedAt now readings at
 
 -- where that was so, it is so with the later readings
 abbrev pub StayUnchanged : List PlainRow → List Reading → List Reading → Type 0
-StayUnchanged now old new = AreUnchanged now old → AreUnchanged now new
+StayUnchanged now old new = (at : Place) → IsUnchangedAt now old at → IsUnchangedAt now new at
 
--- the first place whose reading is torn, or which has other rows now
+-- the reading is torn, or its place has other rows now
+abbrev pub has_changed : List PlainRow → Reading → Bool
+has_changed now reading = reading.is_torn || not (same_rows reading.found (rows_at now reading.at))
+
+-- the first place of which that is so
 abbrev pub first_changed : List PlainRow → List Reading → Option Place
 first_changed now [] = None
 first_changed now (reading ∷ readings) =
-    if reading.is_torn || not (same_rows reading.found (rows_at now reading.at)) then
-    Some reading.at else first_changed now readings
+    if has_changed now reading then Some reading.at else first_changed now readings
 
 -- no place has two readings
 abbrev pub AreApart : List Reading → Type 0

@@ -2,14 +2,16 @@
 ghost use Rattle.std.specs.Prelude.{◌≡◌, ◌||◌, not, true, [], OnOk, OnErr, IsTrue, MatchBool};
 ghost use Rattle.std.specs.Option.{option_copied};
 ghost use Rattle.svc_values.specs.meaning.Tables.{rows_at};
-ghost use Rattle.table_txn.specs.Readings.{HasRead, HasReadIfAny, AreApart, AreUnchanged, first_changed};
-ghost use Rattle.table_txn.specs.Found.{kept, is_for, are_for, same_found, HasBefore, IsRead, IsNotRead};
+ghost use Rattle.table_txn.specs.Knowing.{is_known};
+ghost use Rattle.table_txn.specs.Readings.{HasRead, HasReadIfAny, HasStood, AreApart, IsUnchangedAt, StandWhere, first_changed, has_changed, table_in};
+ghost use Rattle.table_txn.specs.Found.{kept, is_for, are_for, reading, same_found, HasBefore, IsRead, IsNotRead};
 
 use crate::found::{Committed, Found, committed_at};
+use crate::known::Known;
 use std::alloc::Global;
 use std::collections::BTreeMap;
 use std::marker::Model;
-use svc_values::{NoMemory, Place};
+use svc_values::{Name, NoMemory, Place};
 use table_store::Tables;
 
 /// What the first read of a place found, and whether a later one found something else.
@@ -30,6 +32,29 @@ impl ReadPlace {
 }
 
 type ReadPlaces = BTreeMap<Place, ReadPlace>;
+
+fn table_of(at: &Place) -> &Name
+    ensures { result.now ≡ table_in at.now }
+{
+    match at {
+        Place::Row { table, .. } => table,
+        Place::Table { table } => table,
+    }
+}
+
+/// Whether something else was found at a place at a later read, or is committed there now. One that
+/// is known to have what it had is not compared.
+fn has_changed_at(tables: &Tables, known: Known, at: &Place, there: &ReadPlace) -> bool
+    requires kind { is_for at.now there.now.found ≡ true }
+    requires stands { IsTrue (is_known known (table_in at.now))
+        → HasStood tables.now.rows (reading (at.now, there.now)) }
+    ensures { result ≡ has_changed tables.now.rows (reading (at.now, there.now)) }
+{
+    if known.is_known(table_of(at)) {
+        return false;
+    }
+    there.has_changed(committed_at(tables, at))
+}
 
 /// The places that a transaction read.
 #[derive(Drop)]
@@ -107,23 +132,22 @@ impl Readings {
         read_as_before(self.alloc, &mut self.places, at, committed)
     }
 
-    /// Reads a place where each one that was read has what it had: the logarithm of the places and
-    /// of the rows, also for a table that was read before. A reading that was there has the same
-    /// again.
+    /// Reads a place that has what it had, if it was read before: the logarithm of the places and
+    /// of the rows, also for a table. A reading that was there has the same again.
     fn add_unchanged(&mut self, tables: &Tables, at: Place) -> Result<(), NoMemory>
-        requires { AreUnchanged tables.now.rows self.old }
+        requires { IsUnchangedAt tables.now.rows self.old at }
         ensures { OnOk result (HasRead self.old at (rows_at tables.now.rows at) self.new) }
     {
         let committed = committed_at(tables, &at);
         read_as_before(self.alloc, &mut self.places, at, committed)
     }
 
-    /// Reads a place, which is known to have what it had, if it was read before, or is not.
-    fn add_known(&mut self, tables: &Tables, at: Place, is_unchanged: bool) -> Result<(), NoMemory>
-        requires { IsTrue is_unchanged → AreUnchanged tables.now.rows self.old }
+    /// Reads a place. One that is known to have what it had is not compared.
+    fn add_known(&mut self, tables: &Tables, known: Known, at: Place) -> Result<(), NoMemory>
+        requires { StandWhere (is_known known) tables.now.rows self.old }
         ensures { OnOk result (HasRead self.old at (rows_at tables.now.rows at) self.new) }
     {
-        if is_unchanged {
+        if known.is_known(table_of(&at)) {
             self.add_unchanged(tables, at)
         } else {
             self.add(tables, at)
@@ -134,26 +158,28 @@ impl Readings {
     pub(crate) fn add_if_any(
         &mut self,
         tables: &Tables,
+        known: Known,
         at: Option<Place>,
-        is_unchanged: bool,
     ) -> Result<(), NoMemory>
-        requires { IsTrue is_unchanged → AreUnchanged tables.now.rows self.old }
+        requires { StandWhere (is_known known) tables.now.rows self.old }
         ensures { OnOk result (HasReadIfAny tables.now.rows self.old at self.new) }
     {
         match at {
             None => Ok(()),
-            Some(at) => self.add_known(tables, at, is_unchanged),
+            Some(at) => self.add_known(tables, known, at),
         }
     }
 
     /// The first place that has another reading, or where something else is committed now. Linear
-    /// in the places, and in the rows of the tables that were read whole. No memory is taken.
-    pub(crate) fn first_changed(&self, tables: &Tables) -> Option<&Place>
+    /// in the places, and in the rows of the tables that were read whole and are not known to have
+    /// what they had. No memory is taken.
+    pub(crate) fn first_changed(&self, tables: &Tables, known: Known) -> Option<&Place>
+        requires { StandWhere (is_known known) tables.now.rows self.now }
         ensures first { option_copied result ≡ first_changed tables.now.rows self.now }
         ensures apart { AreApart self.now }
     {
         for (at, there) in &self.places {
-            if there.has_changed(committed_at(tables, at)) {
+            if has_changed_at(tables, known, at, there) {
                 return Some(at);
             }
         }

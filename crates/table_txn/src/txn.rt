@@ -11,11 +11,13 @@ ghost use Rattle.stmt_meaning.specs.Drawing.{DrewAll, Ends};
 ghost use Rattle.stmt_meaning.specs.InnerRunning.{one_left};
 ghost use Rattle.stmt_meaning.specs.meaning.Reads.{Read};
 ghost use Rattle.stmt_meaning.specs.Reads.{IsConflict};
-ghost use Rattle.table_txn.specs.Readings.{AreReadings, AreUnchanged, StayUnchanged, HasReadIfAny};
+ghost use Rattle.table_txn.specs.Knowing.{is_known};
+ghost use Rattle.table_txn.specs.Readings.{AreReadings, StandWhere, StayUnchanged, HasReadIfAny};
 ghost use Rattle.table_txn.specs.Transactions.{empty, shape_of, HasRun, HasEnded};
 ghost use Rattle.table_txn.specs.InnerSteps.{HasDone, HasNext, HasWorked, HasWritten};
 
 use crate::effects::effect_on;
+use crate::known::Known;
 use crate::own::OwnWrites;
 use crate::readings::Readings;
 use std::alloc::Global;
@@ -130,17 +132,19 @@ impl Txn {
 
     /// A place that was read and has something else committed now than at the read, or two reads of
     /// which found different things; `None` exactly where there is no such place. Linear in the
-    /// places that were read, and in the rows of the tables that were read whole. No memory is
-    /// taken.
-    pub fn conflicts(&self, tables: &Tables) -> Option<&Place>
+    /// places that were read, and in the rows of the tables that were read whole and are not known
+    /// to have what they had. No memory is taken.
+    pub fn conflicts(&self, tables: &Tables, known: Known) -> Option<&Place>
+        requires { StandWhere (is_known known) tables.now.rows self.now.readings }
         ensures { (reads : List Read) → AreReadings self.now.readings reads
             → IsConflict reads tables.now.rows (option_copied result) }
     {
-        self.readings.first_changed(tables)
+        self.readings.first_changed(tables, known)
     }
 
     /// Runs the statements of a call, each on the committed tables with the transaction's own
-    /// writes over them, up to the first that is refused. A refusal takes the call's writes back;
+    /// writes over them, up to the first that is refused. What was read before is compared where it
+    /// is not known to have what it had. A refusal takes the call's writes back;
     /// what was read and drawn stays so. A statement on one row takes the logarithm of the rows and
     /// of the transaction's writes; one on a whole table is linear in its rows and in the
     /// transaction's own of that table. After a fault some of the statements may have run: what is
@@ -148,64 +152,13 @@ impl Txn {
     pub fn run<F: DrawFrom>(
         &mut self,
         tables: &Tables,
+        known: Known,
         settings: &Settings,
         statements: &Statements,
         draws: &mut F,
     ) -> Result<Ran, TxnFault>
         requires fits { IsTrue (writes_fit tables.now.schemas self.old.writes) }
-        requires ready { F.is_ready draws.old }
-        ensures ran { IfOk result (λ ran. HasRun tables.now (F.names draws.old) settings.now
-            self.old statements.now ran.answers ran.draws self.new
-            × DrewAll F.drew draws.old ran.draws draws.new) }
-        ensures ended { IfErr result (λ ended. HasEnded tables.now (F.names draws.old) settings.now
-            self.old statements.now F.drew draws.old ended draws.new) }
-        ensures fits { OnOk result (IsTrue (writes_fit tables.now.schemas self.new.writes)) }
-        ensures unchanged { OnOk result (StayUnchanged tables.now.rows self.old.readings
-            self.new.readings) }
-        ensures names { F.names draws.new ≡ F.names draws.old }
-        ensures ready { F.is_ready draws.new }
-    {
-        self.run_on(tables, settings, statements, draws, false)
-    }
-
-    /// The same where each place that was read has what it had, as in a session beside which none
-    /// committed since: a table that was read before is not compared.
-    pub fn run_unchanged<F: DrawFrom>(
-        &mut self,
-        tables: &Tables,
-        settings: &Settings,
-        statements: &Statements,
-        draws: &mut F,
-    ) -> Result<Ran, TxnFault>
-        requires fits { IsTrue (writes_fit tables.now.schemas self.old.writes) }
-        requires unchanged { AreUnchanged tables.now.rows self.old.readings }
-        requires ready { F.is_ready draws.old }
-        ensures ran { IfOk result (λ ran. HasRun tables.now (F.names draws.old) settings.now
-            self.old statements.now ran.answers ran.draws self.new
-            × DrewAll F.drew draws.old ran.draws draws.new) }
-        ensures ended { IfErr result (λ ended. HasEnded tables.now (F.names draws.old) settings.now
-            self.old statements.now F.drew draws.old ended draws.new) }
-        ensures fits { OnOk result (IsTrue (writes_fit tables.now.schemas self.new.writes)) }
-        ensures unchanged { OnOk result (StayUnchanged tables.now.rows self.old.readings
-            self.new.readings) }
-        ensures names { F.names draws.new ≡ F.names draws.old }
-        ensures ready { F.is_ready draws.new }
-    {
-        self.run_on(tables, settings, statements, draws, true)
-    }
-
-    /// Runs the statements on tables in which each place that was read is known to have what it
-    /// had, or is not.
-    fn run_on<F: DrawFrom>(
-        &mut self,
-        tables: &Tables,
-        settings: &Settings,
-        statements: &Statements,
-        draws: &mut F,
-        is_unchanged: bool,
-    ) -> Result<Ran, TxnFault>
-        requires fits { IsTrue (writes_fit tables.now.schemas self.old.writes) }
-        requires unchanged { IsTrue is_unchanged → AreUnchanged tables.now.rows self.old.readings }
+        requires stands { StandWhere (is_known known) tables.now.rows self.old.readings }
         requires ready { F.is_ready draws.old }
         ensures ran { IfOk result (λ ran. HasRun tables.now (F.names draws.old) settings.now
             self.old statements.now ran.answers ran.draws self.new
@@ -225,10 +178,10 @@ impl Txn {
         for statement in statements.as_slice() {
             let is_refused = self.run_next(
                 tables,
+                known,
                 settings,
                 statement,
                 draws,
-                is_unchanged,
                 &mut answers,
                 &mut drawn,
             )?;
@@ -259,17 +212,17 @@ impl Txn {
     fn run_next<F: DrawFrom>(
         &mut self,
         tables: &Tables,
+        known: Known,
         settings: &Settings,
         statement: &Statement,
         source: &mut F,
-        is_unchanged: bool,
         answers: &mut Vec<Answer>,
         drawn: &mut Vec<Draw>,
     ) -> Result<bool, TxnFault>
         requires ordered { AreTables tables.now.rows }
         requires fits { IsTrue (tables_fit tables.now.schemas
             (with_writes tables.now.rows self.old.writes)) }
-        requires unchanged { IsTrue is_unchanged → AreUnchanged tables.now.rows self.old.readings }
+        requires stands { StandWhere (is_known known) tables.now.rows self.old.readings }
         requires ready { F.is_ready source.old }
         ensures done { IfOk result (λ is_refused. HasNext F.drew tables.now (F.names source.old)
             settings.now self.old statement.now source.old answers.old.items drawn.old.items
@@ -283,7 +236,7 @@ impl Txn {
         ensures names { F.names source.new ≡ F.names source.old }
         ensures ready { F.is_ready source.new }
     {
-        let answer = self.run_statement(tables, settings, statement, source, is_unchanged, drawn)?;
+        let answer = self.run_statement(tables, known, settings, statement, source, drawn)?;
         let is_refused = is_refusal(&answer);
         answers.push(answer)?;
         Ok(is_refused)
@@ -293,16 +246,16 @@ impl Txn {
     fn run_statement<F: DrawFrom>(
         &mut self,
         tables: &Tables,
+        known: Known,
         settings: &Settings,
         statement: &Statement,
         source: &mut F,
-        is_unchanged: bool,
         drawn: &mut Vec<Draw>,
     ) -> Result<Answer, TxnFault>
         requires ordered { AreTables tables.now.rows }
         requires fits { IsTrue (tables_fit tables.now.schemas
             (with_writes tables.now.rows self.old.writes)) }
-        requires unchanged { IsTrue is_unchanged → AreUnchanged tables.now.rows self.old.readings }
+        requires stands { StandWhere (is_known known) tables.now.rows self.old.readings }
         requires ready { F.is_ready source.old }
         ensures done { IfOk result (λ answer. (one : OneDone)
             × ((answer ≡ one.answer) × HasDone F.drew tables.now (F.names source.old) settings.now
@@ -319,42 +272,37 @@ impl Txn {
     {
         let schemas = tables.schemas().as_slice();
         match plan_of(self.alloc, schemas, settings, statement, source, drawn) {
-            Ok(plan) => Ok(self.work(tables, plan, is_unchanged)?),
+            Ok(plan) => Ok(self.work(tables, known, plan)?),
             Err(Stop::Refused(fault)) => Ok(Answer::Refused(fault)),
             Err(Stop::Ended(fault)) => Err(fault),
         }
     }
 
     /// Reads the place of a plan, and does it.
-    fn work(&mut self, tables: &Tables, plan: Plan, is_unchanged: bool) -> Result<Answer, NoMemory>
+    fn work(&mut self, tables: &Tables, known: Known, plan: Plan) -> Result<Answer, NoMemory>
         requires ordered { AreTables tables.now.rows }
         requires fits { IsTrue (tables_fit tables.now.schemas
             (with_writes tables.now.rows self.old.writes)) }
-        requires unchanged { IsTrue is_unchanged → AreUnchanged tables.now.rows self.old.readings }
+        requires stands { StandWhere (is_known known) tables.now.rows self.old.readings }
         ensures worked { IfOk result (λ answer. HasWorked tables.now self.old plan answer
             self.new) }
         ensures unchanged { OnOk result (StayUnchanged tables.now.rows self.old.readings
             self.new.readings) }
     {
-        self.read_place(tables, &plan, is_unchanged)?;
+        self.read_place(tables, known, &plan)?;
         self.do_plan(tables, plan)
     }
 
     /// Reads the place of a plan: what is committed there.
-    fn read_place(
-        &mut self,
-        tables: &Tables,
-        plan: &Plan,
-        is_unchanged: bool,
-    ) -> Result<(), NoMemory>
-        requires { IsTrue is_unchanged → AreUnchanged tables.now.rows self.old.readings }
+    fn read_place(&mut self, tables: &Tables, known: Known, plan: &Plan) -> Result<(), NoMemory>
+        requires { StandWhere (is_known known) tables.now.rows self.old.readings }
         ensures read { OnOk result (HasReadIfAny tables.now.rows self.old.readings
             (place_of plan.now) self.new.readings) }
         ensures writes { self.new.writes ≡ self.old.writes }
         ensures pieces { self.new.pieces ≡ self.old.pieces }
     {
         let place = plan.place(self.alloc)?;
-        self.readings.add_if_any(tables, place, is_unchanged)
+        self.readings.add_if_any(tables, known, place)
     }
 
     /// Does a plan, on the committed tables with the transaction's own writes over them.

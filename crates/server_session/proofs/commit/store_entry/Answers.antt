@@ -29,9 +29,17 @@ returns-in_err-commit g c =
     let p = err_from_is_err_and c.from_residual-in_err-commit.result c.from_residual-in_err-commit.ensures.1 in
     rw (p.1, p.2) (lacks_with c.commit.new.self (state c.args.disk.now) (state c.commit.new.disk) one adds)
 
+pub returns-in_err-note : goal.returns-in_err-note
+returns-in_err-note g c =
+    let state = g.D.Disk.state in
+    let one = kept.Commit c.args.entry.now in
+    let adds = was_added c.commit.new.self (state c.args.disk.now) (state c.commit.new.disk) one c.commit.result (sym c.in_ok-stored.was ∙ c.stored.ensures) c.commit.ensures in
+    let p = err_from_is_err_and c.from_residual-in_err-note.result c.from_residual-in_err-note.ensures.1 in
+    rw (p.1, p.2) (lacks_with c.commit.new.self (state c.args.disk.now) (state c.commit.new.disk) one adds)
+
 pub returns : goal.returns
 returns g c =
     let state = g.D.Disk.state in
     let one = kept.Commit c.args.entry.now in
     let adds = was_added c.commit.new.self (state c.args.disk.now) (state c.commit.new.disk) one c.commit.result (sym c.in_ok-stored.was ∙ c.stored.ensures) c.commit.ensures in
-    commit_stores c.args.core.now (state c.args.disk.now) c.args.entry.now c.apply.new.self c.counted-core.result c.commit-2.new.self c.commit.new.self (state c.commit.new.disk) c.requires.fits c.requires.may c.in_ok-commit.ensures.ok c.in_ok-apply.ensures.ok c.counted-core.ensures.counted c.counted-core.ensures.rises adds
+    commit_stores c.args.core.now (state c.args.disk.now) c.args.entry.now c.apply.new.self c.note.new.self c.commit-2.new.self c.commit.new.self (state c.commit.new.disk) c.requires.fits c.requires.may c.in_ok-commit.ensures.ok c.in_ok-apply.ensures.ok c.schemas.ensures.kept.ordered c.in_ok-note.ensures adds

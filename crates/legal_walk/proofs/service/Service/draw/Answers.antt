@@ -14,5 +14,5 @@ returns c =
       holds = λ base walk beside. draws_are service p kept is base walk beside c.in_ok-are_right.are_right c.in_ok-are_right.ensures.right;
       moves = λ base walk beside. drawn_beside service p kept is base walk beside c.draw.new.self c.in_ok-are_right.ensures.after;
       tables = refl;
-      commits = refl;
+      changes = refl;
     }

@@ -87,4 +87,4 @@ returns c = λ base walk walks.
     (answered old p one ran noted answers found goes since is_noted base walk walks) (goes_after old p one ran noted answers found goes since is_noted base walk walks).goes in
     serves old p one ran noted answers found goes since is_noted base walk walks (sym c.if-not-branch.false ∙ right_is) (sym c.if-not-branch-2.false ∙ c.in_ok-draw.ensures.holds base walk walks.beside)
     c.take-ongoing.new.self c.put.new.self c.draw.new.self c.settle.new.self c.in_ok-ongoing.ongoing c.take-ongoing.ensures.others (c.in_ok-draw.ensures.moves base walk walks.beside) c.in_ok-draw.ensures.tables
-    c.in_ok-draw.ensures.commits c.in_ok-ongoing.ensures.moves c.in_ok-ongoing.ensures.after c.in_ok-put.ensures
+    c.in_ok-draw.ensures.changes c.in_ok-ongoing.ensures.moves c.in_ok-ongoing.ensures.after c.in_ok-put.ensures

@@ -6,6 +6,7 @@ use Rattle.svc_values.specs.declared.frame.Down.TheVariants as down
 use Rattle.svc_values.specs.declared.frame.Up.TheVariants as up
 use Rattle.svc_values.specs.meaning.Calls.{sequences_in}
 use Rattle.svc_values.specs.meaning.Endings.{ends_committed}
+use Rattle.table_txn.specs.Changes.{begun_at}
 use Rattle.server_model.specs.Sessions.{piece_of}
 use Rattle.server_session.specs.Dealing.{AtDesk}
 use Rattle.server_session.specs.Fits.{Belongs}
@@ -54,7 +55,7 @@ commit-requires g c =
     let desk : AtDesk = record { opening = c.run_over.new.source; left = c.run_over.new.kept; log = c.run_over.new.log; disk = state c.run_over.new.disk } in
     let over = subst (λ (s : SeenSession). HasRunOver c.args.now (ground_of core s statements) (start_at core c.in_ok-left.left disk) c.in_ok-answers.field-0 c.run_over.new.txn desk) c.self.view_is c.in_ok-answers.ensures in
     let answers = c.in_ok-answers-2.answers in
-    let same = seen_is core _ old c.run_over.new.txn c.or-self-inside.result c.self.view_is c.or-self-inside.ensures in
+    let same = seen_is core _ old c.run_over.new.txn c.or-self-inside.result c.self.view_is (c.or-self-inside.ensures ∙ ap (begun_at c.self.inside.since) c.commits.ensures) in
     record {
       fits = work_fits statements c.args.commit c.args.replay c.args.kept.now c.args.now old core disk c.requires.fits c.requires.belongs c.args.call.now c.requires.call c.in_ok-left.left c.in_ok-left.ensures
           c.in_ok-answers.field-0 c.run_over.new.txn desk over answers c.in_ok-answers-2.ensures;
@@ -75,7 +76,7 @@ returns-then-ends_committed g c =
     let over = subst (λ (s : SeenSession). HasRunOver c.args.now (ground_of core s statements) (start_at core c.in_ok-left.left disk) c.in_ok-answers.field-0 c.run_over.new.txn desk) c.self.view_is c.in_ok-answers.ensures in
     let answers = c.in_ok-answers-2.answers in
     let ends : ends_committed answers ≡ true = ap ends_committed (sym c.as_slice.ensures) ∙ (sym c.ends_committed.ensures ∙ c.if-ends_committed.true) in
-    let same = seen_is core _ old c.run_over.new.txn c.or-self-inside.result c.self.view_is c.or-self-inside.ensures in
+    let same = seen_is core _ old c.run_over.new.txn c.or-self-inside.result c.self.view_is (c.or-self-inside.ensures ∙ ap (begun_at c.self.inside.since) c.commits.ensures) in
     let served = subst (λ (s : SeenSession). Serves (commits_as c.args.replay c.args.call.now answers c.in_ok-answers.field-0.draws) 1 c.commit.result s (core_after core desk) desk.disk c.commit.new.self c.commit.new.core (state c.commit.new.disk)) same c.commit.ensures in
     work_committed statements c.args.commit c.args.replay c.args.kept.now c.args.now old core disk c.requires.fits c.requires.belongs c.args.call.now c.requires.call c.in_ok-left.left c.in_ok-left.ensures
     c.in_ok-answers.field-0 c.run_over.new.txn desk over answers c.in_ok-answers-2.ensures
@@ -107,7 +108,7 @@ returns g c =
     let answers = c.in_ok-answers-2.answers in
     let draws = c.in_ok-answers.field-0.draws in
     let open_still : ends_committed answers ≡ false = ap ends_committed (sym c.as_slice.ensures) ∙ (sym c.ends_committed.ensures ∙ c.if-ends_committed.false) in
-    let same = seen_is core _ old c.run_over.new.txn c.or-self-inside.result c.self.view_is c.or-self-inside.ensures in
+    let same = seen_is core _ old c.run_over.new.txn c.or-self-inside.result c.self.view_is (c.or-self-inside.ensures ∙ ap (begun_at c.self.inside.since) c.commits.ensures) in
     let seen = c.in_ok-told.ensures.seen ∙ ap (λ (s : SeenSession). noting s (piece_of c.args.call.now answers draws)) same in
     let said = c.in_ok-told.ensures.told ∙ ap (λ (s : SeenSession). down.Reply answers draws s.ltxid) same in
     work_answered statements c.args.commit c.args.replay c.args.kept.now c.args.now old core disk c.requires.fits c.requires.belongs c.args.call.now c.requires.call c.in_ok-left.left c.in_ok-left.ensures

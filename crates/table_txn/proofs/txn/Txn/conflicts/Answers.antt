@@ -1,9 +1,13 @@
-use Rattle.std.proofs.Common.{ap, subst, ◌∙◌}
+use Rattle.std.proofs.Common.{ap, subst, sym, ◌∙◌}
 use Rattle.std.specs.Option.{option_copied}
-use Rattle.table_txn.specs.Readings.{AreApart, first_changed}
+use Rattle.table_txn.specs.Knowing.{is_known}
+use Rattle.table_txn.specs.Readings.{AreApart, StandWhere, first_changed}
 use Rattle.table_txn.specs.Transactions.{Transaction}
 use Rattle.table_txn.proofs.ReadingLaws.{tells_conflict}
 use Rattle.table_txn.proofs.txn.Txn.conflicts.Goals as goal
+
+pub first_changed-requires : goal.first_changed-requires
+first_changed-requires c = subst (λ (t : Transaction). StandWhere (is_known c.args.known) c.args.tables.now.rows t.readings) (sym c.self.view_is) c.requires
 
 pub returns : goal.returns
 returns c =

@@ -2,7 +2,7 @@ use Rattle.std.proofs.Common.{◌≡◌, true, drop}
 use Rattle.svc_values.specs.meaning.Fitting.{writes_fit}
 use Rattle.table_txn.specs.Readings.{StayUnchanged}
 use Rattle.table_txn.proofs.Running.{SoFar}
-use Rattle.table_txn.proofs.txn.Txn.run_on.Given as goal
+use Rattle.table_txn.proofs.txn.Txn.run.Given as goal
 
 abbrev pub invariant-loop-statement : goal.invariant-loop-statement
 invariant-loop-statement g l = record {
