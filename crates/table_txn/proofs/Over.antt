@@ -13,7 +13,10 @@ use Rattle.stmt_meaning.specs.meaning.Meaning.{seen_at}
 use Rattle.table_store.specs.Rows.{row_if_any}
 use Rattle.table_store.specs.Shelves.{is_place}
 use Rattle.table_store.proofs.Offered.{at_place, own_place, filter_with_write, with_writes-last}
-use Rattle.table_txn.specs.Own.{last_at, last_write}
+use Rattle.table_txn.specs.declared.found.Committed.{Committed}
+use Rattle.table_txn.specs.declared.found.Committed.TheVariants as committed
+use Rattle.table_txn.specs.Found.{row_in, IsFoundIfAny}
+use Rattle.table_txn.specs.Own.{last_at, last_write, row_over}
 use Rattle.table_txn.proofs.OwnLaws.{last_at-push, place_is, own_place as is_own, at_end}
 
 -- what holds of no write, and of one more, holds of all
@@ -97,11 +100,17 @@ first_if_any : (table : List ℕ) (key : Value) (row : Option (List Value)) → 
 first_if_any table key None = refl
 first_if_any table key (Some row) = refl
 
--- the row that a transaction sees at a key: where it wrote, and where it did not
-pub row_written : (rows : List PlainRow) (table : List ℕ) (key : Value) (writes : List Write) (write : Write) → Some write ≡ last_write writes table key → write.row ≡ first_of (seen_at (with_writes rows writes) (Some (place.Row table key)))
-row_written rows table key writes write is =
-    first_if_any table key write.row ∙ ap (λ l. first_of (map (λ one. one.row) l)) (ap (stands rows table key) is ∙ sym (over_row rows table key writes))
+-- the row that a transaction sees at a key: that of its last write, or the committed one
+pub row_seen : (rows : List PlainRow) (table : List ℕ) (key : Value) (writes : List Write) (row : Option (List Value)) → rows_at rows (place.Row table key) ≡ row_if_any table key row
+    → row_over (last_write writes table key) row ≡ first_of (seen_at (with_writes rows writes) (Some (place.Row table key)))
+row_seen rows table key writes row there = by_write (last_write writes table key) refl
+  where
+    by_write : (last : Option Write) → last_write writes table key ≡ last → row_over last row ≡ first_of (seen_at (with_writes rows writes) (Some (place.Row table key)))
+    by_write None is = first_if_any table key row ∙ ap (λ l. first_of (map (λ one. one.row) l)) (sym there ∙ ap (stands rows table key) (sym is) ∙ sym (over_row rows table key writes))
+    by_write (Some write) is = first_if_any table key write.row ∙ ap (λ l. first_of (map (λ one. one.row) l)) (ap (stands rows table key) (sym is) ∙ sym (over_row rows table key writes))
 
-pub row_committed : (rows : List PlainRow) (table : List ℕ) (key : Value) (writes : List Write) (row : Option (List Value)) → None ≡ last_write writes table key → rows_at rows (place.Row table key) ≡ row_if_any table key row → row ≡ first_of (seen_at (with_writes rows writes) (Some (place.Row table key)))
-row_committed rows table key writes row is there =
-    first_if_any table key row ∙ ap (λ l. first_of (map (λ one. one.row) l)) (sym there ∙ ap (stands rows table key) is ∙ sym (over_row rows table key writes))
+-- what is committed at the place of a row is its row
+pub row_found : (rows : List PlainRow) (table : List ℕ) (key : Value) (what : Option Committed) → IsFoundIfAny rows (Some (place.Row table key)) what → rows_at rows (place.Row table key) ≡ row_if_any table key (row_in what)
+row_found rows table key None is = absurd is
+row_found rows table key (Some (committed.Row row)) is = is.stands
+row_found rows table key (Some (committed.Table held)) is = absurd (let clash : false ≡ true = is.kind in cc)

@@ -16,12 +16,12 @@ use Rattle.table_store.specs.Stored.{Stored}
 use Rattle.table_txn.specs.declared.readings.ReadPlace.{ReadPlace}
 use Rattle.table_txn.specs.Readings.{Reading, reading_of, read_more, HasReadIfAny, HasStood, IsUnchangedAt, StayUnchanged, has_changed}
 use Rattle.table_txn.specs.declared.found.Found.{Found}
-use Rattle.table_txn.specs.Found.{is_for, found_rows, reading, readings_of, are_for, HasBefore, IsRead}
+use Rattle.table_txn.specs.Found.{is_for, found_rows, reading, are_for, HasBefore, IsRead}
 use Rattle.table_txn.specs.InnerSteps.{HasWritten}
 use Rattle.table_txn.specs.Transactions.{Transaction}
 use Rattle.table_txn.proofs.Same.{same_place_decides, same_rows_decide}
 use Rattle.table_txn.proofs.ReadingLaws.{or_none}
-use Rattle.table_txn.proofs.FoundLaws.{Entries, looked_up, reading_of-lookup, has_read, insert_fits}
+use Rattle.table_txn.proofs.FoundLaws.{looked_up, reading_of-lookup, has_read, insert_fits}
 
 abbrev IsWhole : List PlainRow → Place → Reading → Type 0
 IsWhole now at one = (one.is_torn ≡ false) × (one.found ≡ rows_at now at)
@@ -72,10 +72,6 @@ read_as_before old new at one what all kind before is updated put = record {
         let torn : (n.is_torn || not (same_rows (found_rows at n.found) rows)) ≡ false = or_none n.is_torn (not (same_rows (found_rows at n.found) rows)) is.0 (ap not ((same_rows_decide (found_rows at n.found) rows).1 is.1)) in
         let same : reading (at, record { found = what; is_torn = false }) ≡ read_more (Some (reading (at, n))) at rows = λ i. record { at = at; found = sym is.1 i; is_torn = sym torn i } in
         ap Some same
-
--- what was found where nothing has changed is what is committed
-pub had_before : (now : List PlainRow) (entries : Entries) (at : Place) (what : Found) → IsUnchangedAt now (readings_of entries) at → rows_at now at ≡ found_rows at what → HasBefore what at entries
-had_before now entries at what is stands = subst (λ rows. IfSome (reading_of (readings_of entries) at) (λ before. (before.is_torn ≡ false) × (before.found ≡ rows))) stands is
 
 -- a reading whose place has what it had has not changed
 pub stood : (now : List PlainRow) (one : Reading) → HasStood now one → has_changed now one ≡ false

@@ -1,5 +1,5 @@
 -- What is found at a place, as it is kept: one row or none, or the rows of a table.
-use Rattle.std.specs.Prelude.{◌≡◌, Bool, true, false, List, [], Option, Some, None, IfSome, map}
+use Rattle.std.specs.Prelude.{◌≡◌, Bool, true, false, List, [], Option, Some, None, map}
 use Rattle.std.specs.List.{list_all}
 use Rattle.std.specs.Cmp.Lexicographic.{pointwise}
 use Rattle.std.specs.Option.{option_copied}
@@ -16,7 +16,7 @@ use Rattle.table_txn.specs.declared.found.Found.TheVariants as found
 use Rattle.table_txn.specs.declared.found.Committed.{Committed}
 use Rattle.table_txn.specs.declared.found.Committed.TheVariants as committed
 use Rattle.table_txn.specs.declared.readings.ReadPlace.{ReadPlace}
-use Rattle.table_txn.specs.Readings.{Reading, reading_of, HasRead}
+use Rattle.table_txn.specs.Readings.{Reading, reading_of, HadThere, HasRead}
 
 -- a row stands for the place of a row, and the rows of a table for a table
 abbrev pub is_for : Place → Found → Bool
@@ -55,6 +55,18 @@ pub record IsFoundAt (rows : List PlainRow) (at : Place) (what : Found) : Type 0
   pub kind : is_for at what ≡ true
   pub stands : rows_at rows at ≡ found_rows at what
 
+-- and if there is no place, nothing is
+abbrev pub IsFoundIfAny : List PlainRow → Option Place → Option Committed → Type 0
+IsFoundIfAny rows None None = Unit {0}
+IsFoundIfAny rows None (Some what) = ⊥
+IsFoundIfAny rows (Some at) None = ⊥
+IsFoundIfAny rows (Some at) (Some what) = IsFoundAt rows at (kept what)
+
+-- the row of what is committed at the place of a row
+abbrev pub row_in : Option Committed → Option (List Value)
+row_in (Some (committed.Row row)) = option_copied row
+row_in _ = None
+
 -- readings as they are kept, by place
 abbrev pub reading : Place × ReadPlace → Reading
 reading entry = record {
@@ -78,8 +90,7 @@ pub record IsRead (old : List (Place × ReadPlace)) (at : Place) (what : Found)
 
 -- a place that was not read, or has what it had at each of its reads
 abbrev pub HasBefore : Found → Place → List (Place × ReadPlace) → Type 0
-HasBefore what at entries = IfSome (reading_of (readings_of entries) at)
-    (λ before. (before.is_torn ≡ false) × (before.found ≡ found_rows at what))
+HasBefore what at entries = HadThere (readings_of entries) at (found_rows at what)
 
 -- a place without a reading, and nothing has changed
 pub record IsNotRead (old : List (Place × ReadPlace)) (at : Place)

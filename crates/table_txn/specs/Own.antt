@@ -28,6 +28,11 @@ last_at writes table key = last_from 0 writes table key
 abbrev pub last_write : List Write → List ℕ → Value → Option Write
 last_write writes table key = option_and_then (slice_get writes) (last_at writes table key)
 
+-- the row after the last write, if there was one
+abbrev pub row_over : Option Write → Option (List Value) → Option (List Value)
+row_over None row = row
+row_over (Some write) row = write.row
+
 -- the places by key of one table
 abbrev pub Keys : Type 0
 Keys = BTreeMap Value ℕ

@@ -63,10 +63,14 @@ table_in (place.Table table) = table
 abbrev pub HasStood : List PlainRow → Reading → Type 0
 HasStood now reading = (reading.is_torn ≡ false) × (reading.found ≡ rows_at now reading.at)
 
--- a place has, if it was read
+-- a place had these rows at each of its reads, if it was read
+abbrev pub HadThere : List Reading → Place → List PlainRow → Type 0
+HadThere readings at rows = IfSome (reading_of readings at)
+    (λ reading. (reading.is_torn ≡ false) × (reading.found ≡ rows))
+
+-- it has them now
 abbrev pub IsUnchangedAt : List PlainRow → List Reading → Place → Type 0
-IsUnchangedAt now readings at = IfSome (reading_of readings at)
-    (λ reading. (reading.is_torn ≡ false) × (reading.found ≡ rows_at now at))
+IsUnchangedAt now readings at = HadThere readings at (rows_at now at)
 
 -- each place that was read has
 abbrev pub AreUnchanged : List PlainRow → List Reading → Type 0

@@ -1,10 +1,9 @@
 //! What a transaction read.
-ghost use Rattle.std.specs.Prelude.{◌≡◌, ◌||◌, not, true, [], OnOk, OnErr, IsTrue, MatchBool};
+ghost use Rattle.std.specs.Prelude.{◌≡◌, ◌||◌, not, true, [], OnOk, OnErr, IfOk, IsTrue, MatchBool};
 ghost use Rattle.std.specs.Option.{option_copied};
-ghost use Rattle.svc_values.specs.meaning.Tables.{rows_at};
 ghost use Rattle.table_txn.specs.Knowing.{is_known};
-ghost use Rattle.table_txn.specs.Readings.{HasRead, HasReadIfAny, HasStood, AreApart, IsUnchangedAt, StandWhere, first_changed, has_changed, table_in};
-ghost use Rattle.table_txn.specs.Found.{kept, is_for, are_for, reading, same_found, HasBefore, IsRead, IsNotRead};
+ghost use Rattle.table_txn.specs.Readings.{HasRead, HasReadIfAny, HasStood, HadThere, AreApart, StandWhere, first_changed, has_changed, table_in};
+ghost use Rattle.table_txn.specs.Found.{kept, is_for, are_for, found_rows, reading, same_found, HasBefore, IsFoundIfAny, IsRead, IsNotRead};
 
 use crate::found::{Committed, Found, committed_at};
 use crate::known::Known;
@@ -120,54 +119,64 @@ impl Readings {
         }
     }
 
-    /// Reads what is committed at a place: the logarithm of the places and of the rows, and for a
-    /// table that was read before, linear in its rows.
-    fn add(&mut self, tables: &Tables, at: Place) -> Result<(), NoMemory>
-        ensures { OnOk result (HasRead self.old at (rows_at tables.now.rows at) self.new) }
+    /// Reads what is committed at a place: the logarithm of the places, and for a table that was
+    /// read before, linear in its rows.
+    fn add(&mut self, at: Place, committed: Committed) -> Result<(), NoMemory>
+        requires { is_for at (kept committed) ≡ true }
+        ensures { OnOk result
+            (HasRead self.old at (found_rows at (kept committed.entry)) self.new) }
     {
-        let committed = committed_at(tables, &at);
         if read_again(&mut self.places, &at, committed) {
             return Ok(());
         }
         read_as_before(self.alloc, &mut self.places, at, committed)
     }
 
-    /// Reads a place that has what it had, if it was read before: the logarithm of the places and
-    /// of the rows, also for a table. A reading that was there has the same again.
-    fn add_unchanged(&mut self, tables: &Tables, at: Place) -> Result<(), NoMemory>
-        requires { IsUnchangedAt tables.now.rows self.old at }
-        ensures { OnOk result (HasRead self.old at (rows_at tables.now.rows at) self.new) }
+    /// Reads a place that has what it had, if it was read before: the logarithm of the places, also
+    /// for a table. A reading that was there has the same again.
+    fn add_unchanged(&mut self, at: Place, committed: Committed) -> Result<(), NoMemory>
+        requires kind { is_for at (kept committed) ≡ true }
+        requires had { HadThere self.old at (found_rows at (kept committed)) }
+        ensures { OnOk result
+            (HasRead self.old at (found_rows at (kept committed.entry)) self.new) }
     {
-        let committed = committed_at(tables, &at);
         read_as_before(self.alloc, &mut self.places, at, committed)
     }
 
     /// Reads a place. One that is known to have what it had is not compared.
-    fn add_known(&mut self, tables: &Tables, known: Known, at: Place) -> Result<(), NoMemory>
-        requires { StandWhere (is_known known) tables.now.rows self.old }
-        ensures { OnOk result (HasRead self.old at (rows_at tables.now.rows at) self.new) }
+    fn add_known(&mut self, known: Known, at: Place, committed: Committed) -> Result<(), NoMemory>
+        requires kind { is_for at (kept committed) ≡ true }
+        requires had { IsTrue (is_known known (table_in at))
+            → HadThere self.old at (found_rows at (kept committed)) }
+        ensures { OnOk result
+            (HasRead self.old at (found_rows at (kept committed.entry)) self.new) }
     {
         if known.is_known(table_of(&at)) {
-            self.add_unchanged(tables, at)
+            self.add_unchanged(at, committed)
         } else {
-            self.add(tables, at)
+            self.add(at, committed)
         }
     }
 
-    /// Reads a place, if there is one.
-    pub(crate) fn add_if_any(
+    /// Reads a place, if there is one, and gives what is committed there: the logarithm of the rows
+    /// and of the places, and for a table that was read before and is not known to have what it
+    /// had, linear in its rows.
+    pub(crate) fn add_if_any<'t>(
         &mut self,
-        tables: &Tables,
+        tables: &'t Tables,
         known: Known,
         at: Option<Place>,
-    ) -> Result<(), NoMemory>
+    ) -> Result<Option<Committed<'t>>, NoMemory>
         requires { StandWhere (is_known known) tables.now.rows self.old }
-        ensures { OnOk result (HasReadIfAny tables.now.rows self.old at self.new) }
+        ensures read { OnOk result (HasReadIfAny tables.now.rows self.old at self.new) }
+        ensures found { IfOk result (IsFoundIfAny tables.now.rows at) }
     {
-        match at {
-            None => Ok(()),
-            Some(at) => self.add_known(tables, known, at),
-        }
+        let Some(at) = at else {
+            return Ok(None);
+        };
+        let committed = committed_at(tables, &at);
+        self.add_known(known, at, committed)?;
+        Ok(Some(committed))
     }
 
     /// The first place that has another reading, or where something else is committed now. Linear

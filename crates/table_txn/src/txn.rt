@@ -13,10 +13,12 @@ ghost use Rattle.stmt_meaning.specs.meaning.Reads.{Read};
 ghost use Rattle.stmt_meaning.specs.Reads.{IsConflict};
 ghost use Rattle.table_txn.specs.Knowing.{is_known};
 ghost use Rattle.table_txn.specs.Readings.{AreReadings, StandWhere, StayUnchanged, HasReadIfAny};
+ghost use Rattle.table_txn.specs.Found.{IsFoundIfAny};
 ghost use Rattle.table_txn.specs.Transactions.{empty, shape_of, HasRun, HasEnded};
 ghost use Rattle.table_txn.specs.InnerSteps.{HasDone, HasNext, HasWorked, HasWritten};
 
 use crate::effects::effect_on;
+use crate::found::Committed;
 use crate::known::Known;
 use crate::own::OwnWrites;
 use crate::readings::Readings;
@@ -289,15 +291,21 @@ impl Txn {
         ensures unchanged { OnOk result (StayUnchanged tables.now.rows self.old.readings
             self.new.readings) }
     {
-        self.read_place(tables, known, &plan)?;
-        self.do_plan(tables, plan)
+        let committed = self.read_place(tables, known, &plan)?;
+        self.do_plan(tables, committed, plan)
     }
 
-    /// Reads the place of a plan: what is committed there.
-    fn read_place(&mut self, tables: &Tables, known: Known, plan: &Plan) -> Result<(), NoMemory>
+    /// Reads the place of a plan, and gives what is committed there.
+    fn read_place<'t>(
+        &mut self,
+        tables: &'t Tables,
+        known: Known,
+        plan: &Plan,
+    ) -> Result<Option<Committed<'t>>, NoMemory>
         requires { StandWhere (is_known known) tables.now.rows self.old.readings }
         ensures read { OnOk result (HasReadIfAny tables.now.rows self.old.readings
             (place_of plan.now) self.new.readings) }
+        ensures found { IfOk result (IsFoundIfAny tables.now.rows (place_of plan.now)) }
         ensures writes { self.new.writes ≡ self.old.writes }
         ensures pieces { self.new.pieces ≡ self.old.pieces }
     {
@@ -305,14 +313,21 @@ impl Txn {
         self.readings.add_if_any(tables, known, place)
     }
 
-    /// Does a plan, on the committed tables with the transaction's own writes over them.
-    fn do_plan(&mut self, tables: &Tables, plan: Plan) -> Result<Answer, NoMemory>
+    /// Does a plan at whose place this is committed, on the committed tables with the transaction's
+    /// own writes over them.
+    fn do_plan(
+        &mut self,
+        tables: &Tables,
+        committed: Option<Committed>,
+        plan: Plan,
+    ) -> Result<Answer, NoMemory>
+        requires found { IsFoundIfAny tables.now.rows (place_of plan) committed }
         requires ordered { AreTables tables.now.rows }
         requires fits { IsTrue (tables_fit tables.now.schemas
             (with_writes tables.now.rows self.old.writes)) }
         ensures { IfOk result (λ answer. HasWritten tables.now self.old plan answer self.new) }
     {
-        let effect = effect_on(self.alloc, tables, &self.own, plan)?;
+        let effect = effect_on(self.alloc, tables, committed, &self.own, plan)?;
         let Effect { answer, write } = effect;
         self.own.put_if_any(write)?;
         Ok(answer)
