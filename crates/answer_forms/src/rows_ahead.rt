@@ -85,7 +85,7 @@ impl BesideReader<Row> for RowReader {
 }
 
 /// The rows of an answer, at most 32, that the tokens begin with. Known ones are held once, and
-/// take no memory while they are read.
+/// behind the first row what is known, but for octets, takes no memory while it is read.
 pub(crate) fn rows_ahead(
     alloc: Global,
     known: &KnownRows,

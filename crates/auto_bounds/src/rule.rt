@@ -6,7 +6,8 @@ use request_bounds::{After, BoundRule, DynamicRule, StaticRule, Why};
 use svc_values::{Answer, Call};
 
 /// Settings are kept through a replay, so a `set` ends nothing, and recording begins anew after
-/// each transaction. Only an `alter` and a `disable` end the protection.
+/// each transaction. Of calls only an `alter` and a `disable` end the protection, and so does a
+/// full recorder.
 #[derive(Clone, Copy)]
 pub struct AutoRule;
 

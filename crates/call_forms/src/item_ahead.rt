@@ -187,8 +187,8 @@ fn parts_ahead(
     }
 }
 
-/// The item that the tokens begin with, with no JSON value of it between: a value or an operand
-/// alone is read as one. There is none where there is a fault.
+/// The item that the tokens begin with, with no JSON value of it between: only a value or an
+/// operand that is an object is read as one. There is none where there is a fault.
 pub(crate) fn item_ahead(
     alloc: Global,
     tokens: &mut json::Reader<'_>,

@@ -106,7 +106,8 @@ impl Going {
     /// `None` exactly where it does not ask for these draws and no other. Behind `None` the
     /// transaction is of no more use. What was read before is compared where it is not known to
     /// have what it had. A call with statements takes their time, the first one that sets a name
-    /// that of the settings, and each other one constant time.
+    /// that of the settings, each further one the logarithm of these, and each other call constant
+    /// time.
     pub fn run(
         &mut self,
         alloc: Global,

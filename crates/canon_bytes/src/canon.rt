@@ -20,7 +20,8 @@ pub trait Take: Sized {
     ghost reading: { List ℕ → Result (Self × List ℕ) Fault };
 
     /// Reads the value at the front, and gives the bytes after it beside it. Linear in the bytes
-    /// that are read, and it takes no memory by a length or count that it has only read.
+    /// that are read. A count that it has only read asks for room for no more items than an eighth
+    /// of the bytes behind it.
     fn take(alloc: Global, bytes: &[u8]) -> Result<(Self, &[u8]), ReadFault>
         ensures exact { IsReading (λ x. (x.0, x.1.now)) result (reading bytes.now) }
         ensures found { IfOk result (λ x. bytes.now ≡ spelling x.0 ++ x.1.now) }

@@ -3,7 +3,8 @@
 //! A `u64` is eight bytes, most significant first, and an `i64` the same in two's complement. A
 //! `bool` is one byte, 0 or 1. A name, a text and octets are their number of bytes as a `u64` and
 //! the bytes. A list is its number of items as a `u64` and the items. An enum is a tag byte,
-//! counted from 1, and its fields; a struct is its fields.
+//! counted from 1, and its fields; a struct is its fields. What may be absent is a byte 0, or a
+//! byte 1 and the value.
 //!
 //! A frame's payload is spelled in the same way: to the server with the tags 1 to 6, and to the
 //! client with 17 to 22.

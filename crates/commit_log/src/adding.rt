@@ -36,7 +36,7 @@ impl Log {
 
     /// Adds the block of an identifier, which can commit no more, in four device calls.
     ///
-    /// It takes the memory for the record before the first of them, 25 bytes. The caller sees to it
+    /// It takes the memory for the record before the first of them, 33 bytes. The caller sees to it
     /// that the identifier may be blocked next in the journal of the disk.
     pub fn block<D: Disk>(&mut self, disk: &mut D, x: &Ltxid) -> Result<(), LogFault>
         requires ready { CanLog self.old (D.state disk.old) }

@@ -48,7 +48,7 @@ pub struct Found {
     pub has_horizon: bool,
 }
 
-/// A store that was opened. It holds no record: the journal is handed out at the opening.
+/// A store that records are added to. It holds no record: `find` and `open` hand the journal out.
 #[derive(Drop)]
 pub struct Log {
     pub(crate) alloc: Global,

@@ -1,5 +1,5 @@
 //! The program: hands its words, standard input and standard output to the top call, tells on
-//! standard error why there is no report, and ends with the status's number.
+//! standard error how it ended, where it did not succeed, and ends with the status's number.
 #![tactic(auto)]
 
 use byte_streams::{Input, Output};

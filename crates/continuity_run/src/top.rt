@@ -151,7 +151,8 @@ fn tell_load<K: Sink>(alloc: Global, seed: u64, clients: u64, requests: u64, sin
 /// numbers, and writes a line of counts. The words are looked at first, which may want memory; then
 /// the source is read, to one byte past the limit of 8,388,608 bytes at most, which for `check` is
 /// 67,108,864; then the document is judged. Memory is proportional to the input, and the cost of
-/// reading, judging and writing is n log n in it. What is large and used to the end, a report with
+/// reading, of judging a document and of writing is n log n in it; a run takes what its calls take,
+/// and to judge a report what `judge` takes. What is large and used to the end, a report with
 /// its document, is left to the end of the process and not given back, so a caller who goes on, as
 /// a test does, loses that memory at each call.
 pub fn continuity<S: Source, K: Sink>(

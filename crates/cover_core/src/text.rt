@@ -50,7 +50,7 @@ impl Writer<ClientCounts> for ClientWriter {
     }
 }
 
-/// The counts of all clients, as an array.
+/// The counts of all clients, as an object with the one member `clients`.
 #[tactic(auto, unfolding(crate::specs::meaning::Text::cover_value))]
 fn cover_written(
     alloc: Global,

@@ -33,7 +33,7 @@ new_disk bytes = record {
 abbrev pub history : DiskState → List DiskMoment
 history s = s.past ++ s.now ∷ []
 
--- the number of the moment now, which doesn't fall
+-- the number of the moment now, which no call lowers but a crash
 abbrev pub moment : DiskState → ℕ
 moment s = length s.past
 

@@ -1,5 +1,5 @@
-//! A disk in memory. It keeps what each write covered, so that each moment since it was made can be
-//! read off it.
+//! A disk in memory. It keeps what each write covered, so that each moment since it was made or
+//! last crashed can be read off it.
 ghost use Rattle.std.specs.Prelude.{◌≡◌, ◌+◌, ◌-◌, ◌^◌, ◌<◌, ◌≤◌, ◌⊎◌, ◌↔◌, List, [], ℕ, Some, None, length, take, drop, min, OnOk, OnErr, IfOk, IsErrOf, IsTrue, IsFalse, Contains};
 ghost use Rattle.disk_model.specs.Moment.{MayLeave, Torn, with_bytes, next_moment};
 ghost use Rattle.disk_model.specs.Disk.{Lowered, Lowers, IsSettled, SameBytes, Meanwhile, Caused, OnlyReads, new_disk, with_fault};

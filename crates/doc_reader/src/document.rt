@@ -186,10 +186,12 @@ pub fn document_from(alloc: Global, value: Json) -> Result<Document, DocFault>
 
 /// The document that the bytes spell as JSON (RFC 8259), of at most 8 MiB, or the first fault and
 /// its place. Its tables, clients and events are read one after the other, so that no more than one
-/// of them stands as a JSON value, but where there is a fault, or a number that is no integer of 64
-/// bits or is `-0`: then the whole value stands there first. The cost is linear in the number of
-/// bytes, but for the n log n comparisons of the keys of a table whose n rows do not stand in
-/// rising order of key, and of the names of a list of n names in no such order.
+/// of them stands as a JSON value, but where there is a fault, a number that is no integer of 64
+/// bits or is `-0`, rows or an index before the columns of their table, columns a second time
+/// behind them, or a client's `requests` twice: then the whole value stands there first. The cost
+/// is linear in the number of bytes, but for the n log n comparisons of the keys of a table whose n
+/// rows do not stand in rising order of key, and of the names of a list of n names in no such
+/// order, and for what `Log::read` takes of an image.
 pub fn read_document(alloc: Global, bytes: &[u8]) -> Result<Document, DocFault>
     ensures read { Gives result (document_at bytes.now) }
     ensures document { IfOk result IsDocument }

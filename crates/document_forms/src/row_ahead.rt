@@ -32,8 +32,8 @@ fn field_ahead(
     Some(field)
 }
 
-/// The values of a row of so many. Beside the list of them memory is taken for the bytes of texts
-/// and of octets alone.
+/// The values of a row of so many. Beside the list of them memory is taken for the bytes of texts,
+/// and for octets with the JSON value that they are read from.
 fn fields_ahead(
     alloc: Global,
     taken: &Taken<Value>,

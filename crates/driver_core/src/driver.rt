@@ -137,8 +137,8 @@ impl<R: BoundRule + Copy> Driver<R> {
     /// is what the caller has to do. After want of memory the driver may only be dropped.
     ///
     /// Frames that go out are copies of what is kept, as the wire takes them. Nothing else is
-    /// copied but the draws of a call that is recorded: what is shown is moved out of the reply.
-    /// Linear in what goes out and comes in.
+    /// copied but the draws of a call that is recorded and, under a rule that keeps settings, what
+    /// a `set` sets: what is shown is moved out of the reply. Linear in what goes out and comes in.
     pub fn step(&mut self, input: Input, now: u64) -> Result<Act, NoMemory>
         requires wanted { IsTrue (may_come_def self.old.gone_next
             (wants_of (terms_of (R.rules self.old.rule) self.old.limits self.old.recorded)

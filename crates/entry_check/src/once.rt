@@ -137,7 +137,8 @@ fn wrong_entry(
     wrong_list(alloc, document, report, &stored.ids)
 }
 
-/// The place where `Once` fails, if it does: the lists of the report first, then its entries.
+/// The place where `Once` fails, if it does: the lists of the report first, then its entries, and
+/// then the lists beside these.
 fn once(alloc: Global, document: &Document, report: &Report) -> Result<Option<Place>, NoMemory>
     ensures { IfOk result (λ place. is_none place ≡ once_def document.now report.now) }
 {

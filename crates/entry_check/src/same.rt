@@ -197,9 +197,9 @@ impl JudgesCopies for AreSame<'_> {
 /// Judges `Same` of a report of a document, where `Once` holds: `None` exactly where each
 /// transaction stands in the journal with the calls, answers, granted draws and settings that its
 /// client knows. Else it is the place of the first one that does not, in the order of the report:
-/// its entry where calls or settings differ, and else the call that was shown other answers or
-/// other granted draws. m log m for a report of size m, beside the reading of what stood before
-/// event 1.
+/// its entry where calls differ, else the call that was shown other answers or other granted draws,
+/// and else its entry where settings differ. m log m for a report of size m, beside the reading of
+/// what stood before event 1.
 pub fn judge_same(
     alloc: Global,
     document: &Document,

@@ -1,4 +1,4 @@
--- InvBegins: with what settings a request begins on each connection, and its transactions.
+-- With what settings a request begins on each connection, and its transactions.
 use Rattle.std.specs.Prelude.{ℕ, ◌+◌, ◌==◌, ◌&&◌, Bool, true, false, if◌then◌else◌, List, [], ◌∷◌, fold, take, Option, Some, None, is_none}
 use Rattle.std.specs.List.{list_all, list_any}
 use Rattle.std.specs.Option.{option_map_or}

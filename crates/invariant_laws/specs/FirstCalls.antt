@@ -1,4 +1,4 @@
--- InvFirsts: with which calls the transactions of a request begin.
+-- With which calls the transactions of a request begin.
 use Rattle.std.specs.Prelude.{ℕ, ◌+◌, ◌-◌, ◌==◌, ◌&&◌, ◌||◌, Bool, true, false, List, slice_get}
 use Rattle.std.specs.List.{list_all, list_any}
 use Rattle.std.specs.Option.{option_map_or}

@@ -1,4 +1,4 @@
--- InvLost: of each connection that a request lost.
+-- Of each connection that a request lost.
 use Rattle.std.specs.Prelude.{ℕ, ◌+◌, ◌==◌, ◌&&◌, ◌||◌, Bool, true, false, not, cond, nat_le, if◌then◌else◌, IsTrue, List, [], ◌∷◌, length, filter, slice_get, Option, Some, None, is_some, is_none}
 use Rattle.std.specs.List.{list_all, list_any, last_or}
 use Rattle.std.specs.Option.{option_map_or}
@@ -189,7 +189,7 @@ is_told course outcome = not outcome.committed
 abbrev pub are_told : Traced → Bool
 are_told t = list_all (λ course. list_all (is_told course) course.report.outcomes) (courses_of t)
 
--- L3b: each outcome that was taken is that of a lost connection's identifier, each once
+-- L3b: each outcome that was taken is that of a lost connection's identifier
 abbrev pub is_of_lost : Traced → Course → Outcome → Bool
 is_of_lost t course outcome = list_any (λ number.
     option_map_or (λ link. option_map_or (same_ltxid outcome.ltxid) link.held false)

@@ -1,4 +1,4 @@
--- InvOnce: entries, the sendings that they are of, and values that were drawn.
+-- Entries, the sendings that they are of, and values that were drawn.
 use Rattle.std.specs.Prelude.{ℕ, ◌+◌, ◌==◌, ◌&&◌, ◌||◌, Bool, true, false, not, nat_lt, nat_le, if◌then◌else◌, IsTrue, List, [], ◌∷◌, ◌++◌, length, map, filter, flat_map, count_by, take, drop, slice_get, Option, Some, None, is_some, is_none}
 use Rattle.std.specs.List.{list_all, list_any, last_or}
 use Rattle.std.specs.Option.{option_map_or}
@@ -229,8 +229,7 @@ shown_stored t = list_all (λ course. stored_from t.entries (commit_sendings cou
 abbrev pub over_ends : Traced → Bool
 over_ends t = list_all (λ course. implies course.is_over (request_ends t.entries course.report)) (courses_of t)
 
--- a transaction of the one in course was shown Conflict or RolledBack, or is open: at most one
--- entry; all of it by the sendings
+-- no list of a request, over or in course, has the identifiers of two entries: by the sendings
 abbrev pub transactions_have_one : Traced → Bool
 transactions_have_one t = list_all (λ course. list_all (λ ids. nat_le (length (entries_in t.entries ids)) 1) course.report.tried) (courses_of t)
 

@@ -1,4 +1,4 @@
--- InvSame: the calls of an open transaction, and of an entry, are those that the client knows.
+-- The calls of an open transaction, and of an entry, are those that the client knows.
 use Rattle.std.specs.Prelude.{ℕ, ◌+◌, ◌-◌, ◌==◌, ◌&&◌, ◌||◌, Bool, true, false, not, cond, nat_lt, if◌then◌else◌, IsTrue, List, [], ◌∷◌, ◌++◌, length, map, filter, fold, slice_get, take, drop, Option, None, is_some, option_and_then}
 use Rattle.std.specs.List.{list_all, list_any, last_or}
 use Rattle.std.specs.Option.{option_map_or}

@@ -1,4 +1,4 @@
--- InvShown: what a request was shown its sessions served, what it sent lies in rows of its script,
+-- What a request was shown its sessions served, what it sent lies in rows of its script,
 -- what it lost ends with its own, and what was answered of an identifier stands.
 use Rattle.std.specs.Prelude.{ℕ, ◌+◌, ◌==◌, ◌&&◌, ◌||◌, Bool, true, false, if◌then◌else◌, IsTrue, List, [], ◌∷◌, length, filter, take, slice_get, Option, Some, None}
 use Rattle.std.specs.List.{list_all, list_any}

@@ -33,7 +33,8 @@ pub enum DocCode {
     /// Values that don't go together.
     #[error("against a rule")]
     Rule,
-    /// No pairs of hexadecimal digits, or a damaged image.
+    /// No pairs of hexadecimal digits, a damaged image, or one whose numbers leave no room for a
+    /// run.
     #[error("no image")]
     BadImage,
     /// A value that no report has at its place.

@@ -56,8 +56,8 @@ fn wrong_place(
 /// m log m and lines times alerts, beside what its calls take when they run again: a select by a
 /// column that the document indexes, or that 16 selects of the entries ask, takes the rows it
 /// finds, and any other those of its table. A call that met a block is tried with new values until
-/// it would commit: at once in the report of a run. How often it is tried in a report that was made
-/// up has no limit but the number of its ways.
+/// it would commit: no report of a run is known in which that is more than a few trials. In a
+/// report that was made up it has no limit but the number of its ways.
 pub fn judge_legal(
     alloc: Global,
     document: &Document,

@@ -1,8 +1,8 @@
 //! Which values the calls that were served drew anew, told from what was served alone.
 //!
 //! Numbers are kept in 64 bits, and one that needs more of them is told as want of memory. No
-//! report comes to that: a sequence begins at most at 1,000,000,000, and a call moves it on by at
-//! most 64 values and as many blocks of 16.
+//! report comes to that: a sequence begins at most at 1,000,000,000, or behind 2^62 where an image
+//! left it, and a call moves it on by at most 64 values and as many blocks of 16.
 #![tactic(auto)]
 
 mod asked;

@@ -50,8 +50,9 @@ impl Service<'_> {
         }
     }
 
-    /// Whether a call that means these answers was told so. A commit beside which others have
-    /// written what its transaction read is linear in that, and each other call in its answers.
+    /// Whether a call that means these answers was told so. A commit is linear in the places that
+    /// its transaction read, and in the rows of tables that it read whole and that others have
+    /// written since; each other call in its answers.
     fn is_told_so(
         &self,
         ongoing: &Ongoing,

@@ -17,7 +17,7 @@ use svc_values::{Answers, NoMemory, Settings, Writes};
 #[derive(Drop)]
 pub(crate) struct Ongoing {
     pub(crate) going: Going,
-    /// How many commits were applied when it began to read, where it has read anything.
+    /// How many commits were applied when its first call was run, where one was.
     pub(crate) since: Option<u64>,
 }
 

@@ -27,7 +27,7 @@ pub enum Unlawful {
 /// It is n log n for what stood before. A call takes the time that it took when it was served, a
 /// commit that of what its transaction read and wrote, and each item the logarithm of the sessions
 /// and of the identifiers besides. A call that met a block is tried with new values as `meets_with`
-/// tells: once, where the report holds.
+/// tells, up to the first that meet.
 pub fn first_unlawful<'a>(
     alloc: Global,
     start: Start<'a>,

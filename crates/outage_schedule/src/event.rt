@@ -7,7 +7,7 @@ use svc_values::{Call, Listed, Ltxid, NoMemory, TryCopy};
 pub type Calls = Listed<Call>;
 
 /// One event of the schedule. Clients and connections are numbered from 1, and connection 0 is
-/// none. The codes of the events are 1 to 11, in this order, and 12 is the crash of a `failover`.
+/// none.
 #[derive(Drop)]
 pub enum Event {
     /// One step of a client.

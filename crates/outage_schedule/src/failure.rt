@@ -16,7 +16,7 @@ pub enum Reason {
     StateLost(u64),
 }
 
-/// The error that a request shows. The codes are 1 to 8, in this order.
+/// The error that a request shows.
 #[derive(Clone, Copy)]
 pub enum Failure {
     /// Replay was disabled. The event is the one that ended the connection.

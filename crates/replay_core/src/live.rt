@@ -55,7 +55,7 @@ impl Live {
         self.ltxid = ltxid;
     }
 
-    /// Lends the track, through which the driver notes, purges and stops. The identifier stays.
+    /// Lends the track. The identifier stays.
     pub fn track(&mut self) -> &mut Track
         ensures* writes_back { sem 𝓛 (LiveLends self.entry result) }
         ensures value { result.now ≡ self.old.track }

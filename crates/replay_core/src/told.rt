@@ -54,7 +54,7 @@ impl Fresh {
         self.event
     }
 
-    /// Lends the track, to which the driver applies its rule as to a reply. The identifier stays.
+    /// Lends the track. The identifier stays.
     pub fn track(&mut self) -> &mut Track
         ensures* writes_back { sem 𝓛 (FreshLends self.entry result) }
         ensures value { result.now ≡ self.old.track }

@@ -140,7 +140,8 @@ fn brought_all<'a>(
 
 /// For each served item of a report, in order, the draws that it brings: those with which the call
 /// was shown that a call with the mark repeats, and none for every other item. Beside the cost of
-/// the story it is linear in all steps for each call with the mark.
+/// the story it is linear in all steps for each call with the mark, and, where there is one, for
+/// each client.
 pub fn kept_draws<'a>(
     alloc: Global,
     document: &'a Document,

@@ -34,8 +34,9 @@ fn pass_all<'a>(alloc: Global, items: &'a [Served], notes: &[Note]) -> Result<Pa
     Ok(passing)
 }
 
-/// The story of a report that was read. Linear in its size, and for each event in the number of
-/// connections.
+/// The story of a report that was read. For a report of size m it takes m log m, and for each call
+/// with the mark the calls of its turn. Where two connections have one number or one session, each
+/// event takes the number of connections.
 pub fn story_of<'a>(alloc: Global, report: &'a Report) -> Result<Story<'a>, NoMemory>
     requires { IsTold report.now }
     ensures steps { IfOk result (λ story. map step_as story.steps.items

@@ -1,4 +1,4 @@
-//! Tests of a report's text and value: the forms that no report of `examples/` has.
+//! Tests of a report's text and value: forms that few or no reports of `examples/` have.
 #![tactic(auto)]
 
 #[cfg(test)]

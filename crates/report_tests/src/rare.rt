@@ -1,4 +1,4 @@
-//! A report of the forms that no example has.
+//! A report of such forms.
 
 use crate::makers::{empty, limited, listed, ltxid, name, octets, text};
 use outage_schedule::{

@@ -202,7 +202,7 @@ impl Writer<NoteRun> for RunWriter {
     }
 }
 
-/// The answers and draws of one call from outside.
+/// What calls from outside did: the identifier of their session, and the answers and draws of each.
 #[tactic(auto, unfolding(crate::specs::meaning::Notes::note_value))]
 fn ran_written(alloc: Global, ran: &OutsideNote, out: &mut TextWriter) -> Result<(), AllocError>
     ensures { OnOk result

@@ -153,7 +153,8 @@ fn with_often_asked(
 }
 
 /// The first indexes of a base's tables, and more by the columns that 16 selects of these entries
-/// or more ask, where they have none yet. Linear in the statements and in the first indexes.
+/// or more ask, of the first 64 that they ask, where they have none yet. Linear in the statements
+/// and in the first indexes.
 pub fn indexes_for(
     alloc: Global,
     base: &Base,

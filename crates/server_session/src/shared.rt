@@ -11,7 +11,7 @@ use table_txn::Changes;
 #[derive(Drop)]
 pub struct Core {
     pub tables: Tables,
-    /// Which tables the commits have written since they were opened.
+    /// Which tables the sessions' commits have written since the tables were made.
     pub changes: Changes,
     pub book: Book,
     pub source: Source,

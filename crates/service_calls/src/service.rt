@@ -106,7 +106,8 @@ pub trait Service {
         ensures base { HaveOneBase (bytes self.old) (bytes self.new) };
 
     /// Opens the store for the next incarnation, and forgets the outcomes of all incarnations below
-    /// `horizon`. The cost is linear in the store.
+    /// `horizon`. The cost is at most linear in the store: a service that keeps what it knew reads
+    /// only the records behind that.
     fn up(&mut self, alloc: Global, horizon: u64) -> Result<(), ServeFault>
         requires live { (state self.old).is_spent ≡ false }
         requires few { (state self.old).calls < 2 ^ 48 }

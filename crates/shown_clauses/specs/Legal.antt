@@ -7,7 +7,7 @@ use Rattle.server_model.specs.meaning.Fresh.{fresh_new}
 use Rattle.run_clauses.specs.meaning.ServiceBase.{service_base}
 use Rattle.shown_clauses.specs.meaning.LegalItems.{items_of}
 
--- `FreshNew` of what was served
+-- `fresh_new` of what was served
 abbrev pub fresh_new_of : Document → Report → Bool
 fresh_new_of document report = fresh_new (service_base document) (items_of document report)
     report.entries

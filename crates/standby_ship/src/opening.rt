@@ -114,8 +114,8 @@ fn bring_up<D: StopDisk>(
 
 impl<D: StopDisk> Pair<D> {
     /// Opens both stores for the next incarnation, and forgets the outcomes of all incarnations
-    /// below `horizon`. What the second store lacks is appended there first. The cost is linear in
-    /// both.
+    /// below `horizon`. The first store is opened, and then what the second one lacks is appended
+    /// there. The cost is that of the first store's opening, and linear in the second store.
     pub(crate) fn reopen(&mut self, alloc: Global, horizon: u64) -> Result<(), ServeFault>
         requires live { self.old.is_spent ≡ false }
         requires few { (state_in self.old).calls < 2 ^ 48 }

@@ -12,7 +12,7 @@ use thiserror::Error;
 
 /// Data statements and then a commit or not, or one command that stands alone. A work call has at
 /// least one statement or the commit, and at most eight with the commit counted: `Call::work` makes
-/// no other, and each function that takes a call requires it.
+/// no other, and the functions that rest on it require it.
 #[derive(PartialEq, Eq, Drop)]
 pub enum Call {
     /// A call without statements is a lone commit.

@@ -14,7 +14,7 @@ use crate::value::{Row, Value};
 use std::alloc::Global;
 
 /// A logical transaction identifier: the opening of the store, the session of that opening, and the
-/// number of the session's commits before this transaction. Each function that takes one requires
+/// number of the session's commits before this transaction. The functions that rest on it require
 /// that its three parts are at most 2^63.
 #[derive(Clone, Copy, Debug, PartialEq, Eq)]
 pub struct Ltxid {

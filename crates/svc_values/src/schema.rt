@@ -22,8 +22,8 @@ pub struct Column {
 /// The columns of a table: at most eight.
 pub type Columns = Limited<Column, 8>;
 
-/// A table's name and columns. Each function that takes one requires at least one column and
-/// different column names: `Schema::new` makes no other.
+/// A table's name and columns. `Schema::new` makes none without a column, or with two columns of
+/// one name.
 #[derive(PartialEq, Eq, Drop)]
 pub struct Schema {
     pub name: Name,

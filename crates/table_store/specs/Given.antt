@@ -44,6 +44,6 @@ named one = (one.table, one.rows.items)
 abbrev pub named_in : List PlainRow → Schema → List ℕ × List (List Value)
 named_in rows schema = (schema.name, map (λ one. one.row) (rows_at rows (place.Table schema.name)))
 
--- the same of rows that are kept as maps
+-- the same of the rows that are kept
 abbrev pub shelf_named : Shelves → Schema → List ℕ × List (List Value)
 shelf_named shelves schema = (schema.name, shelf_rows (shelf_of shelves schema.name))

@@ -1,4 +1,4 @@
--- Rows that are kept as maps: by the name of the table, and then by key.
+-- Rows as they are kept: by the name of the table, and in it in order of key.
 use Rattle.std.specs.Prelude.{◌≡◌, ℕ, List, [], ◌∷◌, Option, Some, None, map}
 use Rattle.std.specs.List.{flat_map, AllByRecursion}
 use Rattle.std.specs.List.Sorted.{IsStrictlySortedBy}

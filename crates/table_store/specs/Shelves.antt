@@ -1,4 +1,4 @@
--- Changes of the rows that are kept as maps.
+-- Changes of the rows that are kept.
 use Rattle.std.specs.Prelude.{◌≡◌, ℕ, Bool, ◌&&◌, List, Option, if◌then◌else◌}
 use Rattle.std.specs.Map.{update_all}
 use Rattle.std.specs.Ordering.{nat_cmp, eq_by_cmp, is_eq}

@@ -25,7 +25,7 @@ abbrev pub AreApart : List PlainRow → Type 0
 AreApart [] = Unit {0}
 AreApart (row ∷ rest) = (rows_at rest (place.Row row.table row.key) ≡ []) × AreApart rest
 
--- rows that are kept as maps, beside the declarations
+-- the rows that are kept, beside the declarations
 pub record IsStored (schemas : List Schema) (shelves : Shelves) : Type 0 where
   pub shelved : IsShelved shelves
   pub fitting : IsTrue (tables_fit schemas (all_rows shelves))

@@ -176,8 +176,8 @@ impl Shelf {
         self.rows.put_all(rows)
     }
 
-    /// Puts a row in the place of that of its key, if any. It takes the logarithm of the number of
-    /// rows for the rows and for each index. Where the rows are shared they are copied first.
+    /// Puts a row in the place of that of its key, if any. It takes what `RowMap::put` takes, and
+    /// the logarithm of the number of rows for each index.
     pub(crate) fn put(&mut self, key: Value, row: Row) -> Result<(), NoMemory>
         ensures ok { OnOk result ((q : ValueSeen)
             → keyed_of self.new q ≡ (if is_eq (value_cmp key q) then Some row else keyed_of

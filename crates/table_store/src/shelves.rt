@@ -1,4 +1,4 @@
-//! The maps of all tables.
+//! The rows of all tables, each with its indexes, by name.
 ghost use Rattle.std.specs.Prelude.{◌≡◌, OnOk, OnErr, IfOk, None, Some, map};
 ghost use Rattle.std.specs.List.{list_all};
 ghost use Rattle.svc_values.specs.meaning.Tables.{in_order};
@@ -62,8 +62,8 @@ pub(crate) fn filled(alloc: Global, tables: Vec<TableRows>) -> Result<Shelves, N
     Ok(shelves)
 }
 
-/// The rows of each declared table in order of key beside its name, taken out of the maps. Linear
-/// in the rows, and quadratic in the tables, which are at most 32.
+/// The rows of each declared table in order of key beside its name, taken out of the shelves.
+/// Linear in the rows, and quadratic in the tables, which are at most 32.
 pub(crate) fn emptied(
     alloc: Global,
     shelves: &mut Shelves,
@@ -84,8 +84,8 @@ pub(crate) fn emptied(
     Ok(all)
 }
 
-/// The rows of a table in order of key. They are taken out of the maps, and copied where they are
-/// shared or a later declaration is of the same table. Linear in the rows.
+/// The rows of a table in order of key. They are taken out of the shelves, and copied where they
+/// are shared or a later declaration is of the same table. Linear in the rows.
 #[tactic(auto, using(crate::proofs::Emptied::others_same))]
 fn taken(
     alloc: Global,

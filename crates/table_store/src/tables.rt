@@ -211,8 +211,9 @@ impl Tables {
     }
 
     /// The tables after writes, in their order. A write takes the logarithm of the number of rows,
-    /// and the first one of a table whose rows are shared copies them. After a refusal some of the
-    /// writes are in.
+    /// and the first one of a table whose rows are shared copies them. Once for a table a write is
+    /// linear in its rows: the first that takes a row away, or puts one neither in the place of
+    /// another nor behind all others. After a refusal some of the writes are in.
     pub fn apply(&mut self, writes: &Writes) -> Result<(), NoMemory>
         requires { IsTrue (writes_fit self.old.schemas writes.now) }
         ensures ok { OnOk result (self.new ≡ record {

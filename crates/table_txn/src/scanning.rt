@@ -238,7 +238,8 @@ fn answer_over(
 
 /// The answer from all rows of a table, as the transaction sees them. Linear in the committed rows,
 /// and in the transaction's own of that table by the logarithm of the committed ones, up to a row
-/// that settles it; a count where it wrote none takes as long as a lookup.
+/// that settles it; a count where it wrote none takes as long as a lookup, and a select what
+/// `select_committed` and `select_over` take.
 pub(crate) fn scan_table(
     alloc: Global,
     tables: &Tables,

@@ -146,11 +146,11 @@ impl Txn {
 
     /// Runs the statements of a call, each on the committed tables with the transaction's own
     /// writes over them, up to the first that is refused. What was read before is compared where it
-    /// is not known to have what it had. A refusal takes the call's writes back;
-    /// what was read and drawn stays so. A statement on one row takes the logarithm of the rows and
-    /// of the transaction's writes; one on a whole table is linear in its rows and in the
-    /// transaction's own of that table. After a fault some of the statements may have run: what is
-    /// left is to roll back.
+    /// is not known to have what it had. A refusal takes the call's writes back; what was read and
+    /// drawn stays so. A statement on one row takes the logarithm of the rows and of the
+    /// transaction's writes; one on a whole table is at most linear in its rows, and in the
+    /// transaction's own of that table by the logarithm of its rows. After a fault some of the
+    /// statements may have run: what is left is to roll back.
     pub fn run<F: DrawFrom>(
         &mut self,
         tables: &Tables,

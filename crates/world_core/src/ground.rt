@@ -172,7 +172,7 @@ impl<S: Service + Drop> Ground<S> {
     }
 
     /// Opens the store, where the server is down, and forgets the outcomes of all incarnations
-    /// below the horizon. The cost is linear in the store.
+    /// below the horizon. The cost is that of the service's opening.
     pub fn up(&mut self, alloc: Global, horizon: u64) -> Result<Note, NoMemory>
         requires events { self.old.traffic.event < 2 ^ 45 }
         requires there { IsSomewhere (S.sees self.old.service) self.old.traffic }

@@ -15,8 +15,8 @@ use world_model::laws::orderly_is_kept;
 
 impl<S: Service + Drop> Ground<S> {
     /// Begins to open the store, where the server is down, under a stop after so many device calls,
-    /// and then crashes the service with this pick, which is that of no failover. The cost is
-    /// linear in the store.
+    /// and then crashes the service with this pick, which is that of no failover. The cost is that
+    /// of the service's opening.
     pub fn up_crash(
         &mut self,
         alloc: Global,

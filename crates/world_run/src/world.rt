@@ -189,7 +189,8 @@ impl<S: Service + Drop, R: BoundRule + Copy> World<S, R> {
     /// Makes one event. An opening stores the horizon that is wanted then, each crash is counted
     /// with its pick and its stop, and a cut leaves exactly the first bytes that it names. Beside
     /// what the service does it costs the logarithm of the connections and the bytes that are
-    /// moved.
+    /// moved. A crash also takes the connections that were opened since the last one times the idle
+    /// ones, a client's step the waiters of the pool, and a drain or a cut the idle connections.
     pub fn step(&mut self, alloc: Global, scripts: &[Script], event: &Event) -> Result<(), NoMemory>
         requires events { length self.old.notes < 2 ^ 45 }
         requires there { StandsSomewhere S R S.sees (λ rule. R.rules rule) scripts.now self.old }

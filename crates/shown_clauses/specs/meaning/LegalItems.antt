@@ -1,4 +1,5 @@
--- The plain items of a report: its served items, and its notes of `outside` and `ask`, one for one.
+-- The plain items of a report: one for each served item and each note of `ask`, and for a note of
+-- `outside` one for each thing that its session did.
 use Rattle.std.specs.Prelude.{ℕ, ◌&&◌, Bool, true, false, nat_le, List, [], ◌∷◌, ◌++◌, length, Option, Some}
 use Rattle.svc_values.specs.declared.draw.Draw.{Draw}
 use Rattle.svc_values.specs.declared.call.Call.{Call}

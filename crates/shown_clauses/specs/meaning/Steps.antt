@@ -78,7 +78,7 @@ steps_from seen (happening ∷ happenings) =
     steps_at seen happening happening.noted
     ++ steps_from (after_happening seen happening) happenings
 
--- `annotate`: the steps of all clients, in order
+-- the steps of all clients, in order
 abbrev pub steps : Report → List Step
 steps report = steps_from nothing_seen (happenings report)
 

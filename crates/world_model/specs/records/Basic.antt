@@ -1,4 +1,4 @@
--- InvBasic: ticks, events, and which connections and sessions there are.
+-- Ticks, events, and which connections and sessions there are.
 use Rattle.std.specs.Prelude.{ℕ, ◌+◌, ◌==◌, ◌&&◌, ◌||◌, Bool, true, false, not, nat_lt, nat_le, IsTrue, List, [], ◌∷◌, length, map, filter_map, flat_map, count_by, Option, None, is_some, is_none}
 use Rattle.std.specs.List.{list_all, list_any}
 use Rattle.std.specs.Option.{option_map_or}

@@ -1,4 +1,4 @@
--- InvHold: who holds which connection and slot.
+-- Who holds which connection and slot.
 use Rattle.std.specs.Prelude.{ℕ, ◌+◌, ◌==◌, ◌&&◌, Bool, true, false, not, nat_le, if◌then◌else◌, IsTrue, List, [], ◌∷◌, length, filter, filter_map, flat_map, count_by, Option, Some, None, is_some}
 use Rattle.std.specs.List.{list_all, last_or}
 use Rattle.std.specs.Option.{option_map_or}

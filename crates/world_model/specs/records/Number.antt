@@ -1,4 +1,4 @@
--- InvNumber: the identifier held on a connection, and how often its session committed.
+-- The identifier held on a connection, and how often its session committed.
 use Rattle.std.specs.Prelude.{ℕ, ◌+◌, ◌==◌, ◌&&◌, ◌||◌, Bool, true, false, not, if◌then◌else◌, nat_le, nat_lt, IsTrue, List, [], ◌∷◌, length, drop, fold, Option, None, is_some}
 use Rattle.std.specs.List.{list_all, list_any, last_or}
 use Rattle.std.specs.Option.{option_or, option_map_or}

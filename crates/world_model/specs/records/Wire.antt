@@ -1,4 +1,4 @@
--- InvWire: of each connection, the frames that were sent, served, taken, and that are on their way.
+-- Of each connection, the frames that were sent, served, taken, and that are on their way.
 use Rattle.std.specs.Prelude.{ℕ, ◌+◌, ◌==◌, ◌&&◌, ◌||◌, Bool, true, false, not, nat_le, if◌then◌else◌, IsTrue, List, [], ◌∷◌, ◌++◌, length, map, filter, filter_map, fold, Option, Some, None, is_some, is_none, option_map}
 use Rattle.std.specs.List.{list_all, list_any}
 use Rattle.svc_values.specs.declared.call.Call.{Call}
