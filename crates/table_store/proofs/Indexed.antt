@@ -1,5 +1,5 @@
 -- An index stays the index of its rows.
-use Rattle.std.proofs.Common.{arith, ◌≡◌, ◌⊎◌, inl, inr, ℕ, suc, zero, ◌+◌, ◌<◌, ◌≤◌, get_or, Bool, true, false, cond, List, [], ◌∷◌, length, slice_set, refl, sym, ◌∙◌, ap, subst}
+use Rattle.std.proofs.Common.{arith, ◌≡◌, ◌⊎◌, inl, inr, ℕ, suc, zero, ◌+◌, ◌<◌, ◌≤◌, get_or, Bool, true, false, cond, List, [], ◌∷◌, length, map, slice_set, refl, sym, ◌∙◌, ap, subst}
 use Rattle.std.specs.Prelude.{Option, Some, None, slice_get, ◌&&◌, ◌||◌}
 use Rattle.std.specs.List.{AllByRecursion}
 use Rattle.std.specs.List.Sorted.{IsStrictlySortedBy}
@@ -9,9 +9,11 @@ use Rattle.std.specs.Map.{keys_of}
 use Rattle.std.proofs.lemmas.Bool.{cases_Bool}
 use Rattle.svc_values.specs.declared.value.Value.{Value}
 use Rattle.svc_values.specs.meaning.Order.{value_cmp}
+use Rattle.svc_values.specs.meaning.Schemas.{key_of}
 use Rattle.table_store.specs.declared.column_index.ColumnIndex.{ColumnIndex}
 use Rattle.table_store.specs.declared.column_index.Pair.{Pair}
-use Rattle.table_store.specs.Indexes.{has_pair, is_value, value_in, IsIndexOf, AreIndexesOf, with_row}
+use Rattle.table_store.specs.Given.{keyed}
+use Rattle.table_store.specs.Indexes.{has_pair, has_value, is_value, value_in, IsIndexOf, AreIndexesOf, with_row}
 use Rattle.table_store.specs.Rows.{Keyed, KeysRise, keyed_of}
 use Rattle.table_store.proofs.Maps.{keys_equal, keys_equal_if}
 
@@ -84,70 +86,55 @@ none_above key [] above = refl
 none_above key (entry ∷ rest) above =
     ap (λ o. cond (is_eq o) (Some entry.1) (keyed_of rest key)) above.0 ∙ none_above key rest above.1
 
--- the pairs are those of all rows but the rest
-pub record HasUpTo (pairs : List Pair) (column : ℕ) (rest all : Keyed) : Type 0 where
-  pub rise : KeysRise rest
-  pub held : (v k : Value) → (has_pair pairs v k || is_value (value_in (keyed_of rest k) column) v) ≡ is_value (value_in (keyed_of all k) column) v
+-- what the pairs have, and the rows beside them
+abbrev pub has_either : List (List Value) → List Pair → ℕ → Value → Value → Bool
+has_either rows pairs column v k = cond (has_value rows column v k) true (has_pair pairs v k)
 
-pub up_to_none : (pairs : List Pair) (column : ℕ) (rest all : Keyed) → pairs ≡ [] → rest ≡ all → KeysRise all → HasUpTo pairs column rest all
-up_to_none pairs column rest all none same rise = record {
-  rise = subst KeysRise (sym same) rise;
-  held = λ v k. ap (λ ps. has_pair ps v k || is_value (value_in (keyed_of rest k) column) v) none ∙ ap (λ (es : Keyed). is_value (value_in (keyed_of es k) column) v) same;
-}
-
-or_swap : (a b : Bool) → (cond (b && true) true a || false) ≡ (a || b)
-or_swap true true = refl
-or_swap true false = refl
-or_swap false true = refl
-or_swap false false = refl
-
-pub up_to_more : (old new : List Pair) (column : ℕ) (left rest all : Keyed) (key : Value) (row : List Value) → HasUpTo old column left all → left ≡ (key, row) ∷ rest
-    → ((v k : Value) → has_pair new v k ≡ cond (is_value (slice_get row column) v && is_eq (value_cmp key k)) true (has_pair old v k))
-    → HasUpTo new column rest all
+-- in rising order of key the rows have the value of the one at the key
+pub value_at_key : (rows : List (List Value)) (column : ℕ) (v k : Value) → KeysRise (map keyed rows) → has_value rows column v k ≡ is_value (value_in (keyed_of (map keyed rows) k) column) v
 unfolding IsStrictlySortedBy
-up_to_more old new column left rest all key row so_far next put = record {
-  rise = rises.1;
-  held = λ v k. by_key v k (cases_Bool (is_eq (value_cmp k key)));
-}
+value_at_key [] column v k rise = refl
+value_at_key (row ∷ rows) column v k rise = by_key (cases_Bool (is_eq (value_cmp k (key_of row)))) (value_at_key rows column v k rise.1)
   where
-    rises : KeysRise ((key, row) ∷ rest)
-    rises = subst KeysRise next so_far.rise
+    there : Bool → Bool
+    there b = (is_value (slice_get row column) v && b) || has_value rows column v k
 
-    was : (v k : Value) → (has_pair old v k || is_value (value_in (cond (is_eq (value_cmp k key)) (Some row) (keyed_of rest k)) column) v) ≡ is_value (value_in (keyed_of all k) column) v
-    was v k = ap (λ (es : Keyed). has_pair old v k || is_value (value_in (keyed_of es k) column) v) (sym next) ∙ so_far.held v k
+    at : Bool → Bool
+    at b = is_value (value_in (cond b (Some row) (keyed_of (map keyed rows) k)) column) v
 
-    by_key : (v k : Value) → (is_eq (value_cmp k key) ≡ true) ⊎ (is_eq (value_cmp k key) ≡ false) → (has_pair new v k || is_value (value_in (keyed_of rest k) column) v) ≡ is_value (value_in (keyed_of all k) column) v
-    by_key v k (inl here) =
-        let same : k ≡ key = keys_equal k key here in
-        let back : is_eq (value_cmp key k) ≡ true = keys_equal_if key k (sym same) in
-        let none : keyed_of rest k ≡ None = subst (λ q. keyed_of rest q ≡ None) (sym same) (none_above key rest rises.0) in
-        ap (λ b. b || is_value (value_in (keyed_of rest k) column) v) (put v k)
-        ∙ ap (λ b. cond (is_value (slice_get row column) v && b) true (has_pair old v k) || is_value (value_in (keyed_of rest k) column) v) back
-        ∙ ap (λ r. cond (is_value (slice_get row column) v && true) true (has_pair old v k) || is_value (value_in r column) v) none
-        ∙ or_swap (has_pair old v k) (is_value (slice_get row column) v)
-        ∙ sym (ap (λ b. has_pair old v k || is_value (value_in (cond b (Some row) (keyed_of rest k)) column) v) here)
-        ∙ was v k
-    by_key v k (inr away) =
-        let back : is_eq (value_cmp key k) ≡ false = other_way (cases_Bool (is_eq (value_cmp key k))) in
-        ap (λ b. b || is_value (value_in (keyed_of rest k) column) v) (put v k)
-        ∙ ap (λ b. cond (is_value (slice_get row column) v && b) true (has_pair old v k) || is_value (value_in (keyed_of rest k) column) v) back
-        ∙ ap (λ b. b || is_value (value_in (keyed_of rest k) column) v) (nowhere (is_value (slice_get row column) v) true (has_pair old v k))
-        ∙ sym (ap (λ b. has_pair old v k || is_value (value_in (cond b (Some row) (keyed_of rest k)) column) v) away)
-        ∙ was v k
+    by_key : (is_eq (value_cmp k (key_of row)) ≡ true) ⊎ (is_eq (value_cmp k (key_of row)) ≡ false) → has_value rows column v k ≡ is_value (value_in (keyed_of (map keyed rows) k) column) v → there (is_eq (value_cmp (key_of row) k)) ≡ at (is_eq (value_cmp k (key_of row)))
+    by_key (inl here) more =
+        let same : k ≡ key_of row = keys_equal k (key_of row) here in
+        let none : keyed_of (map keyed rows) k ≡ None = subst (λ q. keyed_of (map keyed rows) q ≡ None) (sym same) (none_above (key_of row) (map keyed rows) rise.0) in
+        ap there (keys_equal_if (key_of row) k (sym same))
+        ∙ ap (λ b. (is_value (slice_get row column) v && true) || b) (more ∙ ap (λ r. is_value (value_in r column) v) none)
+        ∙ as_it_is (is_value (slice_get row column) v)
+        ∙ sym (ap at here)
       where
-        other_way : (is_eq (value_cmp key k) ≡ true) ⊎ (is_eq (value_cmp key k) ≡ false) → is_eq (value_cmp key k) ≡ false
-        other_way (inl h) = let never : true ≡ false = sym (keys_equal_if k key (sym (keys_equal key k h))) ∙ away in cc
+        as_it_is : (b : Bool) → ((b && true) || false) ≡ b
+        as_it_is true = refl
+        as_it_is false = refl
+    by_key (inr away) more =
+        ap there (other_way (cases_Bool (is_eq (value_cmp (key_of row) k))))
+        ∙ ap (λ b. b || has_value rows column v k) (never_both (is_value (slice_get row column) v))
+        ∙ more
+        ∙ sym (ap at away)
+      where
+        never_both : (b : Bool) → (b && false) ≡ false
+        never_both true = refl
+        never_both false = refl
+
+        other_way : (is_eq (value_cmp (key_of row) k) ≡ true) ⊎ (is_eq (value_cmp (key_of row) k) ≡ false) → is_eq (value_cmp (key_of row) k) ≡ false
+        other_way (inl h) = let never : true ≡ false = sym (keys_equal_if k (key_of row) (sym (keys_equal (key_of row) k h))) ∙ away in cc
         other_way (inr h) = h
 
-or_false : (b : Bool) → b ≡ (b || false)
-or_false true = refl
-or_false false = refl
-
-pub up_to_all : (index : ColumnIndex) (column : ℕ) (rest all : Keyed) → index.column ≡ column → rest ≡ [] → HasUpTo index.pairs.keys column rest all → IsIndexOf (keyed_of all) index
-up_to_all index column rest all same none so_far v k =
-    or_false (has_pair index.pairs.keys v k)
-    ∙ ap (λ (es : Keyed). has_pair index.pairs.keys v k || is_value (value_in (keyed_of es k) column) v) (sym none)
-    ∙ so_far.held v k ∙ ap (λ c. is_value (value_in (keyed_of all k) c) v) (sym same)
+-- the pairs of all rows are their index
+pub all_put : (index : ColumnIndex) (column : ℕ) (rows : List (List Value)) (entries : Keyed) → index.column ≡ column → map keyed rows ≡ entries → KeysRise entries
+    → ((v k : Value) → has_pair index.pairs.keys v k ≡ has_value rows column v k) → IsIndexOf (keyed_of entries) index
+all_put index column rows entries same are rise held v k =
+    held v k ∙ value_at_key rows column v k (subst KeysRise (sym are) rise)
+    ∙ ap (λ (es : Keyed). is_value (value_in (keyed_of es k) column) v) are
+    ∙ ap (λ c. is_value (value_in (keyed_of entries k) c) v) (sym same)
 
 -- ---- the indexes one after the other
 

@@ -4,7 +4,6 @@ pub mod Writes
 pub mod Maps
 pub mod Changes
 pub mod Filled
-pub mod Joined
 pub mod Keeps
 pub mod Emptied
 pub mod ValueCmp
@@ -16,4 +15,6 @@ pub mod Takes
 pub mod Walks
 pub mod Offered
 pub mod Rising
+pub mod Placed
+pub mod Walked
 pub mod Same

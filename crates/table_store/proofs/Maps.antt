@@ -1,5 +1,5 @@
 -- Rows kept as maps by name and key: their order, and what stands at a place.
-use Rattle.std.proofs.Common.{◌≡◌, ◌⊎◌, inl, inr, ℕ, Bool, true, false, cond, List, [], ◌∷◌, ◌++◌, append_assoc, refl, sym, ◌∙◌, ap, subst}
+use Rattle.std.proofs.Common.{◌≡◌, ◌⊎◌, inl, inr, ℕ, Bool, true, false, cond, List, [], ◌∷◌, ◌++◌, refl, sym, ◌∙◌, ap, subst}
 use Rattle.std.specs.Prelude.{Option, Some, None, filter}
 use Rattle.std.specs.List.{AllByRecursion}
 use Rattle.std.specs.List.Sorted.{IsStrictlySortedBy}
@@ -220,10 +220,3 @@ insert_last {K} {X} {cmp} total (e ∷ es) key x rest rise =
     reached : (fs : List (K × X)) → AllByRecursion (λ k. cmp e.0 k ≡ Less) (keys_of (fs ++ (key, x) ∷ rest)) → cmp e.0 key ≡ Less
     reached [] all = all.0
     reached (f ∷ fs) all = reached fs all.1
-
--- one more entry of a map that is copied in order
-pub copied_more : (copied left all rest new : Keyed) (key : Value) (row : List Value) → copied ++ left ≡ all → KeysRise all → left ≡ (key, row) ∷ rest → new ≡ insert_entry value_cmp copied key row → new ++ rest ≡ all
-copied_more copied left all rest new key row so_far rise next put =
-    let joined : copied ++ (key, row) ∷ rest ≡ all = ap (λ l. copied ++ l) (sym next) ∙ so_far in
-    ap (λ l. l ++ rest) (put ∙ insert_last value_cmp_total copied key row rest (subst KeysRise (sym joined) rise))
-    ∙ append_assoc copied ((key, row) ∷ []) rest ∙ joined

@@ -16,3 +16,8 @@ pub use Rattle.table_store.proofs.Sought.{first_at, firsts_of_fit, in_sought, so
 -- rows that are picked by a test and by keys: their order, what is found at a key, and how many
 -- they are
 pub use Rattle.table_store.proofs.Picked.{apart_at, meeting_at, no_longer, rise_filter, same_keyed, values_meeting}
+-- the rows between two ends, of rows in two parts
+pub use Rattle.table_store.proofs.Placed.{between_both}
+pub use Rattle.table_store.proofs.Rising.{values_keyed}
+-- what is found at a key after a change of a map
+pub use Rattle.table_store.proofs.ValueCmp.{keyed_changed}

@@ -103,13 +103,6 @@ before_not_at a b h =
       | inr apart ↦ apart
     ]
 
-pub after_not_at : (a b : PlainRow) → comes_before a b ≡ true → is_at (place.Row b.table b.key) a ≡ false
-after_not_at a b h =
-    elim (cases_Bool (is_at (place.Row b.table b.key) a)) [
-      | inl here ↦ let same = at_place b.table b.key a here in absurd (not_tied a b h same.0 same.1)
-      | inr apart ↦ apart
-    ]
-
 exact_parts : (a b : PlainRow) (t v : Ordering) → slice_cmp nat_cmp a.table b.table ≡ t → value_cmp a.key b.key ≡ v → ordering_then t v ≡ Equal → (a.table ≡ b.table) × (a.key ≡ b.key)
 exact_parts a b Less v p q h = cc
 exact_parts a b Equal Less p q h = cc

@@ -3,7 +3,7 @@ use Rattle.std.proofs.Common.{arith, ◌≡◌, inl, inr, ℕ, zero, suc, ◌<�
 use Rattle.std.specs.Prelude.{Option, Some, None, not, slice_get}
 use Rattle.std.specs.List.{AllByRecursion, filter}
 use Rattle.std.specs.List.Sorted.{IsPartitionPoint, IsPartitionedBy, IsStrictlySortedBy}
-use Rattle.std.specs.Option.{is_some, option_or}
+use Rattle.std.specs.Option.{option_or}
 use Rattle.std.specs.declared.cmp.Ordering.{Ordering}
 use Rattle.std.specs.declared.cmp.Ordering.TheVariants.{Less, Equal, Greater}
 use Rattle.std.specs.declared.ops.Bound.{Bound}
@@ -21,7 +21,7 @@ use Rattle.svc_values.specs.meaning.Order.{value_cmp}
 use Rattle.svc_values.specs.meaning.Schemas.{key_of}
 use Rattle.svc_values.proofs.Offered.{value_cmp_total}
 use Rattle.table_store.specs.Given.{keyed}
-use Rattle.table_store.specs.Held.{is_behind, is_below, is_up_to, rise_behind, StartsAt, EndsAt}
+use Rattle.table_store.specs.Blocks.{is_behind, is_below, is_up_to, rise_behind, StartsAt, EndsAt, without}
 use Rattle.table_store.specs.Rows.{Keyed, KeysRise, keyed_of}
 use Rattle.table_store.proofs.Changes.{both_true}
 use Rattle.table_store.proofs.Indexed.{none_above}
@@ -34,7 +34,7 @@ greater_if Less h = cc
 greater_if Equal h = cc
 greater_if Greater h = refl
 
-less_if : (o : Ordering) → is_lt o ≡ true → o ≡ Less
+pub less_if : (o : Ordering) → is_lt o ≡ true → o ≡ Less
 less_if Less h = refl
 less_if Equal h = cc
 less_if Greater h = cc
@@ -59,10 +59,10 @@ eq_reversed Less = refl
 eq_reversed Equal = refl
 eq_reversed Greater = refl
 
-eq_turned : (a b : Value) → is_eq (value_cmp a b) ≡ is_eq (value_cmp b a)
+pub eq_turned : (a b : Value) → is_eq (value_cmp a b) ≡ is_eq (value_cmp b a)
 eq_turned a b = ap is_eq (value_cmp_total.antisymm a b) ∙ eq_reversed (value_cmp b a)
 
-turned : (a b : Value) (o : Ordering) → value_cmp a b ≡ o → value_cmp b a ≡ ordering_reverse o
+pub turned : (a b : Value) (o : Ordering) → value_cmp a b ≡ o → value_cmp b a ≡ ordering_reverse o
 turned a b o e = value_cmp_total.antisymm b a ∙ ap ordering_reverse e
 
 less_behind : (a b c : Value) → is_le (value_cmp a b) ≡ true → value_cmp b c ≡ Less → value_cmp a c ≡ Less
@@ -86,7 +86,7 @@ below_falls key a b less h =
       | inr over ↦ ap not over
     ]
 
-up_to_falls : (key : Value) → Falls (λ v. not (is_lt (value_cmp key v)))
+pub up_to_falls : (key : Value) → Falls (λ v. not (is_lt (value_cmp key v)))
 up_to_falls key a b less h =
     elim (cases_Bool (is_lt (value_cmp key a))) [
       | inl lt ↦ let never : false ≡ true = sym (ap (λ o. not (is_lt o)) (less_behind key a b (le_if (value_cmp key a) lt) less)) ∙ h in cc
@@ -133,7 +133,7 @@ if_key_is key row h = ap (λ b. cond b (Some row) None) h
 pub if_key_not : (key : Value) (row : List Value) → is_eq (value_cmp key (key_of row)) ≡ false → if_key key (Some row) ≡ None
 if_key_not key row h = ap (λ b. cond b (Some row) None) h
 
-all_above : (a b : Value) (ks : List Value) → value_cmp a b ≡ Less → AllByRecursion (λ k. value_cmp b k ≡ Less) ks → AllByRecursion (λ k. value_cmp a k ≡ Less) ks
+pub all_above : (a b : Value) (ks : List Value) → value_cmp a b ≡ Less → AllByRecursion (λ k. value_cmp b k ≡ Less) ks → AllByRecursion (λ k. value_cmp a k ≡ Less) ks
 all_above a b [] less above = tt
 all_above a b (k ∷ ks) less above = (value_cmp_total.trans a b k less above.0, all_above a b ks less above.1)
 
@@ -159,22 +159,72 @@ below_in key seen rows at same point = subst (λ (l : List (List Value)). BelowA
 
 -- ---- a row that is put in
 
-pub put_behind : (rows : List (List Value)) (key : Value) (row : List Value) (at : ℕ) → BelowAt key rows at → length rows ≤ at → is_eq (value_cmp key (key_of row)) ≡ true → map keyed (rows ++ row ∷ []) ≡ insert_entry value_cmp (map keyed rows) key row
-put_behind [] key row at point over own = ap (λ k. (k, row) ∷ []) (sym (keys_equal key (key_of row) own))
+pub put_behind : (rows : List (List Value)) (key : Value) (row : List Value) (at : ℕ) → BelowAt key rows at → length rows ≤ at → key_of row ≡ key → map keyed (rows ++ row ∷ []) ≡ insert_entry value_cmp (map keyed rows) key row
+put_behind [] key row at point over own = ap (λ k. (k, row) ∷ []) own
 put_behind (r ∷ rows) key row zero point over own = absurd (omega (arith, over))
 put_behind (r ∷ rows) key row (suc at) point over own =
     ap (λ l. keyed r ∷ l) (put_behind rows key row at (behind_first key r rows at point) (omega (arith, over)) own)
     ∙ sym (ap (λ o. match_ordering o ((key, row) ∷ map keyed (r ∷ rows)) ((key_of r, row) ∷ map keyed rows) (keyed r ∷ insert_entry value_cmp (map keyed rows) key row)) (first_below key r rows at point))
 
-pub put_over : (rows : List (List Value)) (key : Value) (row d : List Value) (at : ℕ) → BelowAt key rows at → at < length rows → is_eq (value_cmp key (key_of (get_or rows at d))) ≡ true → is_eq (value_cmp key (key_of row)) ≡ true
+pub put_over : (rows : List (List Value)) (key : Value) (row d : List Value) (at : ℕ) → BelowAt key rows at → at < length rows → is_eq (value_cmp key (key_of (get_or rows at d))) ≡ true → key_of row ≡ key
     → map keyed (slice_set rows at row) ≡ insert_entry value_cmp (map keyed rows) key row
 put_over [] key row d at point within here own = absurd (omega (arith, within))
 put_over (r ∷ rows) key row d zero point within here own =
-    ap (λ k. (k, row) ∷ map keyed rows) (sym (keys_equal key (key_of row) own) ∙ keys_equal key (key_of r) here)
+    ap (λ k. (k, row) ∷ map keyed rows) (own ∙ keys_equal key (key_of r) here)
     ∙ sym (ap (λ o. match_ordering o ((key, row) ∷ map keyed (r ∷ rows)) ((key_of r, row) ∷ map keyed rows) (keyed r ∷ insert_entry value_cmp (map keyed rows) key row)) (equal_if (value_cmp key (key_of r)) here))
 put_over (r ∷ rows) key row d (suc at) point within here own =
     ap (λ l. keyed r ∷ l) (put_over rows key row d at (behind_first key r rows at point) (omega (arith, within)) here own)
     ∙ sym (ap (λ o. match_ordering o ((key, row) ∷ map keyed (r ∷ rows)) ((key_of r, row) ∷ map keyed rows) (keyed r ∷ insert_entry value_cmp (map keyed rows) key row)) (first_below key r rows at point))
+
+pub put_between : (rows : List (List Value)) (key : Value) (row d : List Value) (at : ℕ) → BelowAt key rows at → at < length rows → is_eq (value_cmp key (key_of (get_or rows at d))) ≡ false → key_of row ≡ key
+    → map keyed (take at rows ++ row ∷ drop at rows) ≡ insert_entry value_cmp (map keyed rows) key row
+put_between [] key row d at point within away own = absurd (omega (arith, within))
+put_between (r ∷ rows) key row d zero point within away own =
+    ap (λ k. (k, row) ∷ map keyed (r ∷ rows)) own
+    ∙ sym (ap (λ o. match_ordering o ((key, row) ∷ map keyed (r ∷ rows)) ((key_of r, row) ∷ map keyed rows) (keyed r ∷ insert_entry value_cmp (map keyed rows) key row))
+    (below_if (value_cmp key (key_of r)) (point.1 0 r (omega arith) (omega arith)) away))
+put_between (r ∷ rows) key row d (suc at) point within away own =
+    ap (λ l. keyed r ∷ l) (put_between rows key row d at (behind_first key r rows at point) (omega (arith, within)) away own)
+    ∙ sym (ap (λ o. match_ordering o ((key, row) ∷ map keyed (r ∷ rows)) ((key_of r, row) ∷ map keyed rows) (keyed r ∷ insert_entry value_cmp (map keyed rows) key row)) (first_below key r rows at point))
+
+-- ---- a row that is taken away
+
+pub kept_one : (key : Value) (row : List Value) (rows : List (List Value)) → is_eq (value_cmp key (key_of row)) ≡ false → without key (row ∷ rows) ≡ row ∷ without key rows
+kept_one key row rows away = ap (λ b. cond (not b) (row ∷ without key rows) (without key rows)) away
+
+left_out : (key : Value) (row : List Value) (rows : List (List Value)) → is_eq (value_cmp key (key_of row)) ≡ true → without key (row ∷ rows) ≡ without key rows
+left_out key row rows here = ap (λ b. cond (not b) (row ∷ without key rows) (without key rows)) here
+
+-- rows with keys above are all kept
+pub none_out : (key : Value) (rows : List (List Value)) → AllByRecursion (λ k. value_cmp key k ≡ Less) (keys_of (map keyed rows)) → without key rows ≡ rows
+none_out key [] above = refl
+none_out key (row ∷ rows) above = kept_one key row rows (ap is_eq above.0) ∙ ap (λ l. row ∷ l) (none_out key rows above.1)
+
+pub taken_at : (rows : List (List Value)) (key : Value) (d : List Value) (at : ℕ) → KeysRise (map keyed rows) → BelowAt key rows at → at < length rows → is_eq (value_cmp key (key_of (get_or rows at d))) ≡ true → take at rows ++ drop (suc at) rows ≡ without key rows
+unfolding IsStrictlySortedBy
+taken_at [] key d at rise point within here = absurd (omega (arith, within))
+taken_at (row ∷ rows) key d zero rise point within here =
+    sym (left_out key row rows here ∙ none_out key rows (subst (λ (k : Value). AllByRecursion (λ j. value_cmp k j ≡ Less) (keys_of (map keyed rows))) (sym (keys_equal key (key_of row) here)) rise.0))
+taken_at (row ∷ rows) key d (suc at) rise point within here =
+    ap (λ l. row ∷ l) (taken_at rows key d at rise.1 (behind_first key row rows at point) (omega (arith, within)) here)
+    ∙ sym (kept_one key row rows (ap is_eq (first_below key row rows at point)))
+
+pub none_at : (rows : List (List Value)) (key : Value) (d : List Value) (at : ℕ) → KeysRise (map keyed rows) → BelowAt key rows at → at < length rows → is_eq (value_cmp key (key_of (get_or rows at d))) ≡ false → rows ≡ without key rows
+unfolding IsStrictlySortedBy
+none_at [] key d at rise point within away = absurd (omega (arith, within))
+none_at (row ∷ rows) key d zero rise point within away =
+    let less : value_cmp key (key_of row) ≡ Less = below_if (value_cmp key (key_of row)) (point.1 0 row (omega arith) (omega arith)) away in
+    sym (none_out key (row ∷ rows) (less, all_above key (key_of row) (keys_of (map keyed rows)) less rise.0))
+none_at (row ∷ rows) key d (suc at) rise point within away =
+    ap (λ l. row ∷ l) (none_at rows key d at rise.1 (behind_first key row rows at point) (omega (arith, within)) away)
+    ∙ sym (kept_one key row rows (ap is_eq (first_below key row rows at point)))
+
+pub none_behind : (rows : List (List Value)) (key : Value) (at : ℕ) → BelowAt key rows at → length rows ≤ at → rows ≡ without key rows
+none_behind [] key at point over = refl
+none_behind (row ∷ rows) key zero point over = absurd (omega (arith, over))
+none_behind (row ∷ rows) key (suc at) point over =
+    ap (λ l. row ∷ l) (none_behind rows key at (behind_first key row rows at point) (omega (arith, over)))
+    ∙ sym (kept_one key row rows (ap is_eq (first_below key row rows at point)))
 
 twice : (b : Bool) (x y z : Option (List Value)) → cond b x z ≡ cond b x (cond b y z)
 twice true x y z = refl
@@ -218,23 +268,6 @@ put_rises (e ∷ es) key row rise = by (put_rises es key row rise.1) (value_cmp 
     by rest Less h = ((h, all_above key e.0 (keys_of es) h rise.0), rise)
     by rest Equal h = rise
     by rest Greater h = (put_above e.0 es key row rise.0 (turned key e.0 Greater h), rest)
-
--- what is found in rows that were seen, once one was put in
-pub put_seen : (seen es new : Keyed) (key : Value) (row : List Value) (q : Value) → seen ≡ es → new ≡ insert_entry value_cmp es key row → keyed_of new q ≡ cond (is_eq (value_cmp key q)) (Some row) (keyed_of seen q)
-put_seen seen es new key row q same put =
-    ap (λ (s : Keyed). keyed_of s q) put ∙ put_found es key row q ∙ ap (λ (s : Keyed). cond (is_eq (value_cmp key q)) (Some row) (keyed_of s q)) (sym same)
-
--- taking away a key without a row changes nothing
-pub none_taken : (seen es : Keyed) (key : Value) (q : Value) → seen ≡ es → is_some (keyed_of es key) ≡ false → keyed_of es q ≡ cond (is_eq (value_cmp key q)) None (keyed_of seen q)
-none_taken seen es key q same none =
-    elim (cases_Bool (is_eq (value_cmp key q))) [
-      | inl here ↦ subst (λ (k : Value). keyed_of es k ≡ None) (keys_equal key q here) (is_none (keyed_of es key) none) ∙ sym (ap (λ b. cond b None (keyed_of seen q)) here)
-      | inr away ↦ ap (λ (s : Keyed). keyed_of s q) (sym same) ∙ sym (ap (λ b. cond b None (keyed_of seen q)) away)
-    ]
-  where
-    is_none : (o : Option (List Value)) → is_some o ≡ false → o ≡ None
-    is_none None h = refl
-    is_none (Some row) h = cc
 
 -- ---- rows that rise
 
@@ -350,9 +383,3 @@ between_none lo hi rows start end starts ends over =
 
 abbrev UpToAt : Value → List (List Value) → ℕ → Type 0
 UpToAt key rows at = IsPartitionPoint (λ row. is_up_to key row ≡ true) (λ row. is_up_to key row ≡ false) rows at
-
-pub starts_below : (key : Value) (rows : List (List Value)) (at : ℕ) → BelowAt key rows at → IsPartitionPoint (λ row. is_le (value_cmp key (key_of row)) ≡ false) (λ row. is_le (value_cmp key (key_of row)) ≡ true) rows at
-starts_below key rows at point = (λ k d from below. not_true _ (point.0 k d from below), λ k d from below. not_false _ (point.1 k d from below))
-
-pub starts_up_to : (key : Value) (rows : List (List Value)) (at : ℕ) → UpToAt key rows at → IsPartitionPoint (λ row. is_lt (value_cmp key (key_of row)) ≡ false) (λ row. is_lt (value_cmp key (key_of row)) ≡ true) rows at
-starts_up_to key rows at point = (λ k d from below. not_true _ (point.0 k d from below), λ k d from below. not_false _ (point.1 k d from below))

@@ -102,7 +102,7 @@ first_at (entry ∷ rest) key row firsts h =
 
 -- ---- rows that fit
 
-first_of_fit : (schema : Option Schema) (row : PlainRow) → is_row_of schema row.key row.row ≡ true → key_of row.row ≡ row.key
+pub first_of_fit : (schema : Option Schema) (row : PlainRow) → is_row_of schema row.key row.row ≡ true → key_of row.row ≡ row.key
 first_of_fit None row fit = cc
 first_of_fit (Some schema) row fit = (same_value_decides (key_of row.row) row.key).0 (both_true (row_fits schema.columns row.row) (same_value (key_of row.row) row.key) fit).1
 

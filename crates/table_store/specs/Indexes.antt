@@ -1,5 +1,5 @@
 -- The keys of a table's rows by the value of one column.
-use Rattle.std.specs.Prelude.{◌≡◌, ℕ, Bool, false, List, Option, Some, None, slice_get, if◌then◌else◌}
+use Rattle.std.specs.Prelude.{◌≡◌, ◌&&◌, ℕ, Bool, false, List, Option, Some, None, slice_get, if◌then◌else◌}
 use Rattle.std.specs.declared.cmp.Ordering.{Ordering}
 use Rattle.std.specs.declared.cmp.Ordering.TheVariants.{Less, Equal, Greater}
 use Rattle.std.specs.declared.ops.Bound.{Bound}
@@ -11,6 +11,7 @@ use Rattle.svc_values.specs.declared.statement.Test.{Test}
 use Rattle.svc_values.specs.declared.statement.Test.TheVariants as test
 use Rattle.svc_values.specs.declared.value.Value.{Value}
 use Rattle.svc_values.specs.meaning.Order.{value_cmp}
+use Rattle.svc_values.specs.meaning.Schemas.{key_of}
 use Rattle.table_store.specs.declared.column_index.ColumnIndex.{ColumnIndex}
 use Rattle.table_store.specs.declared.column_index.Pair.{Pair}
 use Rattle.table_store.specs.declared.column_index.Spot.{Spot}
@@ -49,6 +50,11 @@ value_in (Some row) column = slice_get row column
 abbrev pub is_value : Option Value → Value → Bool
 is_value None v = false
 is_value (Some w) v = is_eq (value_cmp w v)
+
+-- one of the rows has the value in the column, and the key
+abbrev pub has_value : List (List Value) → ℕ → Value → Value → Bool
+has_value rows column v k = list_any (λ row. is_value (slice_get row column) v
+    && is_eq (value_cmp (key_of row) k)) rows
 
 -- the index has the key of each row at its value in the column, and nothing else
 abbrev pub IsIndexOf : (Value → Option (List Value)) → ColumnIndex → Type 0

@@ -1,5 +1,5 @@
 pub mod Given
-pub mod Held
+pub mod Blocks
 pub mod Indexes
 pub mod Rows
 pub mod Selection

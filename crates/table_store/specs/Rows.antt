@@ -1,13 +1,14 @@
 -- Rows as they are kept: by the name of the table, and in it in order of key.
-use Rattle.std.specs.Prelude.{◌≡◌, ℕ, List, [], ◌∷◌, Option, Some, None, map}
+use Rattle.std.specs.Prelude.{◌≡◌, ◌&&◌, ℕ, Bool, List, [], ◌∷◌, Option, Some, None, map}
 use Rattle.std.specs.List.{flat_map, AllByRecursion}
 use Rattle.std.specs.List.Sorted.{IsStrictlySortedBy}
 use Rattle.std.specs.Ordering.{nat_cmp}
-use Rattle.std.specs.Cmp.Lexicographic.{slice_cmp}
+use Rattle.std.specs.Cmp.Lexicographic.{pointwise, slice_cmp}
 use Rattle.std.specs.BTreeMap.{is_at}
 use Rattle.std.specs.Map.{keys_of, lookup, values_of}
 use Rattle.svc_values.specs.declared.value.Value.{Value}
 use Rattle.svc_values.specs.meaning.Order.{value_cmp}
+use Rattle.svc_values.specs.meaning.Same.{same_value}
 use Rattle.svc_values.specs.meaning.Schemas.{key_of}
 use Rattle.svc_values.specs.declared.tables.PlainRow.{PlainRow}
 
@@ -22,6 +23,10 @@ KeysRise entries = IsStrictlySortedBy value_cmp (keys_of entries)
 -- each row stands at its first value
 abbrev pub KeysFirst : Keyed → Type 0
 KeysFirst entries = AllByRecursion (λ one. key_of one.1 ≡ one.0) entries
+
+-- the same keys in the same order, with the same rows
+abbrev pub same_keyed : Keyed → Keyed → Bool
+same_keyed = pointwise (λ a b. same_value a.0 b.0 && pointwise same_value a.1 b.1)
 
 -- the row of a key
 abbrev pub keyed_of : Keyed → Value → Option (List Value)

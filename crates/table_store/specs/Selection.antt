@@ -1,5 +1,5 @@
 -- Which rows a select answers, and how many.
-use Rattle.std.specs.Prelude.{ℕ, zero, suc, Bool, List, Option, Some, None, filter, length, nat_lt, not, slice_get, if◌then◌else◌}
+use Rattle.std.specs.Prelude.{◌≡◌, ◌<◌, ◌≤◌, ℕ, zero, suc, Bool, true, false, List, Option, Some, None, filter, length, nat_lt, not, slice_get, if◌then◌else◌}
 use Rattle.std.specs.declared.ops.Bound.{Bound}
 use Rattle.std.specs.declared.ops.Bound.TheVariants.{Included, Excluded, Unbounded}
 use Rattle.std.specs.Option.{is_some}
@@ -40,3 +40,8 @@ is_among keys key = is_some (lookup (is_at (value_cmp key)) keys.entries)
 -- the rows whose keys are none of these
 abbrev pub apart_from : BTreeMap Value ℕ → Keyed → Keyed
 apart_from keys rows = filter (λ entry. not (is_among keys entry.0)) rows
+
+-- all of the wanted rows are taken, or some of them where they are more than 32
+abbrev pub TakesAll : Keyed → Keyed → Bool → Type 0
+TakesAll wanted taken true = (taken ≡ wanted) × (length wanted ≤ 32)
+TakesAll wanted taken false = 32 < length wanted

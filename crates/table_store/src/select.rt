@@ -1,18 +1,17 @@
 //! Rows that meet a test.
-ghost use Rattle.std.specs.Prelude.{◌≡◌, ◌&&◌, not, IfOk, OnOk, map, if◌then◌else◌};
+ghost use Rattle.std.specs.Prelude.{◌≡◌, ◌≤◌, ◌++◌, ◌&&◌, not, IfOk, OnOk, length, map, if◌then◌else◌};
+ghost use Rattle.std.specs.Map.{values_of};
 ghost use Rattle.std.specs.Option.{option_map, option_or};
 ghost use Rattle.std.specs.Range.Bound.{bound_map};
 ghost use Rattle.svc_values.specs.declared.value.Value.{Value as ValueSeen};
 ghost use Rattle.table_store.specs.Given.{keyed};
 ghost use Rattle.table_store.specs.Indexes.{IsIndexOf, is_spot_of};
 ghost use Rattle.table_store.specs.Rows.{keyed_of, KeysFirst, KeysRise};
-ghost use Rattle.table_store.specs.Selection.{apart_from, at_most_32, is_among, meeting};
+ghost use Rattle.table_store.specs.Selection.{TakesAll, apart_from, at_most_32, is_among, meeting};
 ghost use Rattle.table_store.specs.Selection.{keys_sought as keys_sought_def};
 
 use crate::column_index::{ColumnIndex, Pair, Spot, ends};
-use crate::held::{Form, key_of};
-use crate::row_map::RowMap;
-use crate::sorted_rows::part_between;
+use crate::row_map::{RowMap, key_of};
 use std::alloc::Global;
 use std::collections::BTreeMap;
 use std::ops::Bound;
@@ -51,32 +50,37 @@ pub(crate) fn found_in(
     but: &BTreeMap<Value, usize>,
 ) -> Result<Option<BTreeMap<Value, Row>>, NoMemory>
     requires { KeysFirst rows.now }
-    ensures found { IfOk result (λ found. option_map (λ rows. rows.entries) found
+    ensures { IfOk result (λ found. option_map (λ rows. rows.entries) found
         ≡ at_most_32 (apart_from but.now (meeting column test value.now rows.now))) }
-    ensures rising { KeysRise rows.now }
 {
-    match rows.form() {
-        Form::Sorted(rows) => found_sorted(alloc, rows, column, test, value, but),
-        Form::Mapped(rows) => found_mapped(alloc, rows, column, test, value, but),
+    let mut found = BTreeMap::new(alloc);
+    let (from, to) = keys_sought(column, test, value);
+    for block in rows.between(from, to) {
+        let rows = block.between(from, to);
+        if !take_rows(alloc, rows, column, test, value, but, &mut found)? {
+            return Ok(None);
+        }
     }
+    Ok(Some(found))
 }
 
-/// The same of rows in rising order of key.
-fn found_sorted(
+/// Puts copies of those of these rows to those found, up to 32 rows. Whether there are no more.
+fn take_rows(
     alloc: Global,
     rows: &[Row],
     column: usize,
     test: Test,
     value: &Value,
     but: &BTreeMap<Value, usize>,
-) -> Result<Option<BTreeMap<Value, Row>>, NoMemory>
-    requires { KeysRise (map keyed rows.now) }
-    ensures { IfOk result (λ found. option_map (λ rows. rows.entries) found
-        ≡ at_most_32 (apart_from but.now (meeting column test value.now (map keyed rows.now)))) }
+    found: &mut BTreeMap<Value, Row>,
+) -> Result<bool, NoMemory>
+    requires rising { KeysRise (found.old.entries ++ apart_from but.now
+        (meeting column test value.now (map keyed rows.now))) }
+    requires fits { length found.old.entries ≤ 32 }
+    ensures { IfOk result (TakesAll (found.old.entries ++ apart_from but.now
+        (meeting column test value.now (map keyed rows.now))) found.new.entries) }
 {
-    let mut found = BTreeMap::new(alloc);
-    let (from, to) = keys_sought(column, test, value);
-    for row in part_between(rows, from, to) {
+    for row in rows {
         if !value_meets(test, value, row.get(column)) {
             continue;
         }
@@ -85,37 +89,11 @@ fn found_sorted(
             continue;
         }
         if found.len() >= ROW_LIMIT {
-            return Ok(None);
+            return Ok(false);
         }
         found.insert(key, row.copy(alloc)?)?;
     }
-    Ok(Some(found))
-}
-
-/// The same of rows by their keys.
-fn found_mapped(
-    alloc: Global,
-    rows: &BTreeMap<Value, Row>,
-    column: usize,
-    test: Test,
-    value: &Value,
-    but: &BTreeMap<Value, usize>,
-) -> Result<Option<BTreeMap<Value, Row>>, NoMemory>
-    requires first { KeysFirst rows.now.entries }
-    requires rising { KeysRise rows.now.entries }
-    ensures { IfOk result (λ found. option_map (λ rows. rows.entries) found
-        ≡ at_most_32 (apart_from but.now (meeting column test value.now rows.now.entries))) }
-{
-    let mut found = BTreeMap::new(alloc);
-    for (key, row) in rows.range(keys_sought(column, test, value)) {
-        if value_meets(test, value, row.get(column)) && !but.contains_key(key) {
-            if found.len() >= ROW_LIMIT {
-                return Ok(None);
-            }
-            found.insert(key.copy(alloc)?, row.copy(alloc)?)?;
-        }
-    }
-    Ok(Some(found))
+    Ok(true)
 }
 
 /// Puts a copy of the row at a pair's key to those found, unless the key is one of these.
@@ -159,7 +137,7 @@ pub(crate) fn found_by(
     ensures { IfOk result (λ found. option_map (λ rows. rows.entries) found
         ≡ at_most_32 (apart_from but.now (meeting index.now.column test value.now rows.now))) }
 {
-    let _ = rows.form();
+    let _ = rows.blocks();
     let mut found = BTreeMap::new(alloc);
     for pair in index.pairs.range(ends(alloc, test, value)?) {
         if found.len() > ROW_LIMIT {
@@ -171,4 +149,11 @@ pub(crate) fn found_by(
         return Ok(None);
     }
     Ok(Some(found))
+}
+
+/// The rows of a map in order of key, which are moved. Linear.
+pub fn rows_of(alloc: Global, rows: BTreeMap<Value, Row>) -> Result<Vec<Row>, NoMemory>
+    ensures { IfOk result (λ made. made.items ≡ values_of rows.entries) }
+{
+    Ok(rows.into_values().collect(alloc)?)
 }

@@ -8,15 +8,14 @@ ghost use Rattle.svc_values.specs.meaning.Schemas.{key_of as key_of_def};
 ghost use Rattle.svc_values.specs.meaning.Tests.{selected as selected_def};
 ghost use Rattle.svc_values.specs.declared.value.Value.{Value as ValueSeen};
 ghost use Rattle.table_store.specs.Given.{keyed};
-ghost use Rattle.table_store.specs.Indexes.{AreIndexesOf, IsIndexOf, has_pair, is_value, with_row};
+ghost use Rattle.table_store.specs.Indexes.{AreIndexesOf, IsIndexOf, has_pair, has_value, is_value, with_row};
 ghost use Rattle.table_store.specs.declared.column_index.ColumnIndex.{ColumnIndex as IndexSeen};
 ghost use Rattle.table_store.specs.Rows.{keyed_of, KeysFirst, KeysRise};
 ghost use Rattle.table_store.specs.Selection.{apart_from, at_most_32, meeting};
 
 use crate::column_index::ColumnIndex;
-use crate::held::{Form, rows_of};
 use crate::row_map::RowMap;
-use crate::select::{found_by, found_in};
+use crate::select::{found_by, found_in, rows_of};
 use std::alloc::Global;
 use std::collections::BTreeMap;
 use std::marker::Model;
@@ -48,10 +47,25 @@ fn index_of(alloc: Global, rows: &RowMap, column: usize) -> Result<ColumnIndex, 
     ensures made { IfOk result (λ made. IsIndexOf (keyed_of rows.now) made) }
     ensures rising { KeysRise rows.now }
 {
-    match rows.form() {
-        Form::Sorted(rows) => index_of_sorted(alloc, rows, column),
-        Form::Mapped(rows) => index_of_mapped(alloc, rows, column),
+    let mut made = ColumnIndex::new(alloc, column);
+    for block in rows.blocks() {
+        put_keys(&mut made, block.rows())?;
     }
+    Ok(made)
+}
+
+/// Puts the key of each row in at its value in the column.
+fn put_keys(made: &mut ColumnIndex, rows: &[Row]) -> Result<(), NoMemory>
+    ensures column { made.new.column ≡ made.old.column }
+    ensures ok { OnOk result ((v k : ValueSeen)
+        → has_pair made.new.pairs.keys v k
+        ≡ (if has_value rows.now made.old.column v k then true else
+        has_pair made.old.pairs.keys v k)) }
+{
+    for row in rows {
+        put_key(made, row)?;
+    }
+    Ok(())
 }
 
 /// Puts the key of a row in at its value in the column.
@@ -70,34 +84,6 @@ fn put_key(made: &mut ColumnIndex, row: &Row) -> Result<(), NoMemory>
     }
 }
 
-/// The same of rows in rising order of key.
-fn index_of_sorted(alloc: Global, rows: &[Row], column: usize) -> Result<ColumnIndex, NoMemory>
-    requires { KeysRise (map keyed rows.now) }
-    ensures { IfOk result (λ made. IsIndexOf (keyed_of (map keyed rows.now)) made) }
-{
-    let mut made = ColumnIndex::new(alloc, column);
-    for row in rows {
-        put_key(&mut made, row)?;
-    }
-    Ok(made)
-}
-
-/// The same of rows by their keys.
-fn index_of_mapped(
-    alloc: Global,
-    rows: &BTreeMap<Value, Row>,
-    column: usize,
-) -> Result<ColumnIndex, NoMemory>
-    requires { KeysRise rows.now.entries }
-    ensures { IfOk result (λ made. IsIndexOf (keyed_of rows.now.entries) made) }
-{
-    let mut made = ColumnIndex::new(alloc, column);
-    for (key, row) in rows {
-        made.put(row.get(column), key)?;
-    }
-    Ok(made)
-}
-
 /// The indexes, once the row of a key is this one, if any.
 fn changed(
     indexes: Vec<ColumnIndex>,
@@ -110,7 +96,7 @@ fn changed(
         (with_row (keyed_of rows.now) key.now (option_copied after.entry)) made.items) }
     ensures rising { KeysRise rows.now }
 {
-    let _ = rows.form();
+    let _ = rows.blocks();
     if indexes.is_empty() {
         return Ok(indexes);
     }
@@ -140,7 +126,7 @@ impl Shelf {
         ensures rows { result.now ≡ self.now }
         ensures rising { KeysRise self.now }
     {
-        let _ = self.rows.form();
+        let _ = self.rows.blocks();
         &self.rows
     }
 
@@ -178,15 +164,16 @@ impl Shelf {
 
     /// Puts a row in the place of that of its key, if any. It takes what `RowMap::put` takes, and
     /// the logarithm of the number of rows for each index.
-    pub(crate) fn put(&mut self, key: Value, row: Row) -> Result<(), NoMemory>
+    pub(crate) fn put(&mut self, key: &Value, row: Row) -> Result<(), NoMemory>
+        requires { key_of_def row ≡ key.now }
         ensures ok { OnOk result ((q : ValueSeen)
-            → keyed_of self.new q ≡ (if is_eq (value_cmp key q) then Some row else keyed_of
+            → keyed_of self.new q ≡ (if is_eq (value_cmp key.now q) then Some row else keyed_of
             self.old q)) }
         ensures err { OnErr result (self.new ≡ self.old) }
         ensures rising { KeysRise self.new }
     {
         let indexes = std::mem::replace(&mut self.indexes, Vec::new(self.alloc));
-        let indexes = changed(indexes, &self.rows, &key, Some(&row))?;
+        let indexes = changed(indexes, &self.rows, key, Some(&row))?;
         self.rows.put(key, row)?;
         self.indexes = indexes;
         Ok(())
@@ -220,27 +207,6 @@ impl Shelf {
         None
     }
 
-    /// Copies of the rows whose value in a column meets the test and whose keys are none of these,
-    /// by their keys, unless they are more than 32. Where the column is the first, that of the
-    /// keys, or is indexed, it takes the logarithm of the rows and 33 of them at most beside those
-    /// of these keys, and else it is linear in the rows.
-    fn found(
-        &self,
-        column: usize,
-        test: Test,
-        value: &Value,
-        but: &BTreeMap<Value, usize>,
-    ) -> Result<Option<BTreeMap<Value, Row>>, NoMemory>
-        requires { KeysFirst self.now }
-        ensures { IfOk result (λ found. option_map (λ rows. rows.entries) found
-            ≡ at_most_32 (apart_from but.now (meeting column test value.now self.now))) }
-    {
-        match self.index(column) {
-            None => found_in(self.alloc, &self.rows, column, test, value, but),
-            Some(index) => found_by(self.alloc, index, &self.rows, test, value, but),
-        }
-    }
-
     /// Copies of the rows whose value in a column meets the test, in order of key, unless they are
     /// more than 32.
     pub(crate) fn selected(
@@ -254,27 +220,30 @@ impl Shelf {
             ≡ at_most_32 (selected_def column test value.now (values_of self.now))) }
     {
         let none = BTreeMap::new(self.alloc);
-        match self.found(column, test, value, &none)? {
+        match self.selected_but(column, test, value, &none)? {
             None => Ok(None),
             Some(found) => Ok(Some(rows_of(self.alloc, found)?)),
         }
     }
 
-    /// The same without the rows of these keys, each row with its key.
+    /// Copies of the rows whose value in a column meets the test and whose keys are none of these,
+    /// by their keys, unless they are more than 32. Where the column is the first, that of the
+    /// keys, or is indexed, it takes the logarithm of the rows and 33 of them at most beside those
+    /// of these keys, and else it is linear in the rows.
     pub(crate) fn selected_but(
         &self,
         column: usize,
         test: Test,
         value: &Value,
         but: &BTreeMap<Value, usize>,
-    ) -> Result<Option<RowMap>, NoMemory>
+    ) -> Result<Option<BTreeMap<Value, Row>>, NoMemory>
         requires { KeysFirst self.now }
-        ensures { IfOk result (λ found. found
+        ensures { IfOk result (λ found. option_map (λ rows. rows.entries) found
             ≡ at_most_32 (apart_from but.now (meeting column test value.now self.now))) }
     {
-        match self.found(column, test, value, but)? {
-            None => Ok(None),
-            Some(rows) => Ok(Some(RowMap::of(self.alloc, rows)?)),
+        match self.index(column) {
+            None => found_in(self.alloc, &self.rows, column, test, value, but),
+            Some(index) => found_by(self.alloc, index, &self.rows, test, value, but),
         }
     }
 }

@@ -1,6 +1,7 @@
 //! The rows of all tables, each with its indexes, by name.
 ghost use Rattle.std.specs.Prelude.{◌≡◌, OnOk, OnErr, IfOk, None, Some, map};
 ghost use Rattle.std.specs.List.{list_all};
+ghost use Rattle.svc_values.specs.meaning.Schemas.{key_of as key_of_def};
 ghost use Rattle.svc_values.specs.meaning.Tables.{in_order};
 ghost use Rattle.table_store.specs.Given.{is_index_of, keyed, named, plain, shelf_named};
 ghost use Rattle.table_store.specs.Rows.{IsShelved, all_rows, shelf_of, shelf_rows};
@@ -178,11 +179,12 @@ pub(crate) fn put(
     alloc: Global,
     shelves: &mut Shelves,
     table: &Name,
-    key: Value,
+    key: &Value,
     row: Row,
 ) -> Result<(), NoMemory>
-    requires { IsShelved shelves.old.entries }
-    ensures ok { OnOk result (Changes shelves.old.entries table.now key (Some row)
+    requires shelved { IsShelved shelves.old.entries }
+    requires own { key_of_def row ≡ key.now }
+    ensures ok { OnOk result (Changes shelves.old.entries table.now key.now (Some row)
         shelves.new.entries) }
     ensures err { OnErr result (shelves.new.entries ≡ shelves.old.entries) }
     ensures shelved { IsShelved shelves.new.entries }

@@ -1,19 +1,21 @@
 //! Rows in a vector in rising order of key.
-ghost use Rattle.std.specs.Prelude.{◌≡◌, ◌≤◌, true, false, Some, IfOk, OnErr, length, map, slice_get};
+ghost use Rattle.std.specs.Prelude.{◌≡◌, ◌≤◌, true, false, None, Some, IfOk, OnOk, OnErr, length, map, slice_get};
+ghost use Rattle.std.specs.BTreeMap.{insert_entry};
 ghost use Rattle.std.specs.BTreeMap.Range.{entries_between};
 ghost use Rattle.std.specs.List.Sorted.{IsPartitionPoint};
-ghost use Rattle.std.specs.Option.{is_some, option_copied, option_map};
+ghost use Rattle.std.specs.Option.{option_copied, option_map};
 ghost use Rattle.std.specs.Ordering.{is_eq};
 ghost use Rattle.std.specs.Range.Bound.{bound_map};
 ghost use Rattle.svc_values.specs.meaning.Order.{value_cmp};
 ghost use Rattle.svc_values.specs.meaning.Schemas.{key_of as key_of_def};
 ghost use Rattle.table_store.specs.Given.{keyed};
-ghost use Rattle.table_store.specs.Held.{is_below as is_below_def, is_behind as is_behind_def, is_up_to as is_up_to_def, rise_behind, StartsAt, EndsAt, PutsRow};
+ghost use Rattle.table_store.specs.Blocks.{is_below as is_below_def, is_behind as is_behind_def, is_up_to as is_up_to_def, rise_behind, without, StartsAt, EndsAt};
 ghost use Rattle.table_store.specs.Rows.{keyed_of, KeysRise};
 
+use std::alloc::Global;
 use std::cmp::Ordering;
 use std::ops::Bound;
-use svc_values::{NoMemory, Row, Value};
+use svc_values::{NoMemory, Row, TryCopy, Value};
 
 /// How a key stands to that of a row, which is its first value.
 fn cmp_key(key: &Value, row: &Row) -> Ordering
@@ -40,7 +42,7 @@ fn is_below(row: &Row, key: &Value) -> bool
 }
 
 /// Whether the row's key is this one or below it.
-fn is_up_to(row: &Row, key: &Value) -> bool
+pub(crate) fn is_up_to(row: &Row, key: &Value) -> bool
     ensures { result ≡ is_up_to_def key.now row.now }
 {
     !cmp_key(key, row).is_lt()
@@ -93,7 +95,7 @@ fn end_of(rows: &[Row], to: Bound<&Value>) -> usize
 }
 
 /// The rows whose keys are between two ends. It takes the logarithm of the number of rows.
-pub fn part_between<'a>(rows: &'a [Row], from: Bound<&Value>, to: Bound<&Value>) -> &'a [Row]
+pub(crate) fn part_between<'a>(rows: &'a [Row], from: Bound<&Value>, to: Bound<&Value>) -> &'a [Row]
     requires { KeysRise (map keyed rows.now) }
     ensures { map keyed result.now ≡ entries_between value_cmp (bound_map (λ x. x.now) from.entry)
         (bound_map (λ x. x.now) to.entry) (map keyed rows.now) }
@@ -125,14 +127,6 @@ pub(crate) fn row_at<'a>(rows: &'a [Row], key: &Value) -> Option<&'a Row>
     }
 }
 
-/// Whether there is a row of a key. It takes the logarithm of the number of rows.
-pub(crate) fn has_key(rows: &[Row], key: &Value) -> bool
-    requires { KeysRise (map keyed rows.now) }
-    ensures { result ≡ is_some (keyed_of (map keyed rows.now) key.now) }
-{
-    row_at(rows, key).is_some()
-}
-
 /// Whether the row's key is above that of the row before it, if there is one.
 fn is_behind(last: Option<&Row>, row: &Row) -> bool
     ensures { result ≡ is_behind_def (option_map key_of_def (option_copied last.entry)) row.now }
@@ -160,25 +154,60 @@ pub(crate) fn rise(rows: &[Row]) -> bool
     true
 }
 
-/// Puts a row in the place of that of its key, or behind all others. A row of another key is given
-/// back, and nothing has changed, and so it is where the key is not the row's. It takes the
-/// logarithm of the number of rows.
-pub(crate) fn put_row(rows: &mut Vec<Row>, key: &Value, row: Row) -> Result<Option<Row>, NoMemory>
-    requires { KeysRise (map keyed rows.old.items) }
-    ensures ok { IfOk result (λ left. PutsRow rows.old.items key.now row left rows.new.items) }
+/// Puts a row in the place of that of its key, or before those with keys above it. It takes the
+/// logarithm of the number of rows, and moves those behind it.
+pub(crate) fn put_row(rows: &mut Vec<Row>, key: &Value, row: Row) -> Result<(), NoMemory>
+    requires rising { KeysRise (map keyed rows.old.items) }
+    requires own { key_of_def row ≡ key.now }
+    ensures ok { OnOk result (map keyed rows.new.items
+        ≡ insert_entry value_cmp (map keyed rows.old.items) key.now row) }
     ensures err { OnErr result (rows.new.items ≡ rows.old.items) }
 {
-    if !is_key(&row, key) {
-        return Ok(Some(row));
-    }
     let at = count_below(rows.as_slice(), key);
     if at >= rows.len() {
         rows.push(row)?;
-        return Ok(None);
+        return Ok(());
+    }
+    if is_key(&rows[at], key) {
+        rows[at] = row;
+        return Ok(());
+    }
+    rows.insert(at, row)?;
+    Ok(())
+}
+
+/// Takes the row of a key away, if there is one. It takes the logarithm of the number of rows, and
+/// moves those behind it.
+pub(crate) fn take_row(rows: &mut Vec<Row>, key: &Value)
+    requires { KeysRise (map keyed rows.old.items) }
+    ensures { rows.new.items ≡ without key.now rows.old.items }
+{
+    let at = count_below(rows.as_slice(), key);
+    if at >= rows.len() {
+        return;
     }
     if !is_key(&rows[at], key) {
-        return Ok(Some(row));
+        return;
     }
-    rows[at] = row;
-    Ok(None)
+    rows.remove(at);
+}
+
+/// The same row without spare room. It takes no memory.
+pub(crate) fn exact(row: Row) -> Row
+    ensures { result ≡ row }
+{
+    let mut values = row.into_vec();
+    values.shrink_to_fit();
+    Row::from_vec(values)
+}
+
+/// Copies of rows.
+pub(crate) fn copied_rows(alloc: Global, rows: &[Row]) -> Result<Vec<Row>, NoMemory>
+    ensures { IfOk result (λ copied. copied.items ≡ rows.now) }
+{
+    let mut copied = Vec::with_capacity(alloc, rows.len())?;
+    for row in rows {
+        copied.push(row.copy(alloc)?)?;
+    }
+    Ok(copied)
 }

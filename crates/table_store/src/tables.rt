@@ -176,8 +176,8 @@ impl Tables {
         }
     }
 
-    /// The same without the rows of these keys, each row with its key. It takes the time of
-    /// `select` and that of these keys.
+    /// The same without the rows of these keys, by their own keys. It takes the time of `select`
+    /// and that of these keys.
     pub fn select_but(
         &self,
         table: &Name,
@@ -185,13 +185,13 @@ impl Tables {
         test: Test,
         value: &Value,
         but: &BTreeMap<Value, usize>,
-    ) -> Result<Option<RowMap>, NoMemory>
-        ensures { IfOk result (λ found. found
+    ) -> Result<Option<BTreeMap<Value, Row>>, NoMemory>
+        ensures { IfOk result (λ found. option_map (λ rows. rows.entries) found
             ≡ at_most_32 (apart_from but.now
             (meeting column test value.now (keyed_rows self.now.rows table.now)))) }
     {
         match self.shelf(table) {
-            None => Ok(Some(RowMap::new(self.alloc)?)),
+            None => Ok(Some(BTreeMap::new(self.alloc))),
             Some(shelf) => shelf.selected_but(column, test, value, but),
         }
     }
@@ -210,10 +210,9 @@ impl Tables {
         shelves::emptied(alloc, &mut shelves, schemas.as_slice())
     }
 
-    /// The tables after writes, in their order. A write takes the logarithm of the number of rows,
-    /// and the first one of a table whose rows are shared copies them. Once for a table a write is
-    /// linear in its rows: the first that takes a row away, or puts one neither in the place of
-    /// another nor behind all others. After a refusal some of the writes are in.
+    /// The tables after writes, in their order. A write takes the logarithm of the number of rows
+    /// and the time of a block of them, which is copied where it is shared, as the list of the
+    /// blocks is. After a refusal some of the writes are in.
     pub fn apply(&mut self, writes: &Writes) -> Result<(), NoMemory>
         requires { IsTrue (writes_fit self.old.schemas writes.now) }
         ensures ok { OnOk result (self.new ≡ record {
@@ -244,20 +243,23 @@ impl Tables {
         match &write.row {
             None => self.take_away(&write.table, &write.key),
             Some(row) => {
-                let key = write.key.copy(self.alloc)?;
                 let row = row.copy(self.alloc)?;
-                self.put(&write.table, key, row)
+                self.put(&write.table, &write.key, row)
             }
         }
     }
 
     /// Puts a row in the place of that of its key, if any.
-    fn put(&mut self, table: &Name, key: Value, row: Row) -> Result<(), NoMemory>
-        requires { IsTrue (is_row_of (schema_of_def self.old.schemas table.now) key row) }
+    fn put(&mut self, table: &Name, key: &Value, row: Row) -> Result<(), NoMemory>
+        requires { IsTrue (is_row_of (schema_of_def self.old.schemas table.now) key.now row) }
         ensures ok { OnOk result (self.new ≡ record {
           schemas = self.old.schemas;
           rows =
-              with_write self.old.rows (record { table = table.now; key = key; row = Some row });
+              with_write self.old.rows (record {
+                table = table.now;
+                key = key.now;
+                row = Some row;
+              });
         }) }
         ensures err { OnErr result (self.new ≡ self.old) }
         ensures kept { AreKept self.new }

@@ -25,7 +25,7 @@ use Rattle.table_txn.specs.declared.found.Found.{Found}
 use Rattle.table_txn.specs.declared.found.Found.TheVariants as found
 use Rattle.table_txn.specs.declared.readings.ReadPlace.{ReadPlace}
 use Rattle.table_txn.specs.Readings.{Reading, reading_of, read_more, HasRead, HasStood, StandWhere, AreApart, first_changed, has_changed, table_in}
-use Rattle.table_store.specs.Held.{same_keyed}
+use Rattle.table_store.specs.Rows.{same_keyed}
 use Rattle.table_txn.specs.Found.{is_for, found_rows, same_optional, same_found, IsFoundAt, reading, readings_of, are_for, IsRead}
 use Rattle.table_txn.proofs.Same.{both, both_if, cmp_place_is, same_place_decides, same_place_sym}
 

@@ -8,6 +8,7 @@ pub mod Changing
 pub mod Over
 pub mod Picks
 pub mod ScanSteps
+pub mod BlockSteps
 pub mod Counts
 pub mod Statements
 pub mod Running

@@ -8,9 +8,8 @@ use Rattle.std.specs.declared.cmp.Ordering.{Ordering}
 use Rattle.std.specs.declared.cmp.Ordering.TheVariants.{Less, Equal, Greater}
 use Rattle.std.specs.declared.ops.Bound.{Bound}
 use Rattle.std.specs.declared.ops.Bound.TheVariants.{Included, Excluded, Unbounded}
-use Rattle.std.specs.Ordering.{nat_cmp, match_ordering, ordering_reverse, is_le, is_lt, is_gt}
-use Rattle.std.specs.BTreeMap.Range.{is_from_start, range_contains, IsLeBy, IsLtBy}
-use Rattle.std.specs.Range.Bound.{IsForward}
+use Rattle.std.specs.Ordering.{nat_cmp, match_ordering, ordering_reverse, is_le, is_lt}
+use Rattle.std.specs.BTreeMap.Range.{is_from_start, range_contains}
 use Rattle.std.specs.Cmp.Lexicographic.{slice_cmp}
 use Rattle.std.proofs.lemmas.Bool.{cases_Bool}
 use Rattle.std.proofs.lemmas.Cmp.{nat_list_cmp_total, tied_itself}
@@ -169,26 +168,6 @@ from_up (Excluded f) a b h lt = ap is_lt (value_cmp_total.trans f a b (is_less (
     is_less Equal e = cc
     is_less Greater e = cc
 from_up Unbounded a b h lt = refl
-
-pub forward : (lo : Bound Value) (k : Value) → from lo k ≡ true → IsForward (IsLeBy value_cmp) (IsLtBy value_cmp) lo (Excluded k)
-forward (Included f) k h = not_greater (value_cmp f k) h
-  where
-    not_greater : (o : Ordering) → is_le o ≡ true → is_gt o ≡ false
-    not_greater Less e = refl
-    not_greater Equal e = refl
-    not_greater Greater e = cc
-forward (Excluded f) k h = is_less (value_cmp f k) h
-  where
-    is_less : (o : Ordering) → is_lt o ≡ true → o ≡ Less
-    is_less Less e = refl
-    is_less Equal e = cc
-    is_less Greater e = cc
-forward Unbounded k h = tt
-
-pub forward_open : (lo : Bound Value) → IsForward (IsLeBy value_cmp) (IsLtBy value_cmp) lo Unbounded
-forward_open (Included f) = tt
-forward_open (Excluded f) = tt
-forward_open Unbounded = tt
 
 not_not : (b : Bool) → not (not b) ≡ true → b ≡ true
 not_not true h = refl

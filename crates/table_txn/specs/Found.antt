@@ -9,8 +9,7 @@ use Rattle.svc_values.specs.declared.tables.PlainRow.{PlainRow}
 use Rattle.svc_values.specs.declared.tables.Place.{Place}
 use Rattle.svc_values.specs.declared.tables.Place.TheVariants as place
 use Rattle.svc_values.specs.meaning.Tables.{rows_at}
-use Rattle.table_store.specs.Held.{same_keyed}
-use Rattle.table_store.specs.Rows.{Keyed, plain_rows, row_if_any}
+use Rattle.table_store.specs.Rows.{Keyed, plain_rows, row_if_any, same_keyed}
 use Rattle.table_txn.specs.declared.found.Found.{Found}
 use Rattle.table_txn.specs.declared.found.Found.TheVariants as found
 use Rattle.table_txn.specs.declared.found.Committed.{Committed}

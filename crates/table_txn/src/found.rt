@@ -1,7 +1,7 @@
 //! What is committed at a place, and what is kept of it.
 ghost use Rattle.std.specs.Prelude.{◌≡◌, IfOk};
 ghost use Rattle.std.specs.Option.{option_copied};
-ghost use Rattle.table_store.specs.Held.{same_keyed};
+ghost use Rattle.table_store.specs.Rows.{same_keyed};
 ghost use Rattle.table_txn.specs.Found.{IsFoundAt, kept, keyed_or_none, same_optional, same_found};
 
 use std::alloc::Global;
@@ -50,7 +50,7 @@ fn is_same_table(found: &RowMap, committed: Option<&RowMap>) -> bool
     ensures { result ≡ same_keyed found.now (keyed_or_none (option_copied committed.entry)) }
 {
     match committed {
-        None => found.len() == 0,
+        None => found.is_empty(),
         Some(rows) => found.is_same(rows),
     }
 }

@@ -3,8 +3,8 @@
 ghost use Rattle.std.specs.Prelude.{◌≡◌, IfOk, IsTrue, Some, None, fold, length, pos, option_to_list, option_and_then};
 ghost use Rattle.std.specs.Map.{values_of};
 ghost use Rattle.std.specs.Option.{option_copied};
-ghost use Rattle.std.specs.Range.Bound.{bound_map, IsForward};
-ghost use Rattle.std.specs.BTreeMap.Range.{entries_between, IsLeBy, IsLtBy};
+ghost use Rattle.std.specs.Range.Bound.{bound_map};
+ghost use Rattle.std.specs.BTreeMap.Range.{entries_between};
 ghost use Rattle.svc_values.specs.meaning.Order.{value_cmp};
 ghost use Rattle.svc_values.specs.declared.value.Value.{Value as Key};
 ghost use Rattle.stmt_meaning.specs.InnerScans.{next_scan, last_answer};
@@ -22,11 +22,10 @@ use crate::latest::Keys;
 use crate::own::OwnWrites;
 use crate::selecting::{Sought, select_committed, select_over};
 use std::alloc::Global;
-use std::collections::BTreeMap;
 use std::ops::Bound;
 use stmt_meaning::{Scan, TableWork};
 use svc_values::{Answer, Name, NoMemory, Row, Value, Write};
-use table_store::{Form, RowMap, Tables, part_between};
+use table_store::{RowMap, Tables};
 
 /// Shows a scan rows, up to one that settles it.
 fn show_rows(alloc: Global, mut scan: Scan, rows: &[Row]) -> Result<Scan, NoMemory>
@@ -41,40 +40,15 @@ fn show_rows(alloc: Global, mut scan: Scan, rows: &[Row]) -> Result<Scan, NoMemo
     Ok(scan)
 }
 
-/// Shows a scan the rows of a map between two keys, up to one that settles it.
-fn show_mapped(
-    alloc: Global,
-    mut scan: Scan,
-    rows: &BTreeMap<Value, Row>,
-    from: Bound<&Value>,
-    to: Bound<&Value>,
-) -> Result<Scan, NoMemory>
-    requires { IsForward (IsLeBy value_cmp) (IsLtBy value_cmp) (bound_map (λ x. x.now) from)
-        (bound_map (λ x. x.now) to) }
-    ensures { IfOk result (λ after. AnswersAs after scan
-        (values_of (entries_between value_cmp (bound_map (λ x. x.now) from.entry)
-        (bound_map (λ x. x.now) to.entry) rows.now.entries))) }
-{
-    for (_, row) in rows.range((from, to)) {
-        if scan.is_settled() {
-            return Ok(scan);
-        }
-        scan = scan.after(alloc, row)?;
-    }
-    Ok(scan)
-}
-
 /// Shows a scan the committed rows between two keys, up to one that settles it. It takes the
 /// logarithm of the rows to find the first.
 fn show_between(
     alloc: Global,
-    scan: Scan,
+    mut scan: Scan,
     rows: Option<&RowMap>,
     from: Bound<&Value>,
     to: Bound<&Value>,
 ) -> Result<Scan, NoMemory>
-    requires { IsForward (IsLeBy value_cmp) (IsLtBy value_cmp) (bound_map (λ x. x.now) from)
-        (bound_map (λ x. x.now) to) }
     ensures { IfOk result (λ after. AnswersAs after scan
         (values_of (entries_between value_cmp (bound_map (λ x. x.now) from.entry)
         (bound_map (λ x. x.now) to.entry) (keyed_or_none (option_copied rows.entry))))) }
@@ -82,10 +56,13 @@ fn show_between(
     let Some(rows) = rows else {
         return Ok(scan);
     };
-    match rows.form() {
-        Form::Sorted(rows) => show_rows(alloc, scan, part_between(rows, from, to)),
-        Form::Mapped(rows) => show_mapped(alloc, scan, rows, from, to),
+    for block in rows.between(from, to) {
+        if scan.is_settled() {
+            return Ok(scan);
+        }
+        scan = show_rows(alloc, scan, block.between(from, to))?;
     }
+    Ok(scan)
 }
 
 /// Shows a scan the row of a write, if there is one and it has one.
@@ -156,12 +133,13 @@ fn show_committed(
 }
 
 /// How many rows are committed in a table.
-fn counted(rows: Option<&RowMap>) -> Answer
-    ensures { result ≡ Answer.Number (pos (length (keyed_or_none (option_copied rows.entry)))) }
+fn counted(rows: Option<&RowMap>) -> Result<Answer, NoMemory>
+    ensures { IfOk result (λ answer. answer
+        ≡ Answer.Number (pos (length (keyed_or_none (option_copied rows.entry))))) }
 {
     match rows {
-        None => Answer::Number(0),
-        Some(rows) => Answer::Number(rows.len() as i64),
+        None => Ok(Answer::Number(0)),
+        Some(rows) => Ok(Answer::Number(rows.count()? as i64)),
     }
 }
 
@@ -180,7 +158,7 @@ fn committed_answer(
         (Some (place.Table table.now)))) }
 {
     match work {
-        TableWork::Count => Ok(counted(tables.row_map(table))),
+        TableWork::Count => counted(tables.row_map(table)),
         TableWork::Select {
             column,
             test,

@@ -17,10 +17,11 @@ ghost use Rattle.table_txn.specs.Selecting.{select_answer, with_own};
 use crate::latest::Keys;
 use crate::own::OwnWrites;
 use std::alloc::Global;
+use std::collections::BTreeMap;
 use svc_values::{
     Answer, Name, NoMemory, Row, Rows, StatementFault, Test, TryCopy, Value, Write, value_meets,
 };
-use table_store::{RowMap, Tables, keys_sought};
+use table_store::{Tables, keys_sought, rows_of};
 
 /// The most rows that a select answers.
 const ROW_LIMIT: usize = 32;
@@ -77,15 +78,15 @@ fn row_of(write: Option<&Write>) -> Option<&Row>
 /// Puts the row of a key's last write to those found, if it has one that is sought.
 fn put_own(
     alloc: Global,
-    found: &mut RowMap,
+    found: &mut BTreeMap<Value, Row>,
     key: &Value,
     write: Option<&Write>,
     sought: &Sought,
 ) -> Result<(), NoMemory>
-    ensures { OnOk result ((q : Key) → keyed_of found.new q
+    ensures { OnOk result ((q : Key) → keyed_of found.new.entries q
         ≡ with_own sought.now.column sought.now.test sought.now.value
         (option_and_then (λ write. write.row) (option_copied write.entry)) key.now
-        (keyed_of found.old q) q) }
+        (keyed_of found.old.entries q) q) }
 {
     let Some(row) = row_of(write) else {
         return Ok(());
@@ -93,15 +94,15 @@ fn put_own(
     if !value_meets(sought.test, &sought.value, row.get(sought.column)) {
         return Ok(());
     }
-    found.put(key.copy(alloc)?, row.copy(alloc)?)
+    found.insert(key.copy(alloc)?, row.copy(alloc)?)?;
+    Ok(())
 }
 
 /// Whether these are more rows than a select answers.
-fn is_over(found: &RowMap) -> bool
-    ensures test { result ≡ nat_lt 32 (length found.now) }
-    ensures rising { KeysRise found.now }
+fn is_over(found: &BTreeMap<Value, Row>) -> bool
+    ensures test { result ≡ nat_lt 32 (length found.now.entries) }
+    ensures rising { KeysRise found.now.entries }
 {
-    let _ = found.form();
     found.len() > ROW_LIMIT
 }
 
@@ -137,5 +138,5 @@ pub(crate) fn select_over(
     if is_over(&found) {
         return answer_of(alloc, None);
     }
-    answer_of(alloc, Some(found.into_rows()?))
+    answer_of(alloc, Some(rows_of(alloc, found)?))
 }

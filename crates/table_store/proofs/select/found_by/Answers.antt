@@ -10,7 +10,7 @@ range-pair-items-requires c = rw (c.in_ok-ends.ensures, pair_cmp_is) (forward c.
 pub loop-pair-init : goal.loop-pair-init
 loop-pair-init c =
     let walk = rw (pair_cmp_is, c.in_ok-ends.ensures) at (c.range-pair-items.ensures.between tt) in
-    walk_begins c.args.rows.now c.args.but.now c.args.index.now.column c.args.test c.args.value.now c.args.index.now c.into_iter-pair-iterator.result c.form.ensures.rising c.requires refl (c.into_iter-pair-iterator.ensures.into_iter_gives ∙ walk)
+    walk_begins c.args.rows.now c.args.but.now c.args.index.now.column c.args.test c.args.value.now c.args.index.now c.into_iter-pair-iterator.result c.blocks-2.ensures.rising c.requires refl (c.into_iter-pair-iterator.ensures.into_iter_gives ∙ walk)
     c.new-found.result.entries c.new-found.ensures.empty
 
 pub returns-then-len-gt-ROW_LIMIT : goal.returns-then-len-gt-ROW_LIMIT

@@ -1,7 +1,7 @@
 use Rattle.std.proofs.Common.{rules, List}
 use Rattle.std.proofs.lemmas.List.Sorted.{IsPartitionPoint-from_clause}
 use Rattle.svc_values.specs.declared.value.Value.{Value}
-use Rattle.table_store.specs.Held.{is_up_to}
+use Rattle.table_store.specs.Blocks.{is_up_to}
 use Rattle.table_store.proofs.Rising.{up_to_parts}
 use Rattle.table_store.proofs.sorted_rows.count_up_to.Goals as goal
 

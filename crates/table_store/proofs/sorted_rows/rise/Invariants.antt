@@ -2,7 +2,7 @@ use Rattle.std.proofs.Common.{◌≡◌, drop}
 use Rattle.std.specs.Prelude.{None}
 use Rattle.std.specs.Option.{option_copied, option_map}
 use Rattle.svc_values.specs.meaning.Schemas.{key_of}
-use Rattle.table_store.specs.Held.{rise_behind}
+use Rattle.table_store.specs.Blocks.{rise_behind}
 use Rattle.table_store.proofs.sorted_rows.rise.Given as goal
 
 abbrev pub invariant-loop-row : goal.invariant-loop-row

@@ -1,6 +1,6 @@
 use Rattle.std.proofs.Common.{sym, ap, ◌∙◌}
 use Rattle.std.specs.Option.{option_copied}
-use Rattle.table_store.specs.Held.{same_keyed}
+use Rattle.table_store.specs.Rows.{same_keyed}
 use Rattle.table_txn.specs.Found.{keyed_or_none}
 use Rattle.table_txn.proofs.found.is_same_table.Goals as goal
 

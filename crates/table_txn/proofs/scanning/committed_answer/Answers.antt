@@ -14,7 +14,9 @@ use Rattle.table_txn.proofs.scanning.committed_answer.Goals as goal
 pub returns-in-Count : goal.returns-in-Count
 returns-in-Count c =
     let rows = seen_at (with_writes c.args.tables.now.rows c.args.own.now) (Some (place.Table c.args.table.now)) in
-    c.counted.ensures ∙ counted_is c.args.tables.now.rows c.args.own.now c.args.table.now (option_copied c.row_map.result) c.row_map.ensures.rows c.requires ∙ sym (ap (λ w. table_answer w rows) c.in-Count.is)
+    IfOk-weaker c.counted.result _ _
+    (λ answer told. told ∙ counted_is c.args.tables.now.rows c.args.own.now c.args.table.now (option_copied c.row_map.result) c.row_map.ensures.rows c.requires ∙ sym (ap (λ w. table_answer w rows) c.in-Count.is))
+    c.counted.ensures
 
 pub returns-in_ok-show_committed-in_default : goal.returns-in_ok-show_committed-in_default
 returns-in_ok-show_committed-in_default c =

@@ -3,6 +3,3 @@ use Rattle.table_txn.proofs.scanning.counted.Goals as goal
 
 pub returns-in-None : goal.returns-in-None
 returns-in-None c = search rules
-
-pub returns-in-Some : goal.returns-in-Some
-returns-in-Some c = search rules

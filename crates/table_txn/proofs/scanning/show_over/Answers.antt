@@ -9,8 +9,7 @@ use Rattle.std.specs.List.Sorted.{IsStrictlySortedBy}
 use Rattle.std.specs.declared.ops.Bound.TheVariants.{Excluded}
 use Rattle.svc_values.specs.meaning.Order.{value_cmp}
 use Rattle.svc_values.specs.contracts.value.ValueOrd.TheImpl.{cmp-value}
-use Rattle.table_txn.proofs.Picks.{forward}
-use Rattle.table_txn.proofs.ScanSteps.{first_keys, key_from, left_next, answers_first, answers_next, answers_settled, answers_last}
+use Rattle.table_txn.proofs.ScanSteps.{first_keys, left_next, answers_first, answers_next, answers_settled, answers_last}
 use Rattle.table_txn.proofs.scanning.show_over.Goals as goal
 
 pub loop-key-init : goal.loop-key-init
@@ -20,11 +19,6 @@ loop-key-init c = record {
       (λ q. ap (lookup (is_at (value_cmp q))) c.into_iter-key-iterator.ensures.into_iter_gives.0 ∙ c.requires.keys q);
   answers = answers_first c.args.tables.now.rows c.args.own.now c.args.table.now c.args.scan;
 }
-
-pub show_between-requires : goal.show_between-requires
-show_between-requires c =
-    let lo = bound_map (λ x. x.now) c.loop-key.from in
-    forward lo c.in-Some.key.now (key_from c.args.tables.now.rows c.args.own.now c.args.table.now lo c.loop-key.key-iterator c.next.new.self c.in-Some.key.now c.in-Some.at.now c.loop-key.invariant.keys c.in-Some.ensures.steps)
 
 pub loop-key-preserved : goal.loop-key-preserved
 loop-key-preserved c =

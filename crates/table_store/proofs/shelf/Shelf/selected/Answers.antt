@@ -8,10 +8,10 @@ use Rattle.table_store.proofs.shelf.Shelf.selected.Goals as goal
 pub returns-in-None : goal.returns-in-None
 returns-in-None c =
     ap (λ found. option_map values_of (option_map (λ rows. rows.entries) found)) (sym c.in-None.is)
-    ∙ selected_of (option_map (λ rows. rows.entries) c.in_ok-found.field-0) c.new-none.result c.args.column c.args.test c.args.value.now c.args.self.now c.in_ok-found.ensures c.new-none.ensures.empty
+    ∙ selected_of (option_map (λ rows. rows.entries) c.in_ok-selected_but.field-0) c.new-none.result c.args.column c.args.test c.args.value.now c.args.self.now c.in_ok-selected_but.ensures c.new-none.ensures.empty
 
 pub returns : goal.returns
 returns c =
     ap Some c.in_ok-rows_of-in-Some.ensures
     ∙ ap (λ found. option_map values_of (option_map (λ rows. rows.entries) found)) (sym c.in-Some.is)
-    ∙ selected_of (option_map (λ rows. rows.entries) c.in_ok-found.field-0) c.new-none.result c.args.column c.args.test c.args.value.now c.args.self.now c.in_ok-found.ensures c.new-none.ensures.empty
+    ∙ selected_of (option_map (λ rows. rows.entries) c.in_ok-selected_but.field-0) c.new-none.result c.args.column c.args.test c.args.value.now c.args.self.now c.in_ok-selected_but.ensures c.new-none.ensures.empty

@@ -1,9 +1,0 @@
-use Rattle.std.proofs.Common.{◌≡◌, List, ◌++◌}
-use Rattle.std.specs.Prelude.{fold}
-use Rattle.std.specs.Map.{values_of}
-use Rattle.svc_values.specs.declared.value.Value.{Value}
-use Rattle.stmt_meaning.specs.InnerScans.{next_scan, last_answer}
-use Rattle.table_txn.proofs.scanning.show_mapped.Given as goal
-
-abbrev pub invariant-loop-row : goal.invariant-loop-row
-invariant-loop-row l = (more : List (List Value)) → last_answer (fold next_scan l.scan (values_of l.row-iterator ++ more)) ≡ last_answer (fold next_scan l.fn.scan (values_of l.initial.row-iterator ++ more))
