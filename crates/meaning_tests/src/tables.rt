@@ -96,8 +96,45 @@ fn rows_are_given_up_whether_they_are_shared_or_not(rt: HostRuntime) {
     let tables = filled(&rt, alloc);
     let rows = shared(&rt, &tables, &name(&rt, alloc, "acc"));
     gives_up_two(&rt, tables);
-    assert_eq!(rt; rows.len(), 2);
+    assert_eq!(rt; rows.count().expect(&rt, "a count"), 2);
     assert!(rt; rows.get(&Value::Int(2)).is_some());
+}
+
+/// Writes of 1,100 accounts, each in front of all before it, so that blocks of rows are divided.
+fn falling(rt: &impl Abort, alloc: Global) -> Writes {
+    let mut writes = Writes::new(alloc);
+    for n in 0..1_100 {
+        let write = write_of(rt, alloc, 1_100_i64.saturating_sub(n), Some(n));
+        writes.push(write).expect(rt, "a write");
+    }
+    writes
+}
+
+/// Deletes of all of these but the first and the last, so that whole blocks go.
+fn deleted(rt: &impl Abort, alloc: Global) -> Writes {
+    let mut writes = Writes::new(alloc);
+    for id in 2..1_100 {
+        let write = write_of(rt, alloc, id, None);
+        writes.push(write).expect(rt, "a write");
+    }
+    writes
+}
+
+#[test]
+fn rows_come_in_front_and_go_and_who_shares_them_sees_none_of_it(rt: HostRuntime) {
+    let alloc = rt.alloc();
+    let table = name(&rt, alloc, "acc");
+    let mut tables = empty(&rt, alloc);
+    apply(&rt, &mut tables, &falling(&rt, alloc));
+    let rows = shared(&rt, &tables, &table);
+    assert!(rt; has(&tables, &table, 700, 400));
+    apply(&rt, &mut tables, &deleted(&rt, alloc));
+    let found = selected(&rt, alloc, &tables, 0, Test::Ge, 2);
+    assert!(rt; are_found(&found, &[1_100]));
+    assert!(rt; tables.get(&table, &Value::Int(700)).is_none());
+    assert_eq!(rt; rows.count().expect(&rt, "a count"), 1_100);
+    assert!(rt; rows.get(&Value::Int(700)).is_some());
+    assert!(rt; !rows.is_same(&shared(&rt, &tables, &table)));
 }
 
 /// The rows that a select by the key or by the balance finds, if it answers.
